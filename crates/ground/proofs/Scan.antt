@@ -5,8 +5,12 @@ use mathlib.Core.Bool.{Bool, true, false, cond}
 use native.Mathlib.Omega.{arith}
 use native.Mathlib.Numerals.{add-one}
 use native.Mathlib.Nat.{not-suc-le-zero, le-of-suc-le-suc}
+use lib.Dec.{eqb}
+use mir.Syntax.{w32}
+use mir.Val.{Fits}
 use borrow.Author.Count.{below-more}
-use Rattle.ground.specs.Lists.{first, tally}
+use Rattle.ground.specs.Limits.{countLimit}
+use Rattle.ground.specs.Lists.{first, bit, tally}
 use Rattle.ground.proofs.Tests.{never}
 
 pub first-at : (f : ℕ → Bool) (n i : ℕ) → ((k : ℕ) → k < i → f k ≡ false) → f i ≡ true → i < n → first f n ≡ i
@@ -77,20 +81,27 @@ pub tally-start : (f : ℕ → Bool) → 0 ≡ tally f 0
 unfolding tally
 tally-start f = refl
 
-pub tally-next : (f : ℕ → Bool) (i n r : ℕ) → n ≡ tally f i → r ≡ cond (f i) 1 0 → n + r ≡ tally f (i + 1)
+pub tally-next : (f : ℕ → Bool) (i n r : ℕ) → n ≡ tally f i → r ≡ bit (f i) → n + r ≡ tally f (i + 1)
 unfolding tally
 tally-next f i n r e q = rw (e, q, add-one i)
 
-cond-most : (b : Bool) → cond b 1 0 ≤ 1
-cond-most true = omega arith
-cond-most false = omega arith
+pub bit-most : (b : Bool) → bit b ≤ 1
+bit-most true = omega arith
+bit-most false = omega arith
 
 pub tally-most : (f : ℕ → Bool) (n : ℕ) → tally f n ≤ n
 unfolding tally
 tally-most f zero = zero-le
-tally-most f (suc n) = omega (arith, tally-most f n, cond-most (f n))
+tally-most f (suc n) = omega (arith, tally-most f n, bit-most (f n))
 
-pub ruleset tallies = (tally-start, tally-next, tally-most)
+-- one more still fits, for as many as places can be
+pub tally-fits : (f : ℕ → Bool) (i n r b : ℕ) → n ≡ tally f i → r ≡ bit (f i) → i < b → b ≤ countLimit → Fits w32 (n + r)
+tally-fits f i n r b e q h l = record { fits = omega (arith, tally-most f i, bit-most (f i)) }
+
+pub tally-end : (f : ℕ → Bool) (i n b : ℕ) → n ≡ tally f i → i ≤ b → b ≤ i → eqb n 0 ≡ eqb (tally f b) 0
+tally-end f i n b e h l = let q : i ≡ b = omega arith in rw (e, q)
+
+pub ruleset tallies = (tally-start, tally-next, tally-end)
 
 -- none passes exactly where the count is 0
 pub tally-none : (f : ℕ → Bool) (n : ℕ) → Below f n → tally f n ≡ 0

@@ -8,10 +8,15 @@ unfoldable pub first : (ℕ → Bool) → ℕ → ℕ
 first f zero = zero
 first f (suc n) = cond (f zero) zero (suc (first (λ k. f (suc k)) n))
 
+-- 1 for yes, 0 for no
+abbrev pub bit : Bool → ℕ
+bit true = 1
+bit false = 0
+
 -- how many k < n have `f k`
 unfoldable pub tally : (ℕ → Bool) → ℕ → ℕ
 tally f zero = 0
-tally f (suc n) = tally f n + cond (f n) 1 0
+tally f (suc n) = tally f n + bit (f n)
 
 -- the largest of 0, f 0, .., f (n - 1)
 unfoldable pub most : ℕ → (ℕ → ℕ) → ℕ

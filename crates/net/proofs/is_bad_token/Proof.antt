@@ -1,0 +1,13 @@
+use Rattle.ground.proofs.Tests.{tests}
+use borrow.Author.Needs.{needs}
+use Rattle.net.proofs.is_bad_token.Statement.{statement}
+use Rattle.net.proofs.is_bad_token.Tie as tie
+
+returns : tie.Need-returns
+returns c = search (tests, needs)
+
+returns-2 : tie.Need-returns-2
+returns-2 c = search (tests, needs)
+
+pub is-bad-token-spec : {M : Type 1} → statement M
+is-bad-token-spec = tie.close (tie.spec returns returns-2)

@@ -1,0 +1,52 @@
+-- Firing as published: 001's relation m[t> m′ with its capacity rule, and the words and markings that follow from it.
+-- No node need have an arc: 003 permits isolated places and transitions, and 01 follows it.
+use Prim.Native.Nat.{ℕ, _≤_, _<_}
+use mathlib.Core.Path.{_≡_}
+use mathlib.Core.List.{List, [], _∷_}
+use lib.ListN.{length}
+use lib.IntN.{ℤ, pos, _+ℤ_}
+use lib.Signed.{_≤ℤ_}
+use Rattle.net.specs.Net.{Net, Pre, Change, capacity, Capped, tokens}
+
+-- "m(p) + Change(p,t)"
+abbrev pub result : Net → List ℕ → ℕ → ℕ → ℤ
+result net m t p = pos (tokens m p) +ℤ Change net p t
+
+-- one place: "Pre(p,t) <= m(p)"
+abbrev pub Covers : Net → List ℕ → ℕ → ℕ → Type 0
+Covers net m t p = Pre net p t ≤ tokens m p
+
+-- one place: "m(p) + Change(p,t) <= capacity where there is one. .. This capacity rule is 001's."
+abbrev pub Keeps : Net → List ℕ → ℕ → ℕ → Type 0
+Keeps net m t p = Capped net p → result net m t p ≤ℤ pos (capacity net p)
+
+-- "Transition t is enabled at m if at every place" both hold.
+pub record Enabled (net : Net) (m : List ℕ) (t : ℕ) : Type 0 where
+  pub covers : (p : ℕ) → p < net .places → Covers net m t p
+  pub keeps : (p : ℕ) → p < net .places → Keeps net m t p
+
+-- "Firing gives m(p) + Change(p,t)." m′ is that marking.
+pub record Gives (net : Net) (m : List ℕ) (t : ℕ) (m′ : List ℕ) : Type 0 where
+  pub long : length m′ ≡ net .places
+  pub at : (p : ℕ) → p < net .places → pos (tokens m′ p) ≡ result net m t p
+
+-- m[t> m′: the transition t is enabled at m, and firing it gives m′
+pub record Firing (net : Net) (m : List ℕ) (t : ℕ) (m′ : List ℕ) : Type 0 where
+  pub named : t < net .transitions
+  pub enabled : Enabled net m t
+  pub gives : Gives net m t m′
+
+-- "A word fires letter by letter. The empty word fires and changes nothing." The word fires from the first marking to the last.
+pub data Fires (net : Net) : List ℕ → List ℕ → List ℕ → Type 0 where
+  nothing : {m : List ℕ} → Fires net m [] m
+  letter : {m m′ m″ : List ℕ} {t : ℕ} {w : List ℕ} → Firing net m t m′ → Fires net m′ w m″ → Fires net m (t ∷ w) m″
+
+-- m′ "is reachable from m": some word fires from m to m′ (001, "Reachability")
+pub record Reachable (net : Net) (m m′ : List ℕ) : Type 0 where
+  pub word : List ℕ
+  pub fires : Fires net m word m′
+
+-- a marking within capacities
+pub record Within (net : Net) (m : List ℕ) : Type 0 where
+  pub long : length m ≡ net .places
+  pub at : (p : ℕ) → p < net .places → Capped net p → tokens m p ≤ capacity net p

@@ -1,0 +1,67 @@
+-- What is lent, and the refusals that every entry shares: 1, 2 and 3 of document 01's table, "in number order".
+use Prim.Native.Nat.{ℕ, _*_, _≤_}
+use mathlib.Core.Path.{_≡_}
+use mathlib.Core.Bool.{Bool, true, false, not, _&&_, _||_}
+use mathlib.Core.List.{List}
+use lib.ListN.{length, getD}
+use lib.Dec.{ltb, eqb}
+use Rattle.ground.specs.Limits.{countLimit, tokenLimit}
+use Rattle.ground.specs.Lists.{first}
+use Rattle.net.specs.Net.{Net}
+use Rattle.net.specs.declared.Fault.{Fault}
+use Rattle.net.specs.declared.Fault.the-variants.{Sound, Faulty}
+
+-- refusal n with its position, "given exactly when" its test holds
+abbrev pub refuse : Bool → ℕ → ℕ → Fault
+refuse true n at = Faulty n at
+refuse false n at = Sound
+
+-- "Checks run in number order": the first fault, else the second
+abbrev pub orElse : Fault → Fault → Fault
+orElse (Faulty n at) next = Faulty n at
+orElse Sound next = next
+
+-- 1: "a place or transition count outside 1..64"
+abbrev pub outside : ℕ → Bool
+outside n = ltb n 1 || ltb countLimit n
+
+-- 2: "a lent list's or room's length disagrees with the counts"
+abbrev pub unlike : ℕ → ℕ → Bool
+unlike a b = not (eqb a b)
+
+abbrev pub misfit : Net → Bool
+misfit net =
+    unlike (length (net .pre)) (net .transitions * net .places)
+    || (unlike (length (net .post)) (net .transitions * net .places)
+    || unlike (length (net .caps)) (net .places))
+
+-- 3: "65,535 tokens where not allowed, or tokens above capacity"; position the place
+abbrev pub tokenBad : ℕ → ℕ → Bool
+tokenBad cap tokens = ltb tokenLimit tokens || ltb cap tokens
+
+abbrev pub badToken : List ℕ → List ℕ → ℕ
+badToken caps m = first (λ p. tokenBad (getD caps p 0) (getD m p 0)) (length m)
+
+-- refusals 1 and 2 for a net; `fits` tells whether the lengths of all else that is lent agree with the counts
+unfoldable pub netFault : Net → Bool → Fault
+netFault net fits =
+    orElse (refuse (outside (net .places) || outside (net .transitions)) 1 0) (refuse (misfit net || not fits) 2 0)
+
+-- refusal 3 for a marking
+unfoldable pub markingFault : List ℕ → List ℕ → Fault
+markingFault caps m = refuse (ltb (badToken caps m) (length m)) 3 (badToken caps m)
+
+-- refusals 1, 2 and 3 for a net and its initial marking
+unfoldable pub firstFault : Net → List ℕ → Bool → Fault
+firstFault net initial fits =
+    orElse (netFault net (eqb (length initial) (net .places) && fits)) (markingFault (net .caps) initial)
+
+-- the counts are in range, and the net's lists have the lengths that they say
+pub record Sized (net : Net) : Type 0 where
+  pub some-places : 1 ≤ net .places
+  pub few-places : net .places ≤ countLimit
+  pub some-transitions : 1 ≤ net .transitions
+  pub few-transitions : net .transitions ≤ countLimit
+  pub pres : length (net .pre) ≡ net .transitions * net .places
+  pub posts : length (net .post) ≡ net .transitions * net .places
+  pub capped : length (net .caps) ≡ net .places

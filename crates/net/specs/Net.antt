@@ -1,0 +1,40 @@
+-- A net as lent, and its parts by document 01's names ("Nets and firing"; 001, "Elementary System Nets" and its capacities).
+use Prim.Native.Nat.{ℕ, _+_, _*_, _<_}
+use mathlib.Core.List.{List}
+use lib.ListN.{getD}
+use lib.IntN.{ℤ, pos, _-ℤ_}
+use Rattle.ground.specs.Limits.{noCapacity}
+
+-- the counts P and T; Pre and Post flat, transition by transition; a capacity for each place
+pub record Net : Type 0 where
+  pub places : ℕ
+  pub transitions : ℕ
+  pub pre : List ℕ
+  pub post : List ℕ
+  pub caps : List ℕ
+
+abbrev pub netOf : ℕ → ℕ → List ℕ → List ℕ → List ℕ → Net
+netOf P T pre post caps = record { places = P; transitions = T; pre = pre; post = post; caps = caps }
+
+-- "Pre(p,t), what t takes from p"
+abbrev pub Pre : Net → ℕ → ℕ → ℕ
+Pre net p t = getD (net .pre) (t * net .places + p) 0
+
+-- "Post(p,t), what it puts there"
+abbrev pub Post : Net → ℕ → ℕ → ℕ
+Post net p t = getD (net .post) (t * net .places + p) 0
+
+-- "Change(p,t) = Post - Pre."
+abbrev pub Change : Net → ℕ → ℕ → ℤ
+Change net p t = pos (Post net p t) -ℤ pos (Pre net p t)
+
+abbrev pub capacity : Net → ℕ → ℕ
+capacity net p = getD (net .caps) p 0
+
+-- the place has a capacity: "0 to 65,534; 65,535 means none"
+abbrev pub Capped : Net → ℕ → Type 0
+Capped net p = capacity net p < noCapacity
+
+-- m(p), for a marking m: a number for each place
+abbrev pub tokens : List ℕ → ℕ → ℕ
+tokens m p = getD m p 0

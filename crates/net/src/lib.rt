@@ -1,0 +1,291 @@
+// Inner: the net as lent, one letter judged and fired, and the refusals that every entry shares.
+// A net is its counts, Pre and Post (flat, transition by transition) and the capacities, in this
+// order everywhere.
+use ground::COUNT_LIMIT;
+use ground::NO_CAPACITY;
+use ground::TOKEN_LIMIT;
+ghost use mathlib.Core.Path.{_≡_};
+ghost use mathlib.Core.Bool.{_||_};
+ghost use Prim.Native.Nat.{_+_, _-_, _<_, _≤_};
+ghost use lib.ListN.{length};
+ghost use Rattle.ground.specs.Limits.{countLimit, replayLimit};
+ghost use Rattle.ground.specs.Lists.{bit};
+ghost use Rattle.net.specs.Net.{netOf};
+ghost use Rattle.net.specs.Letter.{shortAt, overAt, arcsOf, arcsAt, lowestShort, lowestOver, cause, passes, fired, Small, Enough, Rows, Played};
+ghost use Rattle.net.specs.Given.{outside, misfit, tokenBad, badToken, netFault, markingFault, firstFault, Sized};
+
+// Why a letter is not enabled: short of tokens, or over capacity, at a place.
+pub enum Cause {
+    Short(usize),
+    Over(usize),
+}
+
+// What becomes of one letter.
+pub enum Letter {
+    Passes,
+    Stops(Cause),
+}
+
+// Whether what was lent can be used, else a refusal's number and position.
+pub enum Fault {
+    Sound,
+    Faulty(u8, usize),
+}
+
+// One place has fewer tokens than are taken.
+fn is_short(takes: u8, tokens: u32) -> bool
+    ensures { λ r. ⌜ r ≡ shortAt takes tokens ⌝ }
+{
+    tokens < takes as u32
+}
+
+// One place has a capacity and would hold more. Both sides have what is taken added, so that
+// nothing is subtracted.
+fn is_over(takes: u8, puts: u8, cap: u16, tokens: u32) -> bool
+    requires { ⌜ tokens ≤ replayLimit ⌝ }
+    ensures { λ r. ⌜ r ≡ overAt takes puts cap tokens ⌝ }
+{
+    if cap < NO_CAPACITY {
+        return cap as u32 + (takes as u32) < tokens + puts as u32;
+    }
+    false
+}
+
+// 1 where one place stops a letter, else 0: a number, so that a pass over the places only adds.
+fn stops_at(takes: u8, puts: u8, cap: u16, tokens: u32) -> u32
+    requires { ⌜ tokens ≤ replayLimit ⌝ }
+    ensures { λ r. ⌜ r ≡ bit (shortAt takes tokens || overAt takes puts cap tokens) ⌝ }
+{
+    if is_short(takes, tokens) {
+        return 1;
+    }
+    if is_over(takes, puts, cap, tokens) {
+        1
+    } else {
+        0
+    }
+}
+
+// One place after the letter.
+fn moved(takes: u8, puts: u8, tokens: u32) -> u32
+    requires { ⌜ takes ≤ tokens ⌝ }
+    requires { ⌜ tokens ≤ replayLimit ⌝ }
+    ensures { λ r. ⌜ r ≡ tokens + puts - takes ⌝ }
+{
+    tokens + puts as u32 - takes as u32
+}
+
+// Whether a letter passes: one plain pass over the places, with no way out on the way.
+pub fn may_fire(takes: &[u8], puts: &[u8], caps: &[u16], marking: &[u32]) -> bool
+    requires { ⌜ Rows (arcsOf (now takes) (now puts) (now caps)) (now marking) ⌝ }
+    ensures { λ r. ⌜ r ≡ passes (arcsOf (now (takes .entry)) (now (puts .entry)) (now (caps .entry))) (now (marking .entry)) ⌝ }
+{
+    let mut stopped: u32 = 0;
+    let mut p = 0;
+    while p < marking.len() {
+        stopped += stops_at(takes[p], puts[p], caps[p], marking[p]);
+        p += 1;
+    }
+    stopped == 0
+}
+
+// The lowest place that is short, or the number of places.
+fn lowest_short(takes: &[u8], marking: &[u32]) -> usize
+    requires { ⌜ length (now takes) ≡ length (now marking) ⌝ }
+    ensures { λ r. ⌜ r ≡ lowestShort (now (takes .entry)) (now (marking .entry)) ⌝ }
+{
+    let mut p = 0;
+    while p < marking.len() {
+        if is_short(takes[p], marking[p]) {
+            return p;
+        }
+        p += 1;
+    }
+    p
+}
+
+// The lowest place that is over, or the number of places.
+fn lowest_over(takes: &[u8], puts: &[u8], caps: &[u16], marking: &[u32]) -> usize
+    requires { ⌜ Rows (arcsOf (now takes) (now puts) (now caps)) (now marking) ⌝ }
+    ensures { λ r. ⌜ r ≡ lowestOver (arcsOf (now (takes .entry)) (now (puts .entry)) (now (caps .entry))) (now (marking .entry)) ⌝ }
+{
+    let mut p = 0;
+    while p < marking.len() {
+        if is_over(takes[p], puts[p], caps[p], marking[p]) {
+            return p;
+        }
+        p += 1;
+    }
+    p
+}
+
+// Why a letter is stopped: the lowest short place, else the lowest place over.
+pub fn why_stopped(takes: &[u8], puts: &[u8], caps: &[u16], marking: &[u32]) -> Cause
+    requires { ⌜ Rows (arcsOf (now takes) (now puts) (now caps)) (now marking) ⌝ }
+    ensures { λ r. ⌜ r ≡ cause (arcsOf (now (takes .entry)) (now (puts .entry)) (now (caps .entry))) (now (marking .entry)) ⌝ }
+{
+    let s = lowest_short(takes, marking);
+    if s < marking.len() {
+        return Cause::Short(s);
+    }
+    let o = lowest_over(takes, puts, caps, marking);
+    Cause::Over(o)
+}
+
+// Fires a letter in place.
+fn fire(takes: &[u8], puts: &[u8], marking: &mut [u32])
+    requires { ⌜ length (now takes) ≡ length (now marking) ⌝ }
+    requires { ⌜ length (now puts) ≡ length (now marking) ⌝ }
+    requires { ⌜ Small replayLimit (now marking) ⌝ }
+    requires { ⌜ Enough (now takes) (now marking) ⌝ }
+    ensures { λ r. ⌜ now (marking .exit) ≡ fired (now (takes .entry)) (now (puts .entry)) (now (marking .entry)) ⌝ }
+{
+    let mut p = 0;
+    while p < marking.len() {
+        marking[p] = moved(takes[p], puts[p], marking[p]);
+        p += 1;
+    }
+}
+
+// One letter by its rows: fires it in place, or says why not and leaves the marking.
+pub fn play_rows(takes: &[u8], puts: &[u8], caps: &[u16], marking: &mut [u32]) -> Letter
+    requires { ⌜ Rows (arcsOf (now takes) (now puts) (now caps)) (now marking) ⌝ }
+    ensures { λ r. ⌜ Played (arcsOf (now (takes .entry)) (now (puts .entry)) (now (caps .entry))) (now (marking .entry)) r (now (marking .exit)) ⌝ }
+{
+    if may_fire(takes, puts, caps, marking) {
+        fire(takes, puts, marking);
+        return Letter::Passes;
+    }
+    let why = why_stopped(takes, puts, caps, marking);
+    Letter::Stops(why)
+}
+
+// One letter by its number.
+pub fn play_letter(
+    places: usize,
+    transitions: usize,
+    pre: &[u8],
+    post: &[u8],
+    caps: &[u16],
+    t: u8,
+    marking: &mut [u32],
+) -> Letter
+    requires { ⌜ Sized (netOf places transitions (now pre) (now post) (now caps)) ⌝ }
+    requires { ⌜ length (now marking) ≡ places ⌝ }
+    requires { ⌜ Small replayLimit (now marking) ⌝ }
+    requires { ⌜ t < transitions ⌝ }
+    ensures { λ r. ⌜ Played (arcsAt (netOf places transitions (now (pre .entry)) (now (post .entry)) (now (caps .entry))) t) (now (marking .entry)) r (now (marking .exit)) ⌝ }
+{
+    let a = t as usize * places;
+    let e = a + places;
+    play_rows(&pre[a..e], &post[a..e], caps, marking)
+}
+
+fn is_outside(count: usize) -> bool
+    ensures { λ r. ⌜ r ≡ outside count ⌝ }
+{
+    if count < 1 {
+        return true;
+    }
+    COUNT_LIMIT < count
+}
+
+fn is_misfit(places: usize, transitions: usize, pre: &[u8], post: &[u8], caps: &[u16]) -> bool
+    requires { ⌜ (places ≤ countLimit) × (transitions ≤ countLimit) ⌝ }
+    ensures { λ r. ⌜ r ≡ misfit (netOf places transitions (now (pre .entry)) (now (post .entry)) (now (caps .entry))) ⌝ }
+{
+    let cells = transitions * places;
+    if pre.len() != cells {
+        return true;
+    }
+    if post.len() != cells {
+        return true;
+    }
+    caps.len() != places
+}
+
+fn is_bad_token(cap: u16, tokens: u16) -> bool
+    ensures { λ r. ⌜ r ≡ tokenBad cap tokens ⌝ }
+{
+    if TOKEN_LIMIT < tokens {
+        return true;
+    }
+    cap < tokens
+}
+
+fn bad_token(caps: &[u16], marking: &[u16]) -> usize
+    requires { ⌜ length (now caps) ≡ length (now marking) ⌝ }
+    ensures { λ r. ⌜ r ≡ badToken (now (caps .entry)) (now (marking .entry)) ⌝ }
+{
+    let mut p = 0;
+    while p < marking.len() {
+        if is_bad_token(caps[p], marking[p]) {
+            return p;
+        }
+        p += 1;
+    }
+    p
+}
+
+// Refusals 1 and 2 for a net. `fits` tells whether the lengths of all else that an entry is lent
+// agree with the counts, which is refusal 2 too.
+pub fn net_fault(
+    places: usize,
+    transitions: usize,
+    pre: &[u8],
+    post: &[u8],
+    caps: &[u16],
+    fits: bool,
+) -> Fault
+    ensures { λ r. ⌜ r ≡ netFault (netOf places transitions (now (pre .entry)) (now (post .entry)) (now (caps .entry))) fits ⌝ }
+{
+    if is_outside(places) {
+        return Fault::Faulty(1, 0);
+    }
+    if is_outside(transitions) {
+        return Fault::Faulty(1, 0);
+    }
+    if is_misfit(places, transitions, pre, post, caps) {
+        return Fault::Faulty(2, 0);
+    }
+    if fits {
+        Fault::Sound
+    } else {
+        Fault::Faulty(2, 0)
+    }
+}
+
+// Refusal 3 for a marking.
+pub fn marking_fault(caps: &[u16], marking: &[u16]) -> Fault
+    requires { ⌜ length (now caps) ≡ length (now marking) ⌝ }
+    ensures { λ r. ⌜ r ≡ markingFault (now (caps .entry)) (now (marking .entry)) ⌝ }
+{
+    let p = bad_token(caps, marking);
+    if p < marking.len() {
+        Fault::Faulty(3, p)
+    } else {
+        Fault::Sound
+    }
+}
+
+// Refusals 1, 2 and 3 for a net and its initial marking, as every entry that is lent both gives them.
+pub fn first_fault(
+    places: usize,
+    transitions: usize,
+    pre: &[u8],
+    post: &[u8],
+    caps: &[u16],
+    initial: &[u16],
+    fits: bool,
+) -> Fault
+    ensures { λ r. ⌜ r ≡ firstFault (netOf places transitions (now (pre .entry)) (now (post .entry)) (now (caps .entry))) (now (initial .entry)) fits ⌝ }
+{
+    if initial.len() != places {
+        return net_fault(places, transitions, pre, post, caps, false);
+    }
+    let found = net_fault(places, transitions, pre, post, caps, fits);
+    match found {
+        Fault::Faulty(number, at) => Fault::Faulty(number, at),
+        Fault::Sound => marking_fault(caps, initial),
+    }
+}
