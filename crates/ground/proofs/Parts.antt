@@ -5,8 +5,9 @@ use mathlib.Core.Logic.{_⊎_, inl, inr, _↔_}
 use Prim.Native.Nat.{ℕ, zero, suc, _+_, _-_, _*_, _≤_, _<_}
 use native.Mathlib.Omega.{arith}
 use lib.IntN.{ℤ, pos, negsuc, negℤ, subℕ, _+ℤ_, _-ℤ_, _*ℤ_}
-use lib.Signed.{_≤ℤ_}
-use lib.Dec.{T, ltb, leb→le, le→leb, ltb→lt, nltb→le}
+use lib.Signed.{_≤ℤ_, _<ℤ_}
+use native.Mathlib.Nat.{not-suc-le-zero}
+use lib.Dec.{T, ltb, leb→le, le→leb, ltb→lt, lt→ltb, nltb→le}
 use Rattle.ground.specs.Parts.{up, dn}
 
 -- of two parts one is 0
@@ -145,3 +146,37 @@ dn-mul (pos a) (pos b) = omega arith
 dn-mul (pos a) (negsuc b) = omega (arith, dn-neg (a * suc b))
 dn-mul (negsuc a) (pos b) = omega (arith, dn-neg (suc a * b))
 dn-mul (negsuc a) (negsuc b) = omega arith
+
+pub pos-lt : (z : ℤ) (n : ℕ) → pos n <ℤ z ↔ n < up z
+pos-lt (pos m) n = (λ h. ltb→lt n m (h .lt), λ h. record { lt = lt→ltb n m h })
+pos-lt (negsuc m) n = (λ h. absurd (h .lt), λ h. absurd (not-suc-le-zero h))
+
+-- a + q - p in ℤ, by its parts
+up-moved : (a q p : ℕ) → up (pos a +ℤ (pos q -ℤ pos p)) ≡ (a + (q - p)) - (p - q)
+up-moved a q p = ap (λ (z : ℤ). up (pos a +ℤ z)) (minus-is q p) ∙ up-sum (pos a) (subℕ q p) ∙ omega (arith, up-sub q p, dn-sub q p)
+
+dn-moved : (a q p : ℕ) → dn (pos a +ℤ (pos q -ℤ pos p)) ≡ (p - q) - (a + (q - p))
+dn-moved a q p = ap (λ (z : ℤ). dn (pos a +ℤ z)) (minus-is q p) ∙ dn-sum (pos a) (subℕ q p) ∙ omega (arith, up-sub q p, dn-sub q p)
+
+-- a + q - p against a number, with nothing subtracted
+pub moved-le : (a q p c : ℕ) → (pos a +ℤ (pos q -ℤ pos p)) ≤ℤ pos c ↔ a + q ≤ c + p
+moved-le a q p c =
+    let u = up-moved a q p in (
+      λ h. let l = le-pos (pos a +ℤ (pos q -ℤ pos p)) c .0 h in omega arith,
+      λ h. le-pos (pos a +ℤ (pos q -ℤ pos p)) c .1 (omega arith),
+    )
+
+pub moved-lt : (a q p c : ℕ) → pos c <ℤ (pos a +ℤ (pos q -ℤ pos p)) ↔ c + p < a + q
+moved-lt a q p c =
+    let u = up-moved a q p in (
+      λ h. let l = pos-lt (pos a +ℤ (pos q -ℤ pos p)) c .0 h in omega arith,
+      λ h. pos-lt (pos a +ℤ (pos q -ℤ pos p)) c .1 (omega arith),
+    )
+
+pub moved-is : (a q p x : ℕ) → pos x ≡ pos a +ℤ (pos q -ℤ pos p) ↔ x + p ≡ a + q
+moved-is a q p x =
+    let u = up-moved a q p in
+    let d = dn-moved a q p in (
+      λ h. omega (arith, ap up h, ap dn h),
+      λ h. parts-eq (pos x) (pos a +ℤ (pos q -ℤ pos p)) (omega arith) (omega arith),
+    )

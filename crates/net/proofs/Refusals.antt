@@ -7,17 +7,17 @@ use native.Mathlib.Omega.{arith}
 use native.Mathlib.Nat.{mul-le-mul-right}
 use native.Mathlib.Decide.{decLt}
 use lib.ListN.{length, getD, List·getD-eq-default}
-use lib.Dec.{ltb, eqb}
+use lib.Dec.{ltb, leb, eqb}
 use mir.Syntax.{w64}
 use mir.Val.{Fits}
-use borrow.Author.Tests.{lt-ltb, le-ltb, ltb-false, eq-eqb, ne-eqb, eqb-true, not-false}
-use Rattle.ground.specs.Limits.{countLimit, tokenLimit}
+use borrow.Author.Tests.{lt-ltb, le-ltb, ltb-false, lt-leb, leb-false, eq-eqb, ne-eqb, eqb-true, not-false}
+use Rattle.ground.specs.Limits.{countLimit, tokenLimit, wordLimit}
 use Rattle.ground.specs.Lists.{first}
 use Rattle.ground.proofs.Tests.{never, or-false, both-false, and-true, unlike-false, like-false}
 use Rattle.ground.proofs.Scan.{first-none, first-below}
 use Rattle.net.specs.Net.{Net}
 use Rattle.net.specs.Letter.{Small}
-use Rattle.net.specs.Given.{refuse, orElse, outside, unlike, misfit, tokenBad, badToken, netFault, markingFault, firstFault, Sized}
+use Rattle.net.specs.Given.{refuse, orElse, outside, unlike, misfit, tokenBad, badToken, netFault, markingFault, firstFault, badLetter, wordFault, Sized, Letters}
 use Rattle.net.specs.declared.Fault.{Fault}
 use Rattle.net.specs.declared.Fault.the-variants.{Sound, Faulty}
 
@@ -189,3 +189,36 @@ pub sound-first : (net : Net) (initial : List ℕ) (fits : Bool) → Sized net �
 unfolding firstFault
 sound-first net initial fits s h e f =
     sound-or _ _ (sized-is net (eqb (length initial) (net .places) && fits) s (rw (eq-eqb (length initial) (net .places) h) e)) (fine-is (net .caps) initial f)
+
+-- which refusal of a word
+module _ (n : ℕ) (w : List ℕ) where
+  pub word-long : wordLimit < length w → Faulty 4 0 ≡ wordFault n w
+  unfolding wordFault
+  word-long h = rw (lt-ltb wordLimit (length w) h)
+
+  module _ (k : ℕ) (h : length w ≤ wordLimit) (e : k ≡ badLetter n w) where
+    pub word-letter : k < length w → Faulty 5 k ≡ wordFault n w
+    unfolding wordFault
+    word-letter l = rw (le-ltb wordLimit (length w) h, ← e, lt-ltb k (length w) l)
+
+    pub word-fine : length w ≤ k → Sound ≡ wordFault n w
+    unfolding wordFault
+    word-fine l = rw (le-ltb wordLimit (length w) h, ← e, le-ltb k (length w) l)
+
+  -- nothing of 4 and 5 is refused exactly where the word is not too long and each letter names a transition
+  pub word-sound : wordFault n w ≡ Sound → (length w ≤ wordLimit) × Letters n w
+  unfolding wordFault
+  word-sound e =
+      let a = or-sound (refuse (ltb wordLimit (length w)) 4 0) (refuse (ltb (badLetter n w) (length w)) 5 (badLetter n w)) e in
+      let x = ltb-false (badLetter n w) (length w) (refuse-sound _ 5 (badLetter n w) (a .1)) in (
+        ltb-false wordLimit (length w) (refuse-sound _ 4 0 (a .0)),
+        record { at = λ k h. leb-false n (getD w k 0) (first-below (λ k. leb n (getD w k 0)) (length w) k (omega arith)) },
+      )
+
+  pub sound-word : length w ≤ wordLimit → Letters n w → wordFault n w ≡ Sound
+  unfolding wordFault
+  sound-word h l =
+      let e = first-none (λ k. leb n (getD w k 0)) (length w) (λ k b. lt-leb n (getD w k 0) (l .at k b)) in
+      sound-or _ _ (sound-refuse _ 4 0 (le-ltb wordLimit (length w) h)) (sound-refuse _ 5 (badLetter n w) (le-ltb (badLetter n w) (length w) (omega arith)))
+
+pub ruleset word-faults = (word-long, word-letter, word-fine)

@@ -3,10 +3,13 @@
 use Prim.Native.Nat.{ℕ, _≤_, _<_}
 use mathlib.Core.Path.{_≡_}
 use mathlib.Core.List.{List, [], _∷_}
-use lib.ListN.{length}
+use lib.ListN.{length, getD}
 use lib.IntN.{ℤ, pos, _+ℤ_}
-use lib.Signed.{_≤ℤ_}
+use lib.Signed.{_≤ℤ_, _<ℤ_}
+use Rattle.ground.specs.Limits.{weightLimit}
 use Rattle.net.specs.Net.{Net, Pre, Change, capacity, Capped, tokens}
+use Rattle.net.specs.declared.Cause.{Cause}
+use Rattle.net.specs.declared.Cause.the-variants.{Short, Over}
 
 -- "m(p) + Change(p,t)"
 abbrev pub result : Net → List ℕ → ℕ → ℕ → ℤ
@@ -50,3 +53,33 @@ pub record Reachable (net : Net) (m m′ : List ℕ) : Type 0 where
 pub record Within (net : Net) (m : List ℕ) : Type 0 where
   pub long : length m ≡ net .places
   pub at : (p : ℕ) → p < net .places → Capped net p → tokens m p ≤ capacity net p
+
+-- a blocked answer's causes: "short of tokens at a place, or over capacity at a place"
+abbrev pub ShortAt : Net → List ℕ → ℕ → ℕ → Type 0
+ShortAt net m t p = tokens m p < Pre net p t
+
+abbrev pub OverAt : Net → List ℕ → ℕ → ℕ → Type 0
+OverAt net m t p = Capped net p × (pos (capacity net p) <ℤ result net m t p)
+
+-- "If any place is short, the lowest short place is named"
+pub record LowestShort (net : Net) (m : List ℕ) (t p : ℕ) : Type 0 where
+  pub here : p < net .places
+  pub short : ShortAt net m t p
+  pub lowest : (q : ℕ) → q < p → Covers net m t q
+
+-- "else the lowest place over."
+pub record LowestOver (net : Net) (m : List ℕ) (t p : ℕ) : Type 0 where
+  pub here : p < net .places
+  pub covers : (q : ℕ) → q < net .places → Covers net m t q
+  pub over : OverAt net m t p
+  pub lowest : (q : ℕ) → q < p → Keeps net m t q
+
+-- what a cause says of the letter t at m
+abbrev pub Names : Net → List ℕ → ℕ → Cause → Type 0
+Names net m t (Short p) = LowestShort net m t p
+Names net m t (Over p) = LowestOver net m t p
+
+-- no weight is above the limit, as bytes never are
+pub record Light (net : Net) : Type 0 where
+  pub pre : (k : ℕ) → getD (net .pre) k 0 ≤ weightLimit
+  pub post : (k : ℕ) → getD (net .post) k 0 ≤ weightLimit

@@ -1,11 +1,11 @@
--- What is lent, and the refusals that every entry shares: 1, 2 and 3 of document 01's table, "in number order".
-use Prim.Native.Nat.{ℕ, _*_, _≤_}
+-- What is lent, and the refusals that the entries share, "in number order": 1, 2 and 3 for a net and its marking, 4 and 5 for a word.
+use Prim.Native.Nat.{ℕ, _*_, _-_, _≤_, _<_}
 use mathlib.Core.Path.{_≡_}
 use mathlib.Core.Bool.{Bool, true, false, not, _&&_, _||_}
 use mathlib.Core.List.{List}
-use lib.ListN.{length, getD}
-use lib.Dec.{ltb, eqb}
-use Rattle.ground.specs.Limits.{countLimit, tokenLimit}
+use lib.ListN.{length, getD, take, drop}
+use lib.Dec.{ltb, leb, eqb}
+use Rattle.ground.specs.Limits.{countLimit, tokenLimit, wordLimit}
 use Rattle.ground.specs.Lists.{first}
 use Rattle.net.specs.Net.{Net}
 use Rattle.net.specs.declared.Fault.{Fault}
@@ -56,6 +56,22 @@ unfoldable pub firstFault : Net → List ℕ → Bool → Fault
 firstFault net initial fits =
     orElse (netFault net (eqb (length initial) (net .places) && fits)) (markingFault (net .caps) initial)
 
+-- the letters from number a up to number b, and that they are inside the word
+abbrev pub stretch : List ℕ → ℕ → ℕ → List ℕ
+stretch w a b = take (b - a) (drop a w)
+
+-- else refusal 2: "a stretch ends before its start or past its word"
+abbrev pub inside : List ℕ → ℕ → ℕ → Bool
+inside w a b = leb a b && leb b (length w)
+
+-- 5: "a letter names no transition"; the first such letter, or the number of letters
+abbrev pub badLetter : ℕ → List ℕ → ℕ
+badLetter n w = first (λ k. leb n (getD w k 0)) (length w)
+
+-- 4: "a word over 65,535 letters"; then 5, position the letter
+unfoldable pub wordFault : ℕ → List ℕ → Fault
+wordFault n w = orElse (refuse (ltb wordLimit (length w)) 4 0) (refuse (ltb (badLetter n w) (length w)) 5 (badLetter n w))
+
 -- the counts are in range, and the net's lists have the lengths that they say
 pub record Sized (net : Net) : Type 0 where
   pub some-places : 1 ≤ net .places
@@ -65,3 +81,7 @@ pub record Sized (net : Net) : Type 0 where
   pub pres : length (net .pre) ≡ net .transitions * net .places
   pub posts : length (net .post) ≡ net .transitions * net .places
   pub capped : length (net .caps) ≡ net .places
+
+-- each letter names a transition
+pub record Letters (n : ℕ) (w : List ℕ) : Type 0 where
+  pub at : (k : ℕ) → k < length w → getD w k 0 < n

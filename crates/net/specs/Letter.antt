@@ -77,6 +77,13 @@ fired takes puts m = mapAt (after takes puts) m
 abbrev pub settled : Arcs → List ℕ → List ℕ
 settled arcs m = cond (passes arcs m) (fired (arcs .takes) (arcs .puts) m) m
 
+-- what becomes of letter t at m, and the marking after it has fired
+abbrev pub judgeAt : Net → ℕ → List ℕ → Letter
+judgeAt net t m = judge (arcsAt net t) m
+
+abbrev pub firedAt : Net → ℕ → List ℕ → List ℕ
+firedAt net t m = fired (arcsAt net t .takes) (arcsAt net t .puts) m
+
 -- no place holds more than b
 pub record Small (b : ℕ) (m : List ℕ) : Type 0 where
   pub at : (p : ℕ) → getD m p 0 ≤ b

@@ -4,15 +4,17 @@
 use ground::COUNT_LIMIT;
 use ground::NO_CAPACITY;
 use ground::TOKEN_LIMIT;
+use ground::WORD_LIMIT;
 ghost use mathlib.Core.Path.{_≡_};
 ghost use mathlib.Core.Bool.{_||_};
 ghost use Prim.Native.Nat.{_+_, _-_, _<_, _≤_};
+ghost use lib.Dec.{leb};
 ghost use lib.ListN.{length};
 ghost use Rattle.ground.specs.Limits.{countLimit, replayLimit};
 ghost use Rattle.ground.specs.Lists.{bit};
 ghost use Rattle.net.specs.Net.{netOf};
 ghost use Rattle.net.specs.Letter.{shortAt, overAt, arcsOf, arcsAt, lowestShort, lowestOver, cause, passes, fired, Small, Enough, Rows, Played};
-ghost use Rattle.net.specs.Given.{outside, misfit, tokenBad, badToken, netFault, markingFault, firstFault, Sized};
+ghost use Rattle.net.specs.Given.{outside, misfit, tokenBad, badToken, netFault, markingFault, firstFault, badLetter, wordFault, Sized};
 
 // Why a letter is not enabled: short of tokens, or over capacity, at a place.
 pub enum Cause {
@@ -287,5 +289,39 @@ pub fn first_fault(
     match found {
         Fault::Faulty(number, at) => Fault::Faulty(number, at),
         Fault::Sound => marking_fault(caps, initial),
+    }
+}
+
+fn is_bad_letter(transitions: usize, t: u8) -> bool
+    ensures { λ r. ⌜ r ≡ leb transitions t ⌝ }
+{
+    transitions <= t as usize
+}
+
+fn bad_letter(transitions: usize, word: &[u8]) -> usize
+    ensures { λ r. ⌜ r ≡ badLetter transitions (now (word .entry)) ⌝ }
+{
+    let mut k = 0;
+    while k < word.len() {
+        if is_bad_letter(transitions, word[k]) {
+            return k;
+        }
+        k += 1;
+    }
+    k
+}
+
+// Refusals 4 and 5: all letters are checked before any fires.
+pub fn word_fault(transitions: usize, word: &[u8]) -> Fault
+    ensures { λ r. ⌜ r ≡ wordFault transitions (now (word .entry)) ⌝ }
+{
+    if WORD_LIMIT < word.len() {
+        return Fault::Faulty(4, 0);
+    }
+    let k = bad_letter(transitions, word);
+    if k < word.len() {
+        Fault::Faulty(5, k)
+    } else {
+        Fault::Sound
     }
 }
