@@ -66,8 +66,8 @@ module _ (net : Net) (m : List ℕ) (t : ℕ) (long : length m ≡ net .places) 
   enabled-of e =
       let b = none-stops (arcsAt net t) m e in
       record {
-        covers = λ p h. covers-of p h (or-false _ _ (b .none p (omega arith)) .0);
-        keeps = λ p h. keeps-of p h (or-false _ _ (b .none p (omega arith)) .1);
+        covers = λ p h. covers-of p h (or-false (short (arcsAt net t .takes) m p) (over (arcsAt net t) m p) (b .none p (omega arith)) .0);
+        keeps = λ p h. keeps-of p h (or-false (short (arcsAt net t .takes) m p) (over (arcsAt net t) m p) (b .none p (omega arith)) .1);
       }
 
   pub passes-of : Enabled net m t → passes (arcsAt net t) m ≡ true

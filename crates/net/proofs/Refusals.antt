@@ -151,6 +151,14 @@ module _ (net : Net) (initial : List ℕ) (fits : Bool) where
 
 pub ruleset first-faults = (first-misfit, first-faulty, first-marking)
 
+pub unfit-all : (net : Net) (initial : List ℕ) (next : Fault) → orElse (firstFault net initial false) next ≡ firstFault net initial false
+unfolding firstFault
+unfit-all net initial next = go (eqb (length initial) (net .places))
+  where
+    go : (b : Bool) → orElse (orElse (netFault net (b && false)) (markingFault (net .caps) initial)) next ≡ orElse (netFault net (b && false)) (markingFault (net .caps) initial)
+    go true = rw (unfit-first net (markingFault (net .caps) initial)) (unfit-first net next)
+    go false = rw (unfit-first net (markingFault (net .caps) initial)) (unfit-first net next)
+
 -- what a marking that is not refused has: few tokens, and no more than the capacity
 pub record Fine (caps m : List ℕ) : Type 0 where
   pub few : Small tokenLimit m
