@@ -108,11 +108,11 @@ def counts():
     ]:
         say(case, 64, 64, pre, post, [NONE] * 63 + [cap], [20] * 63 + [tokens], word)
     say(15, 65, 1, [0] * 65, [0] * 65, [NONE] * 65, [0] * 65, [0])  # 65 places
-    say(16, 1, 65, [0] * 65, [0] * 65, [NONE], [0], [0])  # 65 transitions
-    say(17, 0, 1, [], [], [], [], [0])  # no places
-    say(18, 1, 0, [], [], [NONE], [0], [])  # no transitions
+    say(16, 1, 65, [0] * 65, [0] * 65, [4], [0], [0])  # 65 transitions
+    say(17, 0, 1, [], [], [], [], [])  # no places
+    say(18, 1, 0, [], [], [4], [0], [])  # no transitions
     say(19, HUGE, 1, [], [], [], [], [], room=0)  # as many places as can be said
-    say(20, 1, HUGE, [], [], [NONE], [0], [])  # as many transitions
+    say(20, 1, HUGE, [], [], [4], [0], [])  # as many transitions
     say(21, 2**32, 2**32, [], [], [], [], [], room=0)  # a product that 64 bits would cut to 0
 
 
@@ -177,11 +177,12 @@ def stretches():
         (83, word, 3, 2),  # reversed by one
         (84, word, 5, 8),  # past the end
         (85, word, 8, 8),  # empty past the end
-        (86, word, 9, 3),  # start past the end
+        (86, word, 9, 3),  # start past the end, and reversed
         (87, word, 0, HUGE),  # far past the end
         (88, word, HUGE, HUGE),  # empty, far past the end
         (89, word, HUGE, 0),  # reversed, as far as can be
         (90, [], 0, 1),  # past the empty word
+        (91, word, 8, 9),  # both ends past the end
     ]:
         say(case, *SAMPLE, w, (start, end))
 

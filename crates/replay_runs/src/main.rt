@@ -16,7 +16,7 @@ fn tell(n: u64) {
     io::print_decimal(STDOUT_FILENO, n);
 }
 
-// An answer that ends at a letter.
+// A letter that was not enabled, and its cause.
 fn tell_blocked(at: usize, why: Cause) {
     tell(129);
     match why {
@@ -52,6 +52,7 @@ fn tell_answer(answer: Replay) {
     }
 }
 
+// One place of the room.
 fn tell_tokens(tokens: u32) {
     tell(tokens as u64);
 }
@@ -69,7 +70,7 @@ fn tell_line(case: usize, answer: Replay, room: &[u32]) {
     io::write_all(STDOUT_FILENO, b"\n");
 }
 
-// The room before a call.
+// Fills the room before a call.
 fn mark(room: &mut [u32]) {
     let mut p = 0;
     while p < room.len() {
@@ -174,12 +175,12 @@ fn one_place(case: usize, takes: u8, puts: u8, cap: u16, tokens: u16, word: &[u8
 }
 
 // One letter on a net of three places and one transition.
-fn three_places(case: usize, pre: &[u8], post: &[u8], caps: &[u16], initial: &[u16]) {
+fn three_places(case: usize, pre: [u8; 3], post: [u8; 3], caps: [u16; 3], initial: [u16; 3]) {
     let mut room = [0u32; 3];
-    tell_word(case, 3, 1, pre, post, caps, initial, &[0], &mut room);
+    tell_word(case, 3, 1, &pre, &post, &caps, &initial, &[0], &mut room);
 }
 
-// Letter by letter the numbers of the entries: Pre is the number modulo 6, Post modulo 7.
+// Fills Pre and Post by the number of each entry: modulo 6, and modulo 7.
 fn weave(pre: &mut [u8], post: &mut [u8])
     requires { ⌜ length (now pre) ≡ length (now post) ⌝ }
 {
@@ -245,6 +246,32 @@ fn faulty(case: usize, transitions: usize, arcs: usize, tokens: u16, word: &[u8]
         &[4],
         &[tokens],
         word,
+        &mut room,
+    );
+}
+
+// A letter on a net of 65 places and one transition, with everything as long as it should be.
+fn many_places(case: usize) {
+    let arcs = [0u8; 65];
+    let caps = [65535u16; 65];
+    let initial = [0u16; 65];
+    let mut room = [0u32; 65];
+    tell_word(case, 65, 1, &arcs, &arcs, &caps, &initial, &[0], &mut room);
+}
+
+// The empty word on a net of which only the counts are told: every list and the room are empty.
+fn nothing(case: usize, places: usize, transitions: usize) {
+    let none = [0u16; 0];
+    let mut room = [0u32; 0];
+    tell_word(
+        case,
+        places,
+        transitions,
+        b"",
+        b"",
+        &none,
+        &none,
+        b"",
         &mut room,
     );
 }
@@ -315,38 +342,22 @@ fn largest() {
     most_places(14, 65535, 20, &[0, 63, 64]);
 }
 
-// Counts just outside 1 to 64, with everything else as it should be.
+// Counts outside 1 to 64. With the last ones a product of counts would not fit 64 bits.
 fn outside() {
-    let arcs = [0u8; 65];
-    let caps = [65535u16; 65];
-    let initial = [0u16; 65];
-    let mut room = [0u32; 65];
-    let none = [0u16; 0];
-    let mut narrow = [0u32; 1];
-    let mut empty = [0u32; 0];
     // 65 places
-    tell_word(15, 65, 1, &arcs, &arcs, &caps, &initial, &[0], &mut room);
+    many_places(15);
     // 65 transitions
-    tell_word(16, 1, 65, &arcs, &arcs, &[65535], &[0], &[0], &mut narrow);
+    faulty(16, 65, 65, 0, &[0]);
     // no places
-    tell_word(17, 0, 1, b"", b"", &none, &none, &[0], &mut empty);
+    nothing(17, 0, 1);
     // no transitions
-    tell_word(18, 1, 0, b"", b"", &[65535], &[0], b"", &mut narrow);
-}
-
-// Counts so large that a product of them would wrap.
-fn far_outside() {
-    let most = 18446744073709551615;
-    let wrap = 4294967296;
-    let none = [0u16; 0];
-    let mut narrow = [0u32; 1];
-    let mut empty = [0u32; 0];
+    faulty(18, 0, 0, 0, b"");
     // as many places as can be said
-    tell_word(19, most, 1, b"", b"", &none, &none, b"", &mut empty);
+    nothing(19, 18446744073709551615, 1);
     // as many transitions as can be said
-    tell_word(20, 1, most, b"", b"", &[65535], &[0], b"", &mut narrow);
+    faulty(20, 18446744073709551615, 0, 0, b"");
     // counts whose product has 0 for its last 64 bits
-    tell_word(21, wrap, wrap, b"", b"", &none, &none, b"", &mut empty);
+    nothing(21, 4294967296, 4294967296);
 }
 
 // What a capacity stops.
@@ -403,32 +414,28 @@ fn weights() {
     one_place(51, 0, 1, 65535, 0, &[1]);
 }
 
-// Which place and cause are named.
+// Which place and cause are named by a block, and which place by refusal 3.
 fn causes() {
     // short at 2, though 0 is over
-    three_places(61, &[0, 0, 1], &[1, 0, 0], &[4, 9, 9], &[4, 0, 0]);
+    three_places(61, [0, 0, 1], [1, 0, 0], [4, 9, 9], [4, 0, 0]);
     // short at 1 and 2: the lowest
-    three_places(62, &[0, 2, 2], &[0, 0, 0], &[9, 9, 9], &[5, 1, 1]);
+    three_places(62, [0, 2, 2], [0, 0, 0], [9, 9, 9], [5, 1, 1]);
     // over at 1 and 2: the lowest
-    three_places(63, &[0, 0, 0], &[0, 1, 1], &[9, 3, 3], &[0, 3, 3]);
+    three_places(63, [0, 0, 0], [0, 1, 1], [9, 3, 3], [0, 3, 3]);
     // short and over at 1
-    three_places(64, &[0, 3, 0], &[0, 9, 0], &[9, 4, 9], &[0, 2, 0]);
+    three_places(64, [0, 3, 0], [0, 9, 0], [9, 4, 9], [0, 2, 0]);
     // short at 1, over at 0 and 2
-    three_places(65, &[0, 1, 0], &[5, 0, 5], &[4, 4, 4], &[0, 0, 0]);
+    three_places(65, [0, 1, 0], [5, 0, 5], [4, 4, 4], [0, 0, 0]);
     // over at 2 alone
-    three_places(66, &[1, 1, 0], &[0, 1, 1], &[9, 9, 6], &[1, 1, 6]);
+    three_places(66, [1, 1, 0], [0, 1, 1], [9, 9, 6], [1, 1, 6]);
     // fires, each place just so
-    three_places(67, &[1, 1, 1], &[2, 0, 1], &[2, 1, 3], &[1, 1, 3]);
-}
-
-// Refusal 3 names the lowest place.
-fn lowest_bad() {
+    three_places(67, [1, 1, 1], [2, 0, 1], [2, 1, 3], [1, 1, 3]);
     // 65,535 at place 1 and above capacity at place 2: the lowest
-    three_places(68, &[0, 0, 0], &[0, 0, 0], &[9, 65535, 9], &[0, 65535, 10]);
+    three_places(68, [0, 0, 0], [0, 0, 0], [9, 65535, 9], [0, 65535, 10]);
     // above capacity at the last place
-    three_places(69, &[0, 0, 0], &[0, 0, 0], &[9, 9, 9], &[9, 9, 10]);
+    three_places(69, [0, 0, 0], [0, 0, 0], [9, 9, 9], [9, 9, 10]);
     // above capacity at the first place and the second
-    three_places(70, &[0, 0, 0], &[0, 0, 0], &[9, 0, 9], &[10, 1, 0]);
+    three_places(70, [0, 0, 0], [0, 0, 0], [9, 0, 9], [10, 1, 0]);
 }
 
 // Stretches inside a word.
@@ -470,7 +477,7 @@ fn past() {
     sample_stretch(84, &word, 5, 8);
     // empty past the end
     sample_stretch(85, &word, 8, 8);
-    // start past the end
+    // start past the end, and reversed
     sample_stretch(86, &word, 9, 3);
     // far past the end
     sample_stretch(87, &word, 0, most);
@@ -480,6 +487,8 @@ fn past() {
     sample_stretch(89, &word, most, 0);
     // past the empty word
     sample_stretch(90, b"", 0, 1);
+    // both ends past the end
+    sample_stretch(91, &word, 8, 9);
 }
 
 // Letters that name no transition.
@@ -618,12 +627,10 @@ fn main() {
     samples();
     largest();
     outside();
-    far_outside();
     capacities();
     tokens();
     weights();
     causes();
-    lowest_bad();
     inside();
     past();
     letters();
