@@ -11,10 +11,10 @@ use Rattle.ground.specs.Limits.{tokenLimit, wordLimit}
 use Rattle.ground.proofs.Tests.{never, and-true}
 use Rattle.net.specs.Net.{Net}
 use Rattle.net.specs.Letter.{Small}
-use Rattle.net.specs.Given.{orElse, firstFault, wordFault, stretch, inside, Sized, Letters}
+use Rattle.net.specs.Given.{orElse, firstFault, wordFault, stretch, inside, Sized, Fine, Letters}
 use Rattle.net.specs.declared.Fault.{Fault}
 use Rattle.net.specs.declared.Fault.the-variants.{Sound, Faulty}
-use Rattle.net.proofs.Refusals.{or-sound, sound-or, first-sound, sound-first, word-sound, sound-word, unfit-all, Fine}
+use Rattle.net.proofs.Refusals.{or-sound, sound-or, first-sound, sound-first, word-sound, sound-word, unfit-all}
 use Rattle.replay.specs.Replay.{Ran, playFrom, Ended}
 use Rattle.replay.specs.Entry.{replayFault, answered, replayOf, numbers, Replayed}
 use Rattle.replay.specs.declared.Replay.{Replay}
