@@ -1,12 +1,14 @@
 -- The public replay: refusals 1 to 5 "in number order", else the replay from the initial marking.
-use Prim.Native.Nat.{ℕ}
+use Prim.Native.Nat.{ℕ, _≤_, _<_}
 use mathlib.Core.Path.{_≡_}
-use mathlib.Core.Bool.{Bool, _&&_}
+use mathlib.Core.Bool.{Bool, true, _&&_}
 use mathlib.Core.List.{List, [], _∷_}
-use lib.ListN.{length}
+use lib.ListN.{length, take}
 use lib.Dec.{eqb}
+use Rattle.ground.specs.Limits.{wordLimit}
 use Rattle.net.specs.Net.{Net}
-use Rattle.net.specs.Given.{orElse, firstFault, wordFault}
+use Rattle.net.specs.Firing.{Fires}
+use Rattle.net.specs.Given.{orElse, firstFault, wordFault, Sized, Fine, Letters}
 use Rattle.net.specs.declared.Cause.{Cause}
 use Rattle.net.specs.declared.Cause.the-variants.{Short, Over}
 use Rattle.net.specs.declared.Fault.{Fault}
@@ -48,3 +50,25 @@ numbers (Refused n at) = 0x82 ∷ n ∷ at ∷ []
 pub record Replayed (net : Net) (initial w : List ℕ) (within : Bool) (room : List ℕ) (r : Replay) (room′ : List ℕ) : Type 0 where
   pub answer : numbers r ≡ numbers (replayOf net initial w within room .answer)
   pub left : room′ ≡ replayOf net initial w within room .left
+
+-- all that document 01 asks of what a replay is lent: nothing is refused exactly where this holds
+pub record Allowed (net : Net) (initial w : List ℕ) (within : Bool) (room : List ℕ) : Type 0 where
+  pub sized : Sized net
+  pub marked : length initial ≡ net .places
+  pub roomy : length room ≡ net .places
+  pub inside : within ≡ true
+  pub fine : Fine (net .caps) initial
+  pub short : length w ≤ wordLimit
+  pub letters : Letters (net .transitions) w
+
+-- the letters fired
+abbrev pub lettersFired : Replay → ℕ
+lettersFired (Fired n) = n
+lettersFired (Blocked n why) = n
+lettersFired (Refused n at) = 0
+
+-- "The number of letters fired equals the length of the longest prefix that fires", which leads to m′
+pub record Longest (net : Net) (m w : List ℕ) (k : ℕ) (m′ : List ℕ) : Type 0 where
+  pub within : k ≤ length w
+  pub fires : Fires net m (take k w) m′
+  pub more : (j : ℕ) → k < j → j ≤ length w → (m″ : List ℕ) → Fires net m (take j w) m″ → ⊥
