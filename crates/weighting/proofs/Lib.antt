@@ -1,2 +1,5 @@
 pub mod Sums
 pub mod Shares
+pub mod Nets
+pub mod Entries
+pub mod Answers

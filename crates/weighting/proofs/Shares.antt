@@ -14,7 +14,7 @@ use Rattle.ground.specs.Limits.{countLimit, noCapacity, entryLimit}
 use Rattle.ground.specs.Parts.{up, dn}
 use Rattle.ground.proofs.Parts.{minus-is}
 use Rattle.weighting.specs.Weighting.{sum, entry, isZero}
-use Rattle.weighting.specs.Lines.{total, productLimit, share, shareLimit, cell, lineFails}
+use Rattle.weighting.specs.Lines.{total, productLimit, share, shareLimit, cell, lineFails, held}
 use Rattle.weighting.proofs.Sums.{mul-sub, zero-sub, sum-same, two-sums, total-none, total-more}
 
 -- an entry's part times a number of 16 bits
@@ -73,3 +73,28 @@ module _ (pre post : List ℕ) (y : List ℤ) (start step : ℕ) where
   sums-end k gained lost s h l = let e : k ≡ length y = omega arith in rw (s .gained-is, s .lost-is, e) line-is
 
 pub ruleset line-sums = (sums-start, sums-next, gained-fits, lost-fits, sums-end)
+
+-- the sum of y x marking over the first p places, no entry being negative
+pub record Weighed (y : List ℤ) (m : List ℕ) (p sum : ℕ) : Type 0 where
+  pub is : sum ≡ total p (held y m)
+  pub small : sum ≤ productLimit * p
+
+module _ (y : List ℤ) (m : List ℕ) where
+  pub weigh-start : Weighed y m 0 0
+  weigh-start = record { is = total-none (held y m); small = omega arith }
+
+  module _ (p sum : ℕ) (w : Weighed y m p sum) where
+    pub weigh-next : (part r : ℕ) → part ≡ up (entry y p) → r ≡ part * getD m p 0 → r ≤ productLimit → Weighed y m (p + 1) (sum + r)
+    weigh-next part r e q h =
+        record {
+          is = ap₂ _+_ (w .is) (q ∙ ap (λ (u : ℕ). u * getD m p 0) e) ∙ total-more p (held y m);
+          small = omega (arith, w .small);
+        }
+
+    pub weigh-fits : (n r : ℕ) → r ≤ productLimit → p < n → n ≤ countLimit → Fits w64 (sum + r)
+    weigh-fits n r h l f = record { fits = omega (arith, w .small) }
+
+    pub weigh-end : (n : ℕ) → p ≤ n → n ≤ p → sum ≡ total n (held y m)
+    weigh-end n h l = let e : p ≡ n = omega arith in rw (← e) (w .is)
+
+pub ruleset weighs = (weigh-start, weigh-next, weigh-fits, weigh-end)

@@ -8,7 +8,7 @@ use native.Mathlib.Decide.{ℕ-discrete}
 use native.Mathlib.Omega.{arith}
 use native.Mathlib.Numerals.{add-one}
 use lib.Dec.{eqb}
-use lib.IntN.{ℤ, pos, negsuc, subℕ, _+ℤ_, _*ℤ_, +ℤ-assoc, +ℤ-comm, +ℤ-idl, +ℤ-idr, *ℤ-one, *ℤ-zero, one}
+use lib.IntN.{ℤ, pos, negsuc, subℕ, _+ℤ_, _*ℤ_, +ℤ-assoc, +ℤ-comm, +ℤ-idl, +ℤ-idr, pos-+ℤ-pos, *ℤ-one, *ℤ-zero, one}
 use borrow.Author.Tests.{eq-eqb, ne-eqb}
 use Rattle.ground.specs.Lists.{bit}
 use Rattle.ground.specs.Parts.{up, dn}
@@ -37,7 +37,7 @@ mul-plus x a b =
     ap (λ (z : ℤ). x *ℤ z) (sum-sub a b)
     ∙ mul-sub x (up a + up b) (dn a + dn b)
     ∙ sub-eq (up x * (up a + up b) + dn x * (dn a + dn b)) (up x * (dn a + dn b) + dn x * (up a + up b)) ((up x * up a + dn x * dn a) + (up x * up b + dn x * dn b)) ((up x * dn a + dn x * up a) + (up x * dn b + dn x * up b))
-        (omega (arith, mul-add (up x) (up a) (up b), mul-add (dn x) (dn a) (dn b), mul-add (up x) (dn a) (dn b), mul-add (dn x) (up a) (up b)))
+    (omega (arith, mul-add (up x) (up a) (up b), mul-add (dn x) (dn a) (dn b), mul-add (up x) (dn a) (dn b), mul-add (dn x) (up a) (up b)))
     ∙ sym (sub-sum (up x * up a + dn x * dn a) (up x * dn a + dn x * up a) (up x * up b + dn x * dn b) (up x * dn b + dn x * up b))
     ∙ ap₂ _+ℤ_ (sym (mul-sub x (up a) (dn a)) ∙ ap (λ (z : ℤ). x *ℤ z) (is-sub a)) (sym (mul-sub x (up b) (dn b)) ∙ ap (λ (z : ℤ). x *ℤ z) (is-sub b))
 
@@ -69,6 +69,11 @@ unfolding sum total
 two-sums zero f g = refl
 two-sums (suc n) f g =
     ap (λ (z : ℤ). z +ℤ subℕ (f n) (g n)) (two-sums n f g) ∙ sub-sum (total n f) (total n g) (f n) (g n)
+
+pub sum-pos : (n : ℕ) (f : ℕ → ℕ) → sum n (λ k. pos (f k)) ≡ pos (total n f)
+unfolding sum total
+sum-pos zero f = refl
+sum-pos (suc n) f = ap (λ (z : ℤ). z +ℤ pos (f n)) (sum-pos n f) ∙ pos-+ℤ-pos (total n f) (f n)
 
 four : (a b c d : ℤ) → (a +ℤ b) +ℤ (c +ℤ d) ≡ (a +ℤ c) +ℤ (b +ℤ d)
 four a b c d =
@@ -119,8 +124,3 @@ pub total-at : (n : ℕ) (f : ℕ → ℕ) (k : ℕ) → k < n → f k ≤ total
 unfolding total
 total-at zero f k h = omega arith
 total-at (suc n) f k h = ⊎-elim (λ e. omega (arith, ap f e)) (λ l. omega (arith, total-at n f k l)) (eq-or-lt-of-le (le-of-suc-le-suc h))
-
-pub total-zero : (n : ℕ) → total n (λ k. 0) ≡ 0
-unfolding total
-total-zero zero = refl
-total-zero (suc n) = omega (arith, total-zero n)

@@ -17,7 +17,7 @@ use Rattle.weighting.specs.declared.Bound.{Bound}
 use Rattle.weighting.specs.declared.Bound.the-variants.{Bounded, NoBound, Refused}
 
 -- refusals 1, 2 and 3, then 8, then 13: "a place number not below P"
-unfoldable pub boundFault : Net → List ℕ → List ℤ → ℕ → Fault
+abbrev pub boundFault : Net → List ℕ → List ℤ → ℕ → Fault
 boundFault net initial y p =
     orElse (firstFault net initial (eqb (length y) (net .places))) (orElse (refuse (allZero y) 8 0) (refuse (leb (net .places) p) 13 0))
 

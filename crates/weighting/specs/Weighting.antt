@@ -83,5 +83,5 @@ abbrev pub allZero : List ℤ → Bool
 allZero y = leb (length y) (lowestEntry false y)
 
 -- refusals 1 and 2, then 8, for a weighting that has n entries
-unfoldable pub weightingFault : Net → ℕ → List ℤ → Fault
+abbrev pub weightingFault : Net → ℕ → List ℤ → Fault
 weightingFault net n y = orElse (netFault net (eqb (length y) n)) (refuse (allZero y) 8 0)
