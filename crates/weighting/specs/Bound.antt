@@ -1,20 +1,34 @@
 -- The answer for the bound that a place weighting gives to a place.
-use Prim.Native.Nat.{ℕ, _/_}
+use Prim.Native.Nat.{ℕ, _+_, _/_}
 use mathlib.Core.Bool.{cond}
 use mathlib.Core.List.{List, [], _∷_}
 use lib.ListN.{length}
 use lib.Dec.{ltb, leb, eqb}
-use lib.IntN.{ℤ}
+use lib.IntN.{ℤ, pos, _*ℤ_}
+use lib.Signed.{_≤ℤ_, _<ℤ_}
 use Rattle.ground.specs.Parts.{up}
 use Rattle.net.specs.Net.{Net}
 use Rattle.net.specs.Given.{refuse, orElse, firstFault}
 use Rattle.net.specs.declared.Fault.{Fault}
 use Rattle.net.specs.declared.Fault.the-variants.{Sound, Faulty}
-use Rattle.weighting.specs.Weighting.{entry, weight, lowestTransition, hasNegative, allZero}
+use Rattle.weighting.specs.Weighting.{entry, weight, PlaceInvariant, NoNegative, lowestTransition, hasNegative, allZero}
 use Rattle.weighting.specs.declared.NoBoundCause.{NoBoundCause}
 use Rattle.weighting.specs.declared.NoBoundCause.the-variants.{NotInvariant, Negative, NotPositive}
 use Rattle.weighting.specs.declared.Bound.{Bound}
 use Rattle.weighting.specs.declared.Bound.the-variants.{Bounded, NoBound, Refused}
+
+-- b is "the whole part of" s / d
+pub record WholePart (s d : ℤ) (b : ℕ) : Type 0 where
+  pub low : (pos b *ℤ d) ≤ℤ s
+  pub high : s <ℤ (pos (b + 1) *ℤ d)
+
+-- what each answer says of a question that is not refused
+abbrev pub Judged : Net → List ℕ → List ℤ → ℕ → Bound → Type 0
+Judged net initial y p (Bounded b) = PlaceInvariant net y × NoNegative y × (pos 0 <ℤ entry y p) × WholePart (weight net y initial) (entry y p) b
+Judged net initial y p (NoBound NotInvariant) = PlaceInvariant net y → ⊥
+Judged net initial y p (NoBound Negative) = PlaceInvariant net y × (NoNegative y → ⊥)
+Judged net initial y p (NoBound NotPositive) = PlaceInvariant net y × NoNegative y × (entry y p ≤ℤ pos 0)
+Judged net initial y p (Refused n at) = ⊥
 
 -- refusals 1, 2 and 3, then 8, then 13: "a place number not below P"
 abbrev pub boundFault : Net → List ℕ → List ℤ → ℕ → Fault

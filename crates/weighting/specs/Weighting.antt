@@ -9,7 +9,7 @@ use lib.IntN.{ℤ, pos, negsuc, _+ℤ_, _*ℤ_}
 use lib.Signed.{_≤ℤ_}
 use Rattle.ground.specs.Lists.{first, bit}
 use Rattle.net.specs.Net.{Net, Change, tokens}
-use Rattle.net.specs.Given.{refuse, orElse, netFault}
+use Rattle.net.specs.Given.{refuse, orElse, netFault, Sized}
 use Rattle.net.specs.declared.Fault.{Fault}
 
 -- the sum over k < n of f k
@@ -49,6 +49,18 @@ weight net y m = sum (net .places) (λ p. entry y p *ℤ pos (tokens m p))
 unfoldable pub count : List ℕ → ℕ → ℕ
 count [] t = 0
 count (u ∷ w) t = bit (eqb u t) + count w t
+
+-- "names the lowest failing transition or place": of n numbers, i is the lowest that is not 0
+pub record Lowest (f : ℕ → ℤ) (n i : ℕ) : Type 0 where
+  pub here : i < n
+  pub fails : f i ≡ pos 0 → ⊥
+  pub lowest : (k : ℕ) → k < i → f k ≡ pos 0
+
+-- a weighting of n entries that no refusal meets
+pub record Allowed (net : Net) (n : ℕ) (y : List ℤ) : Type 0 where
+  pub sized : Sized net
+  pub long : length y ≡ n
+  pub some : ((k : ℕ) → entry y k ≡ pos 0) → ⊥
 
 -- ---- the tests
 abbrev pub isZero : ℤ → Bool
