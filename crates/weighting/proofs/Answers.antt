@@ -7,13 +7,13 @@ use native.Mathlib.Omega.{arith}
 use lib.ListN.{length, getD}
 use lib.Dec.{ltb, leb, eqb}
 use lib.IntN.{ℤ, pos}
-use borrow.Author.Tests.{lt-ltb, le-ltb, le-leb, lt-leb, leb-false, eqb-true}
+use borrow.Author.Tests.{lt-ltb, le-ltb, le-leb, lt-leb, leb-false, eq-eqb, eqb-true}
 use Rattle.ground.specs.Parts.{up}
 use Rattle.net.specs.Net.{Net}
 use Rattle.net.specs.Given.{refuse, orElse, netFault, firstFault, Sized}
 use Rattle.net.specs.declared.Fault.{Fault}
 use Rattle.net.specs.declared.Fault.the-variants.{Sound, Faulty}
-use Rattle.net.proofs.Refusals.{or-sound, refuse-sound, sized-of, first-sound, Fine}
+use Rattle.net.proofs.Refusals.{or-sound, sound-or, refuse-sound, sound-refuse, sized-of, first-sound, sound-first, Fine}
 use Rattle.weighting.specs.Weighting.{entry, weight, lowestTransition, lowestPlace, lowestEntry, hasNegative, allZero, weightingFault}
 use Rattle.weighting.specs.Lines.{total, held}
 use Rattle.weighting.specs.Place.{placeOf, placeNumbers}
@@ -56,6 +56,7 @@ weighting-sound net n y e =
     let s = sized-of net (eqb (length y) n) (a .0) in
     (s .0, eqb-true (length y) n (s .1), refuse-sound (allZero y) 8 0 (a .1))
 
+-- the same for a bound: all that document 01 asks holds
 pub record Asked (net : Net) (initial : List ℕ) (y : List ℤ) (p : ℕ) : Type 0 where
   pub sized : Sized net
   pub initial-long : length initial ≡ net .places
@@ -77,6 +78,12 @@ bound-sound net initial y p e =
       some = refuse-sound (allZero y) 8 0 (b .0);
       here = leb-false (net .places) p (refuse-sound (leb (net .places) p) 13 0 (b .1));
     }
+
+pub sound-bound : (net : Net) (initial : List ℕ) (y : List ℤ) (p : ℕ) → Asked net initial y p → boundFault net initial y p ≡ Sound
+sound-bound net initial y p a =
+    sound-or (firstFault net initial (eqb (length y) (net .places))) (orElse (refuse (allZero y) 8 0) (refuse (leb (net .places) p) 13 0))
+    (sound-first net initial (eqb (length y) (net .places)) (a .sized) (a .initial-long) (eq-eqb (length y) (net .places) (a .y-long)) (a .fine))
+    (sound-or (refuse (allZero y) 8 0) (refuse (leb (net .places) p) 13 0) (sound-refuse (allZero y) 8 0 (a .some)) (sound-refuse (leb (net .places) p) 13 0 (lt-leb (net .places) p (a .here))))
 
 -- ---- answers
 module _ (net : Net) (y : List ℤ) (found : Fault) (e : found ≡ weightingFault net (net .places) y) where

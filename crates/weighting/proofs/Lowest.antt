@@ -2,7 +2,7 @@
 -- and when nothing is refused. Assumes nothing.
 use Prim.Native.Nat.{ℕ, _≤_, _<_}
 use mathlib.Core.Path.{_≡_, refl, sym, ap, _∙_}
-use mathlib.Core.Bool.{Bool, true, false, not}
+use mathlib.Core.Bool.{Bool, true, false, not, cond}
 use mathlib.Core.Logic.{_↔_}
 use mathlib.Core.List.{List}
 use native.Mathlib.Omega.{arith}
@@ -11,7 +11,7 @@ use lib.ListN.{length, List·getD-eq-default}
 use lib.Dec.{ltb, leb, eqb}
 use lib.IntN.{ℤ, pos, negsuc}
 use lib.Signed.{_≤ℤ_}
-use borrow.Author.Tests.{ltb-true, ltb-false, le-ltb, lt-leb, leb-false, eq-eqb, eqb-true}
+use borrow.Author.Tests.{ltb-true, ltb-false, lt-ltb, le-ltb, lt-leb, leb-false, eq-eqb, eqb-true}
 use Rattle.ground.specs.Parts.{dn}
 use Rattle.ground.specs.Lists.{first}
 use Rattle.ground.proofs.Tests.{never}
@@ -64,6 +64,28 @@ module _ (f : ℕ → ℤ) (n : ℕ) where
 
   pub lowest-is : (i : ℕ) → Lowest f n i → first (λ k. not (isZero (f k))) n ≡ i
   lowest-is i l = first-at (λ k. not (isZero (f k))) n i (λ k h. of-zero (f k) (l .lowest k h)) (fails-of (f i) (l .fails)) (l .here)
+
+-- an answer that names the lowest of n that is not 0, if there is one
+module _ {A : Type 0} (f : ℕ → ℤ) (n : ℕ) (names : ℕ → A) (same : (i k : ℕ) → names i ≡ names k → i ≡ k) (other : A) (r : A) (is : r ≡ cond (ltb (first (λ k. not (isZero (f k))) n) n) (names (first (λ k. not (isZero (f k))) n)) other) where
+  pub named : ((i : ℕ) → other ≡ names i → ⊥) → (i : ℕ) → (r ≡ names i) ↔ Lowest f n i
+  named apart i = (
+    λ e. go e (ltb (first (λ k. not (isZero (f k))) n) n) refl,
+    λ l. let q = lowest-is f n i l in is ∙ rw (q, lt-ltb i n (l .here)),
+  )
+    where
+      go : r ≡ names i → (b : Bool) → ltb (first (λ k. not (isZero (f k))) n) n ≡ b → Lowest f n i
+      go e true q = rw (← same _ i (sym (rw q at is) ∙ e)) (lowest-of f n (ltb-true _ _ q))
+      go e false q = absurd (apart i (sym (rw q at is) ∙ e))
+
+  pub unnamed : (a : A) → ((i : ℕ) → names i ≡ a → ⊥) → (r ≡ a) ↔ (((k : ℕ) → k < n → f k ≡ pos 0) × (other ≡ a))
+  unnamed a apart = (
+    λ e. go e (ltb (first (λ k. not (isZero (f k))) n) n) refl,
+    λ h. is ∙ rw (le-ltb (first (λ k. not (isZero (f k))) n) n (none-found f n (h .0))) (h .1),
+  )
+    where
+      go : r ≡ a → (b : Bool) → ltb (first (λ k. not (isZero (f k))) n) n ≡ b → ((k : ℕ) → k < n → f k ≡ pos 0) × (other ≡ a)
+      go e true q = absurd (apart _ (sym (rw q at is) ∙ e))
+      go e false q = (all-zero f n (ltb-false _ _ q), sym (rw q at is) ∙ e)
 
 -- no entry is negative exactly where none is found
 pub no-negative-of : (y : List ℤ) → hasNegative y ≡ false → NoNegative y
