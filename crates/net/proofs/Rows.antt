@@ -14,7 +14,7 @@ use Rattle.net.specs.Given.{Sized}
 pub row-end : (t n k : ℕ) → t < n → t * k + k ≤ n * k
 row-end t n k h = rw (← suc-mul t k) (mul-le-mul-right k h)
 
-row-length : (n t : ℕ) (l : List ℕ) → t * n + n ≤ length l → length (row n t l) ≡ n
+pub row-length : (n t : ℕ) (l : List ℕ) → t * n + n ≤ length l → length (row n t l) ≡ n
 row-length n t l h = length-take-le n (drop (t * n) l) (rw length-drop (omega arith))
 
 -- entry p of row t stands at t x n + p

@@ -1,0 +1,37 @@
+use Rattle.sets.proofs.Touches.{set-faults}
+use borrow.Author.Needs.{needs}
+use Rattle.sets.proofs.set_fault.Statement.{statement}
+use Rattle.sets.proofs.set_fault.Tie as tie
+
+net-fault-requires : tie.Need-net-fault-requires
+net-fault-requires c κs = search needs
+
+enum-known-found : tie.Need-enum-known-found
+enum-known-found c = search needs
+
+enum-told : tie.Need-enum-told
+enum-told c = search needs
+
+is-touching-requires : tie.Need-is-touching-requires
+is-touching-requires c κs = search needs
+
+returns : tie.Need-returns
+returns c = search (set-faults, needs)
+
+returns-2 : tie.Need-returns-2
+returns-2 c = search (set-faults, needs)
+
+returns-3 : tie.Need-returns-3
+returns-3 c = search (set-faults, needs)
+
+pub set-fault-spec : {M : Type 1} → statement M
+set-fault-spec =
+    tie.close
+    (tie.spec
+    net-fault-requires
+    enum-known-found
+    enum-told
+    is-touching-requires
+    returns
+    returns-2
+    returns-3)

@@ -1,0 +1,59 @@
+-- The answers for a siphon and a trap, by tests on one place's numbers and then by number of the transition.
+use Prim.Native.Nat.{ℕ}
+use mathlib.Core.Bool.{Bool, true, false, not, cond, _&&_}
+use mathlib.Core.List.{List, [], _∷_}
+use lib.ListN.{length, getD}
+use lib.Dec.{ltb, leb, eqb}
+use Rattle.ground.specs.Lists.{first}
+use Rattle.net.specs.Net.{Net, netOf}
+use Rattle.net.specs.Letter.{row}
+use Rattle.net.specs.Given.{refuse, orElse, netFault}
+use Rattle.net.specs.declared.Fault.{Fault}
+use Rattle.net.specs.declared.Fault.the-variants.{Sound, Faulty}
+use Rattle.sets.specs.declared.SetAnswer.{SetAnswer}
+use Rattle.sets.specs.declared.SetAnswer.the-variants.{Yes, No, Refused}
+
+-- a place in the set has an arc
+abbrev pub meets : ℕ → ℕ → Bool
+meets weight member = ltb 0 member && ltb 0 weight
+
+-- a row of arcs has one at a place in the set
+unfoldable pub touches : List ℕ → List ℕ → Bool
+touches weights s = ltb (first (λ p. meets (getD weights p 0) (getD s p 0)) (length s)) (length s)
+
+-- puts into the set and does not take from it
+unfoldable pub escapes : List ℕ → List ℕ → List ℕ → Bool
+escapes takes puts s = touches puts s && not (touches takes s)
+
+-- the lowest transition that does, or their number
+abbrev pub lowestEscape : Net → List ℕ → ℕ
+lowestEscape net s = first (λ t. escapes (row (net .places) t (net .pre)) (row (net .places) t (net .post)) s) (net .transitions)
+
+-- the net with all arcs turned round: its siphons are the net's traps
+abbrev pub turned : Net → Net
+turned net = netOf (net .places) (net .transitions) (net .post) (net .pre) (net .caps)
+
+-- 8: "a set without places"
+abbrev pub noPlaces : List ℕ → Bool
+noPlaces s = leb (length s) (first (λ p. ltb 0 (getD s p 0)) (length s))
+
+-- refusals 1 and 2, then 8
+unfoldable pub setFault : Net → List ℕ → Fault
+setFault net s = orElse (netFault net (eqb (length s) (net .places))) (refuse (noPlaces s) 8 0)
+
+-- a fault refuses; else no at the lowest failing transition t, if there is one of the T
+abbrev pub setAnswer : Fault → ℕ → ℕ → SetAnswer
+setAnswer (Faulty n at) T t = Refused n at
+setAnswer Sound T t = cond (ltb t T) (No t) Yes
+
+abbrev pub siphonOf : Net → List ℕ → SetAnswer
+siphonOf net s = setAnswer (setFault net s) (net .transitions) (lowestEscape net s)
+
+abbrev pub trapOf : Net → List ℕ → SetAnswer
+trapOf net s = setAnswer (setFault net s) (net .transitions) (lowestEscape (turned net) s)
+
+-- the numbers for each case: 81 00 (yes); 81 01 and the transition; 82, a refusal's number and position
+abbrev pub setNumbers : SetAnswer → List ℕ
+setNumbers Yes = 0x81 ∷ 0 ∷ []
+setNumbers (No t) = 0x81 ∷ 1 ∷ t ∷ []
+setNumbers (Refused n at) = 0x82 ∷ n ∷ at ∷ []

@@ -1,0 +1,157 @@
+// Siphons and traps of a net: whether a set of places, a byte for each with 0 for out, is one.
+use net::Fault;
+ghost use mathlib.Core.Path.{_≡_};
+ghost use lib.ListN.{length};
+ghost use Rattle.net.specs.Net.{netOf};
+ghost use Rattle.net.specs.Given.{Sized};
+ghost use Rattle.sets.specs.Answer.{meets, touches, escapes, lowestEscape, setFault, siphonOf, trapOf, setNumbers};
+
+// The answer for a set: it is one; it is none, with the lowest failing transition; or refused,
+// with document 01's number and position.
+pub enum SetAnswer {
+    Yes,
+    No(usize),
+    Refused(u8, usize),
+}
+
+// Whether a place is in the set and has an arc.
+fn is_meeting(weight: u8, member: u8) -> bool
+    ensures { λ r. ⌜ r ≡ meets weight member ⌝ }
+{
+    if 0 < member {
+        return 0 < weight;
+    }
+    false
+}
+
+// Whether a row of arcs has one at a place in the set.
+fn is_touching(weights: &[u8], set: &[u8]) -> bool
+    requires { ⌜ length (now weights) ≡ length (now set) ⌝ }
+    ensures { λ r. ⌜ r ≡ touches (now (weights .entry)) (now (set .entry)) ⌝ }
+{
+    let mut p = 0;
+    while p < set.len() {
+        if is_meeting(weights[p], set[p]) {
+            return true;
+        }
+        p += 1;
+    }
+    false
+}
+
+// Whether a transition puts into the set and does not take from it; for a trap the rows are
+// exchanged.
+fn is_escape(takes: &[u8], puts: &[u8], set: &[u8]) -> bool
+    requires { ⌜ length (now takes) ≡ length (now set) ⌝ }
+    requires { ⌜ length (now puts) ≡ length (now set) ⌝ }
+    ensures { λ r. ⌜ r ≡ escapes (now (takes .entry)) (now (puts .entry)) (now (set .entry)) ⌝ }
+{
+    if is_touching(puts, set) {
+        return !is_touching(takes, set);
+    }
+    false
+}
+
+// The lowest transition that puts into the set and does not take from it, or their number.
+fn lowest_escape(
+    places: usize,
+    transitions: usize,
+    pre: &[u8],
+    post: &[u8],
+    caps: &[u16],
+    set: &[u8],
+) -> usize
+    requires { ⌜ Sized (netOf places transitions (now pre) (now post) (now caps)) ⌝ }
+    requires { ⌜ length (now set) ≡ places ⌝ }
+    ensures { λ r. ⌜ r ≡ lowestEscape (netOf places transitions (now (pre .entry)) (now (post .entry)) (now (caps .entry))) (now (set .entry)) ⌝ }
+{
+    let mut t = 0;
+    while t < transitions {
+        let a = t * places;
+        let e = a + places;
+        if is_escape(&pre[a..e], &post[a..e], set) {
+            return t;
+        }
+        t += 1;
+    }
+    t
+}
+
+// Refusals 1, 2 and 8 for a set. A set as its own row of arcs has one at each of its places.
+fn set_fault(
+    places: usize,
+    transitions: usize,
+    pre: &[u8],
+    post: &[u8],
+    caps: &[u16],
+    set: &[u8],
+) -> Fault
+    ensures { λ r. ⌜ r ≡ setFault (netOf places transitions (now (pre .entry)) (now (post .entry)) (now (caps .entry))) (now (set .entry)) ⌝ }
+{
+    let fits = set.len() == places;
+    let found = net::net_fault(places, transitions, pre, post, caps, fits);
+    match found {
+        Fault::Faulty(number, at) => Fault::Faulty(number, at),
+        Fault::Sound => {
+            if is_touching(set, set) {
+                Fault::Sound
+            } else {
+                Fault::Faulty(8, 0)
+            }
+        }
+    }
+}
+
+// The answer for a siphon.
+fn judge_set(
+    places: usize,
+    transitions: usize,
+    pre: &[u8],
+    post: &[u8],
+    caps: &[u16],
+    set: &[u8],
+) -> SetAnswer
+    ensures { λ r. ⌜ r ≡ siphonOf (netOf places transitions (now (pre .entry)) (now (post .entry)) (now (caps .entry))) (now (set .entry)) ⌝ }
+{
+    let found = set_fault(places, transitions, pre, post, caps, set);
+    match found {
+        Fault::Faulty(number, at) => SetAnswer::Refused(number, at),
+        Fault::Sound => {
+            let t = lowest_escape(places, transitions, pre, post, caps, set);
+            if t < transitions {
+                SetAnswer::No(t)
+            } else {
+                SetAnswer::Yes
+            }
+        }
+    }
+}
+
+// Whether a set is a siphon: every transition that puts into it also takes from it.
+pub fn siphon_set(
+    places: usize,
+    transitions: usize,
+    pre: &[u8],
+    post: &[u8],
+    caps: &[u16],
+    set: &[u8],
+) -> SetAnswer
+    ensures { λ r. ⌜ setNumbers r ≡ setNumbers (siphonOf (netOf places transitions (now (pre .entry)) (now (post .entry)) (now (caps .entry))) (now (set .entry))) ⌝ }
+{
+    judge_set(places, transitions, pre, post, caps, set)
+}
+
+// Whether a set is a trap: every transition that takes from it also puts into it. It is a siphon
+// of the net with all arcs turned round.
+pub fn trap_set(
+    places: usize,
+    transitions: usize,
+    pre: &[u8],
+    post: &[u8],
+    caps: &[u16],
+    set: &[u8],
+) -> SetAnswer
+    ensures { λ r. ⌜ setNumbers r ≡ setNumbers (trapOf (netOf places transitions (now (pre .entry)) (now (post .entry)) (now (caps .entry))) (now (set .entry))) ⌝ }
+{
+    judge_set(places, transitions, post, pre, caps, set)
+}

@@ -1,0 +1,124 @@
+-- The tests of a weighting say what is published: which numbers are 0, which is the lowest that is not, which entries are negative,
+-- and when nothing is refused. Assumes nothing.
+use Prim.Native.Nat.{ℕ, _≤_, _<_}
+use mathlib.Core.Path.{_≡_, refl, sym, ap, _∙_}
+use mathlib.Core.Bool.{Bool, true, false, not, cond}
+use mathlib.Core.Logic.{_↔_}
+use mathlib.Core.List.{List}
+use native.Mathlib.Omega.{arith}
+use native.Mathlib.Decide.{decLt}
+use lib.ListN.{length, List·getD-eq-default}
+use lib.Dec.{ltb, leb, eqb}
+use lib.IntN.{ℤ, pos, negsuc}
+use lib.Signed.{_≤ℤ_}
+use borrow.Author.Tests.{ltb-true, ltb-false, lt-ltb, le-ltb, lt-leb, leb-false, eq-eqb, eqb-true}
+use Rattle.ground.specs.Parts.{dn}
+use Rattle.ground.specs.Lists.{first}
+use Rattle.ground.proofs.Tests.{never}
+use Rattle.ground.proofs.Scan.{first-at, first-none, first-below, first-passes, first-most}
+use Rattle.ground.proofs.Parts.{neg-le}
+use Rattle.net.specs.Net.{Net}
+use Rattle.net.specs.Given.{refuse, netFault}
+use Rattle.net.specs.declared.Fault.the-variants.{Sound}
+use Rattle.net.proofs.Refusals.{sound-or, sound-refuse, sized-is}
+use Rattle.weighting.specs.Weighting.{entry, NoNegative, Lowest, Allowed, isZero, isNegative, picks, lowestEntry, hasNegative, allZero, weightingFault}
+use Rattle.weighting.proofs.Entries.{no-negative}
+use Rattle.weighting.proofs.Answers.{weighting-sound}
+
+zero-of : (z : ℤ) → not (isZero z) ≡ false → z ≡ pos 0
+zero-of (pos n) e = ap pos (go n (eqb n 0) refl e)
+  where
+    go : (n : ℕ) (b : Bool) → eqb n 0 ≡ b → not (eqb n 0) ≡ false → n ≡ 0
+    go n true q e = eqb-true n 0 q
+    go n false q e = never (rw q at e)
+zero-of (negsuc n) e = never e
+
+of-zero : (z : ℤ) → z ≡ pos 0 → not (isZero z) ≡ false
+of-zero z e = ap (λ (z : ℤ). not (isZero z)) e
+
+not-zero : (z : ℤ) → not (isZero z) ≡ true → z ≡ pos 0 → ⊥
+not-zero z e q = never (sym e ∙ of-zero z q)
+
+fails-of : (z : ℤ) → (z ≡ pos 0 → ⊥) → not (isZero z) ≡ true
+fails-of z f = go (not (isZero z)) refl
+  where
+    go : (b : Bool) → not (isZero z) ≡ b → not (isZero z) ≡ true
+    go true e = e
+    go false e = absurd (f (zero-of z e))
+
+-- of n numbers: all are 0 exactly where none is found, and the lowest that is not 0 is the one that is found
+module _ (f : ℕ → ℤ) (n : ℕ) where
+  pub all-zero : n ≤ first (λ k. not (isZero (f k))) n → (k : ℕ) → k < n → f k ≡ pos 0
+  all-zero h k l = zero-of (f k) (first-below (λ k. not (isZero (f k))) n k (omega arith))
+
+  pub none-found : ((k : ℕ) → k < n → f k ≡ pos 0) → n ≤ first (λ k. not (isZero (f k))) n
+  none-found h = let e = first-none (λ k. not (isZero (f k))) n (λ k l. of-zero (f k) (h k l)) in omega arith
+
+  pub lowest-of : first (λ k. not (isZero (f k))) n < n → Lowest f n (first (λ k. not (isZero (f k))) n)
+  lowest-of h =
+      record {
+        here = h;
+        fails = not-zero _ (first-passes (λ k. not (isZero (f k))) n h);
+        lowest = λ k l. zero-of (f k) (first-below (λ k. not (isZero (f k))) n k l);
+      }
+
+  pub lowest-is : (i : ℕ) → Lowest f n i → first (λ k. not (isZero (f k))) n ≡ i
+  lowest-is i l = first-at (λ k. not (isZero (f k))) n i (λ k h. of-zero (f k) (l .lowest k h)) (fails-of (f i) (l .fails)) (l .here)
+
+-- an answer that names the lowest of n that is not 0, if there is one
+module _ {A : Type 0} (f : ℕ → ℤ) (n : ℕ) (names : ℕ → A) (same : (i k : ℕ) → names i ≡ names k → i ≡ k) (other : A) (r : A) (is : r ≡ cond (ltb (first (λ k. not (isZero (f k))) n) n) (names (first (λ k. not (isZero (f k))) n)) other) where
+  pub named : ((i : ℕ) → other ≡ names i → ⊥) → (i : ℕ) → (r ≡ names i) ↔ Lowest f n i
+  named apart i = (
+    λ e. go e (ltb (first (λ k. not (isZero (f k))) n) n) refl,
+    λ l. let q = lowest-is f n i l in is ∙ rw (q, lt-ltb i n (l .here)),
+  )
+    where
+      go : r ≡ names i → (b : Bool) → ltb (first (λ k. not (isZero (f k))) n) n ≡ b → Lowest f n i
+      go e true q = rw (← same _ i (sym (rw q at is) ∙ e)) (lowest-of f n (ltb-true _ _ q))
+      go e false q = absurd (apart i (sym (rw q at is) ∙ e))
+
+  pub unnamed : (a : A) → ((i : ℕ) → names i ≡ a → ⊥) → (r ≡ a) ↔ (((k : ℕ) → k < n → f k ≡ pos 0) × (other ≡ a))
+  unnamed a apart = (
+    λ e. go e (ltb (first (λ k. not (isZero (f k))) n) n) refl,
+    λ h. is ∙ rw (le-ltb (first (λ k. not (isZero (f k))) n) n (none-found f n (h .0))) (h .1),
+  )
+    where
+      go : r ≡ a → (b : Bool) → ltb (first (λ k. not (isZero (f k))) n) n ≡ b → ((k : ℕ) → k < n → f k ≡ pos 0) × (other ≡ a)
+      go e true q = absurd (apart _ (sym (rw q at is) ∙ e))
+      go e false q = (all-zero f n (ltb-false _ _ q), sym (rw q at is) ∙ e)
+
+-- no entry is negative exactly where none is found
+pub no-negative-of : (y : List ℤ) → hasNegative y ≡ false → NoNegative y
+no-negative-of y e =
+    let d = no-negative y (ltb-false (lowestEntry true y) (length y) e) in
+    record { at = λ k. neg-le (entry y k) 0 .1 (omega (arith, d k)) }
+
+pub of-no-negative : (y : List ℤ) → NoNegative y → hasNegative y ≡ false
+of-no-negative y h =
+    let e = first-none (λ k. picks true (entry y k)) (length y) (λ k l. plain (entry y k) (neg-le (entry y k) 0 .0 (h .at k))) in
+    le-ltb (lowestEntry true y) (length y) (omega arith)
+  where
+    plain : (z : ℤ) → dn z ≤ 0 → isNegative z ≡ false
+    plain (pos n) h = refl
+    plain (negsuc n) h = absurd (omega arith)
+
+-- nothing is refused exactly where the weighting is allowed
+module _ (net : Net) (n : ℕ) (y : List ℤ) where
+  pub allowed-of : weightingFault net n y ≡ Sound → Allowed net n y
+  allowed-of e =
+      let w = weighting-sound net n y e in
+      let l = leb-false (length y) (lowestEntry false y) (w .2) in
+      record { sized = w .0; long = w .1; some = λ h. not-zero _ (first-passes (λ k. picks false (entry y k)) (length y) l) (h _) }
+
+  pub of-allowed : Allowed net n y → weightingFault net n y ≡ Sound
+  of-allowed a =
+      sound-or (netFault net (eqb (length y) n)) (refuse (allZero y) 8 0) (sized-is net (eqb (length y) n) (a .sized) (eq-eqb (length y) n (a .long)))
+      (sound-refuse (allZero y) 8 0 (go (decLt (lowestEntry false y) (length y))))
+    where
+      zero-at : length y ≤ lowestEntry false y → (k : ℕ) → Dec (k < length y) → entry y k ≡ pos 0
+      zero-at h k (yes l) = all-zero (entry y) (length y) h k l
+      zero-at h k (no l) = List·getD-eq-default y (pos 0) {n = k} (omega arith)
+
+      go : Dec (lowestEntry false y < length y) → allZero y ≡ false
+      go (yes h) = lt-leb (length y) (lowestEntry false y) h
+      go (no h) = absurd (a .some (λ k. zero-at (omega arith) k (decLt k (length y))))

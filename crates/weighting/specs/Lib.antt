@@ -1,0 +1,5 @@
+pub mod Weighting
+pub mod Lines
+pub mod Place
+pub mod Transition
+pub mod Bound

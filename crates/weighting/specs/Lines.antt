@@ -1,0 +1,49 @@
+-- What the code adds up: two unsigned sums along one line of the tables, a row for a transition or a column for a place.
+use Prim.Native.Nat.{ℕ, zero, suc, _+_, _*_, _≤_, _<_}
+use mathlib.Core.Bool.{Bool, not}
+use mathlib.Core.List.{List}
+use lib.ListN.{length, getD}
+use lib.IntN.{ℤ, pos, _-ℤ_, _*ℤ_}
+use Rattle.ground.specs.Limits.{countLimit, noCapacity, entryLimit}
+use Rattle.ground.specs.Parts.{up, dn}
+use Rattle.weighting.specs.Weighting.{sum, entry, isZero}
+
+-- the sum over k < n of f k, of numbers
+unfoldable pub total : ℕ → (ℕ → ℕ) → ℕ
+total zero f = 0
+total (suc n) f = total n f + f n
+
+-- no part of an entry times a number of 16 bits (a weight, or tokens) is more
+abbrev pub productLimit : ℕ
+productLimit = entryLimit * noCapacity
+
+-- what the entry x adds to the first sum: x > 0 by what is put, x < 0 by what is taken
+abbrev pub share : ℤ → ℕ → ℕ → ℕ
+share x takes puts = up x * puts + dn x * takes
+
+abbrev pub shareLimit : ℕ
+shareLimit = productLimit + productLimit
+
+-- entry k of a line that starts at `start` and whose entries are `step` apart
+abbrev pub cell : List ℕ → ℕ → ℕ → ℕ → ℕ
+cell l start step k = getD l (start + k * step) 0
+
+-- the signed sum along a line is not 0
+unfoldable pub lineFails : List ℕ → List ℕ → List ℤ → ℕ → ℕ → Bool
+lineFails pre post y start step =
+    not (isZero (sum (length y) (λ k. entry y k *ℤ (pos (cell post start step k) -ℤ pos (cell pre start step k)))))
+
+-- a line of n entries inside a list of `size`
+pub record Line (start step n size : ℕ) : Type 0 where
+  pub few : n ≤ countLimit
+  pub inside : (k : ℕ) → k < n → start + k * step < size
+
+-- so many lines of n entries, each `apart` from the one before
+pub record Lines (lines apart step n size : ℕ) : Type 0 where
+  pub few : n ≤ countLimit
+  pub some : 1 ≤ n
+  pub inside : (i k : ℕ) → i < lines → k < n → i * apart + k * step < size
+
+-- the sum of y x marking where no entry is negative
+abbrev pub held : List ℤ → List ℕ → ℕ → ℕ
+held y m p = up (entry y p) * getD m p 0

@@ -1,0 +1,262 @@
+#!/usr/bin/env python3
+"""What crates/weighting_runs must print: its file stdout is this script's output.
+
+    python3 tests/expected/weighting.py > crates/weighting_runs/stdout
+
+Written from document 01 alone, without the program's code: numbers are unbounded and signed, sums are taken as 01 words
+them, sets are sets, and arcs are read from dictionaries. A line a case: its number, then the answer's numbers in decimal:
+129 0 (invariant, yes) or 129 0 bound; 129 1 with the lowest failing transition or place, or with the number of the cause for
+which there is no bound (1 not invariant, 2 a negative entry, 3 y(p) not positive); 129 2 (proper); 130 refusal position.
+"""
+
+NONE = 65535  # "65,535 means none"
+HUGE = 2**64 - 1  # the largest count or place number that can be lent
+
+
+class Refused(Exception):
+    pass
+
+
+def check_net(P, T, pre, post, caps, *lengths):
+    """Refusals 1 and 2; `lengths` pairs each further list with the length it should have."""
+    if not (1 <= P <= 64 and 1 <= T <= 64):
+        raise Refused(1, 0)
+    for lent, n in [(pre, P * T), (post, P * T), (caps, P), *lengths]:
+        if len(lent) != n:
+            raise Refused(2, 0)
+
+
+def changes(P, T, pre, post):
+    """Change(p,t) = Post - Pre."""
+    return {(p, t): post[t * P + p] - pre[t * P + p] for p in range(P) for t in range(T)}
+
+
+def failing_transitions(P, T, pre, post, y):
+    change = changes(P, T, pre, post)
+    return [t for t in range(T) if sum(y[p] * change[p, t] for p in range(P)) != 0]
+
+
+def place_weighting(P, T, pre, post, caps, y):
+    check_net(P, T, pre, post, caps, (y, P))
+    if not any(y):
+        raise Refused(8, 0)
+    failing = failing_transitions(P, T, pre, post, y)
+    return [129, 1, min(failing)] if failing else [129, 0]
+
+
+def transition_weighting(P, T, pre, post, caps, x):
+    check_net(P, T, pre, post, caps, (x, T))
+    if not any(x):
+        raise Refused(8, 0)
+    change = changes(P, T, pre, post)
+    failing = [p for p in range(P) if sum(change[p, t] * x[t] for t in range(T)) != 0]
+    if failing:
+        return [129, 1, min(failing)]
+    return [129, 2] if min(x) >= 0 else [129, 0]
+
+
+def place_bound(P, T, pre, post, caps, initial, y, place):
+    check_net(P, T, pre, post, caps, (initial, P), (y, P))
+    for p in range(P):
+        if initial[p] == 65535 or (caps[p] != NONE and initial[p] > caps[p]):
+            raise Refused(3, p)
+    if not any(y):
+        raise Refused(8, 0)
+    if place >= P:
+        raise Refused(13, 0)
+    if failing_transitions(P, T, pre, post, y):
+        return [129, 1, 1]
+    if min(y) < 0:
+        return [129, 1, 2]
+    if y[place] <= 0:
+        return [129, 1, 3]
+    bound, weighed = 0, sum(y[p] * initial[p] for p in range(P))
+    # the whole part, without a division: the largest number whose product with y(p) is not above the sum
+    step = 1 << weighed.bit_length()
+    while step:
+        if (bound + step) * y[place] <= weighed:
+            bound += step
+        step >>= 1
+    return [129, 0, bound]
+
+
+def arcs_of(P, T, table, members):
+    """The transitions with an arc in the table at some member."""
+    return {t for t in range(T) for p in members if table[t * P + p] > 0}
+
+
+def checked_set(P, T, pre, post, caps, lent):
+    check_net(P, T, pre, post, caps, (lent, P))
+    members = {p for p in range(P) if lent[p] != 0}
+    if not members:
+        raise Refused(8, 0)
+    return arcs_of(P, T, post, members), arcs_of(P, T, pre, members)
+
+
+def siphon_set(P, T, pre, post, caps, lent):
+    putting, taking = checked_set(P, T, pre, post, caps, lent)
+    return [129, 1, min(putting - taking)] if putting - taking else [129, 0]
+
+
+def trap_set(P, T, pre, post, caps, lent):
+    putting, taking = checked_set(P, T, pre, post, caps, lent)
+    return [129, 1, min(taking - putting)] if taking - putting else [129, 0]
+
+
+def case(number, ask, *lent):
+    try:
+        answer = ask(*lent)
+    except Refused as refused:
+        answer = [130, *refused.args]
+    print(number, *answer)
+
+
+# the net of 01's case
+SAMPLE = (3, 3, [1, 0, 0, 0, 1, 0, 0, 0, 3], [0, 1, 0, 1, 0, 2, 0, 0, 0], [NONE, NONE, 5])
+
+
+def both_sets(number, net, lent):
+    case(number, siphon_set, *net, lent)
+    case(number + 1, trap_set, *net, lent)
+
+
+def both_weightings(number, net, y):
+    case(number, place_weighting, *net, y)
+    case(number + 1, transition_weighting, *net, y)
+
+
+def samples():
+    case(1, place_weighting, *SAMPLE, [1, 1, 0])
+    case(2, place_bound, *SAMPLE, [1, 0, 0], [1, 1, 0], 0)
+    case(3, place_weighting, *SAMPLE, [0, 0, 1])
+    case(4, transition_weighting, *SAMPLE, [3, 3, 2])
+    both_sets(5, SAMPLE, [1, 1, 0])
+    both_sets(7, SAMPLE, [0, 0, 1])
+    case(9, place_weighting, *SAMPLE, [-1, -1, 0])
+    case(10, transition_weighting, *SAMPLE, [-3, -3, -2])
+    case(11, place_weighting, *SAMPLE, [1, 0, 0])
+    case(12, place_weighting, *SAMPLE, [2, 2, 1])
+    case(13, transition_weighting, *SAMPLE, [3, 2, 2])
+    case(14, transition_weighting, *SAMPLE, [3, 3, 1])
+    case(15, transition_weighting, *SAMPLE, [-3, -3, 2])
+    case(16, place_weighting, *SAMPLE, [0, 0, 0])
+    case(17, transition_weighting, *SAMPLE, [0, 0, 0])
+    both_sets(18, SAMPLE, [0, 0, 0])
+    both_sets(20, SAMPLE, [255, 1, 128])
+    both_sets(22, SAMPLE, [1, 0, 0])
+    case(24, place_weighting, *SAMPLE, [1, 1])
+    case(25, transition_weighting, *SAMPLE, [3, 3, 2, 1])
+    both_sets(26, SAMPLE, [1, 1, 0, 0])
+
+
+def bounds():
+    def sample(number, first, last, y, place):
+        case(number, place_bound, *SAMPLE, [first, 0, last], y, place)
+
+    def two_places(number, takes, puts, initial, y, place):
+        case(number, place_bound, 2, 1, [takes, 0], [0, puts], [NONE, NONE], initial, y, place)
+
+    def largest(number, own, others, place):
+        arcs = [255] * 4096
+        case(number, place_bound, 64, 64, arcs, arcs, [NONE] * 64, [65534] * 64, [own] + [others] * 63, place)
+
+    sample(31, 1, 0, [0, 0, -1], 2)
+    sample(32, 1, 0, [-1, -1, 0], 0)
+    sample(33, 1, 0, [-1, -1, 0], 2)
+    sample(34, 1, 0, [1, 1, 0], 2)
+    sample(35, 1, 0, [0, 0, 1], 0)
+    sample(36, 1, 0, [1, 1, 0], 1)
+    sample(37, 1, 0, [1, 1, 0], 3)
+    sample(38, 1, 0, [1, 1, 0], HUGE)
+    sample(39, 1, 0, [0, 0, 0], 3)
+    sample(40, 1, 6, [0, 0, 0], 3)
+    sample(41, 1, 6, [0, 0], 3)
+    sample(42, 65535, 6, [1, 1, 0], 0)
+    two_places(43, 1, 1, [65534, 65534], [1, 1], 0)
+    two_places(44, 3, 2, [4, 1], [2, 3], 0)
+    two_places(45, 3, 2, [4, 1], [2, 3], 1)
+    two_places(46, 3, 2, [4, 0], [2, 3], 0)
+    two_places(47, 255, 1, [65534, 65534], [128, 32640], 1)
+    two_places(48, 1, 1, [0, 0], [7, 7], 0)
+    largest(49, 32767, 32767, 63)
+    largest(50, 1, 32767, 0)
+    largest(51, 1, 32767, 1)
+    largest(52, -32768, 32767, 1)
+    largest(53, 0, 32767, 0)
+
+
+def extremes():
+    def one(takes, puts):
+        return 1, 1, [takes], [puts], [NONE]
+
+    def one_set(number, takes, puts):
+        case(number, siphon_set, *one(takes, puts), [1])
+        case(number + 1, trap_set, *one(takes, puts), [255])
+
+    def sixty_four(number, others, end, last):
+        net = 64, 64, [255] * 4096, [255] * 4095 + [last], [NONE] * 64
+        both_weightings(number, net, [others] * 63 + [end])
+
+    def largest_set(number, place, last):
+        net = 64, 64, [255] * 4095 + [last], [255] * 4096, [NONE] * 64
+        both_sets(number, net, [1 if p == place else 0 for p in range(64)])
+
+    both_weightings(61, one(255, 255), [-32768])
+    both_weightings(63, one(255, 0), [-32768])
+    both_weightings(65, one(0, 255), [32767])
+    both_weightings(67, one(0, 0), [1])
+    both_weightings(69, one(1, 2), [0])
+    one_set(71, 255, 255)
+    one_set(73, 255, 0)
+    one_set(75, 0, 255)
+    one_set(77, 0, 0)
+    sixty_four(81, -32768, -32768, 255)
+    sixty_four(83, 32767, 32767, 255)
+    sixty_four(85, 32767, -32768, 255)
+    sixty_four(87, -32768, -32768, 254)
+    sixty_four(89, 32767, -32768, 0)
+    sixty_four(91, 0, 1, 254)
+    sixty_four(93, 1, 0, 254)
+    sixty_four(95, 0, 0, 254)
+    largest_set(97, 63, 0)
+    largest_set(99, 62, 0)
+    largest_set(101, 63, 255)
+
+
+def refusals():
+    def faulty(number, P, T, pre, post, y):
+        both_weightings(number, (P, T, pre, post, [9]), y)
+
+    def faulty_bound(number, P, T, pre, post, y):
+        case(number, place_bound, P, T, pre, post, [9], [9], y, 0)
+
+    def faulty_set(number, P, T, pre, post, lent):
+        both_sets(number, (P, T, pre, post, [9]), lent)
+
+    faulty(111, 1, 1, [1], [1], [1])
+    faulty(113, 0, 1, [], [], [1])
+    faulty(115, 1, 0, [], [], [1])
+    faulty(117, 65, 1, [1], [1], [1])
+    faulty(119, 1, HUGE, [1], [1], [0])
+    faulty(121, 1, 2, [1, 1], [1, 1], [1])
+    faulty(123, 1, 2, [1, 1], [1, 1], [1, 1])
+    faulty(125, 1, 1, [1, 1], [1], [1])
+    faulty(127, 1, 1, [1], [], [0])
+    faulty(129, 2, 1, [1, 1], [1, 1], [1, 1])
+    faulty_bound(131, 1, 1, [1], [1], [1])
+    faulty_bound(132, 0, 1, [], [], [1])
+    faulty_bound(133, 1, 65, [1], [1], [1])
+    faulty_bound(134, 1, 1, [1], [1, 1], [1])
+    faulty_bound(135, 2, 1, [1, 1], [1, 1], [1, 1])
+    faulty_set(136, 1, 1, [1], [1], [7])
+    faulty_set(138, 65, 65, [1], [1], [7])
+    faulty_set(140, 1, 2, [1, 1], [1], [7])
+    faulty_set(142, 1, 1, [1], [1], [])
+    faulty_set(144, 2, 1, [1, 1], [1, 1], [1, 1])
+    faulty_set(146, 1, 2, [1, 0], [1, 1], [7])
+
+
+samples()
+bounds()
+extremes()
+refusals()
