@@ -182,6 +182,13 @@ fn two_places(case: usize, takes: u8, puts: u8, initial: [u16; 2], y: [i16; 2], 
     tell_bound(case, answer);
 }
 
+// Changes one weight of a table.
+fn put(table: &mut [u8], at: usize, weight: u8) {
+    if at < table.len() {
+        table[at] = weight;
+    }
+}
+
 // Both weightings on a net of 64 places and 64 transitions whose arcs all have weight 255, but for
 // the last arc to a place.
 fn largest(case: usize, y: &[i16], last: u8)
@@ -189,7 +196,7 @@ fn largest(case: usize, y: &[i16], last: u8)
 {
     let pre = [255u8; 4096];
     let mut post = [255u8; 4096];
-    post[4095] = last;
+    put(&mut post, 4095, last);
     let caps = [65535u16; 64];
     let a = weighting::place_weighting(64, 64, &pre, &post, &caps, y);
     tell_place(case, a);
@@ -220,14 +227,13 @@ fn largest_bound(case: usize, own: i16, others: i16, place: usize) {
 // A set of one place on such a net, of which the last arc from a place has weight `last`.
 fn largest_set(case: usize, place: usize, last: u8)
     requires { ⌜ case < 1000 ⌝ }
-    requires { ⌜ place < 64 ⌝ }
 {
     let mut pre = [255u8; 4096];
-    pre[4095] = last;
+    put(&mut pre, 4095, last);
     let post = [255u8; 4096];
     let caps = [65535u16; 64];
     let mut set = [0u8; 64];
-    set[place] = 1;
+    put(&mut set, place, 1);
     let siphon = sets::siphon_set(64, 64, &pre, &post, &caps, &set);
     tell_set(case, siphon);
     let trap = sets::trap_set(64, 64, &pre, &post, &caps, &set);
