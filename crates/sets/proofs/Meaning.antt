@@ -1,13 +1,13 @@
 -- What the answers for sets mean, by the published definitions of firing, siphons and traps. Assumes nothing.
 use Prim.Native.Nat.{ℕ, _+_, _*_, _≤_, _<_}
 use mathlib.Core.Path.{_≡_, refl, sym, ap, _∙_}
-use mathlib.Core.Bool.{Bool, true, false, not, cond, _&&_}
+use mathlib.Core.Bool.{Bool, true, false, not, cond}
 use mathlib.Core.Logic.{_↔_}
 use mathlib.Core.List.{List, [], _∷_}
 use native.Mathlib.Omega.{arith}
 use native.Mathlib.Decide.{decLt}
 use lib.ListN.{length, getD, List·getD-eq-default}
-use lib.Dec.{ltb, leb, eqb}
+use lib.Dec.{ltb, eqb}
 use borrow.Author.Tests.{lt-ltb, le-ltb, ltb-true, ltb-false, lt-leb, leb-false, eq-eqb}
 use Rattle.ground.specs.Lists.{first}
 use Rattle.ground.proofs.Tests.{never, and-true}
@@ -20,7 +20,7 @@ use Rattle.net.specs.declared.Fault.the-variants.{Sound}
 use Rattle.net.proofs.Rows.{row-at}
 use Rattle.net.proofs.Refusals.{sound-or, sound-refuse, sized-is}
 use Rattle.net.proofs.Meaning.{gives-plain, kept}
-use Rattle.sets.specs.Sets.{In, Some, PutsInto, TakesFrom, Siphon, Trap, Fails, SiphonFails, TrapFails, Marked, Unmarked, Allowed}
+use Rattle.sets.specs.Sets.{In, Some, PutsInto, TakesFrom, Siphon, Trap, SiphonFails, TrapFails, Marked, Unmarked, Allowed}
 use Rattle.sets.specs.Answer.{meets, touches, escapes, lowestEscape, turned, noPlaces, setFault, siphonOf, trapOf, setNumbers}
 use Rattle.sets.specs.declared.SetAnswer.{SetAnswer}
 use Rattle.sets.specs.declared.SetAnswer.the-variants.{Yes, No, Refused}

@@ -1,18 +1,16 @@
 -- Laws of the tests and answers for sets, from what the code has found. Assumes nothing.
-use Prim.Native.Nat.{ℕ, _+_, _*_, _≤_, _<_}
+use Prim.Native.Nat.{ℕ, _*_, _≤_, _<_}
 use mathlib.Core.Path.{_≡_, refl, sym, ap, _∙_}
-use mathlib.Core.Bool.{Bool, true, false, not, cond, _&&_, _||_}
+use mathlib.Core.Bool.{Bool, true, false, not, _&&_, _||_}
 use mathlib.Core.List.{List}
-use native.Mathlib.Omega.{arith}
 use lib.ListN.{length, getD}
 use lib.Dec.{ltb, leb, eqb}
-use borrow.Author.Tests.{lt-ltb, le-ltb, ltb-true, ltb-false, le-leb, lt-leb, leb-false, eqb-true}
+use borrow.Author.Tests.{lt-ltb, le-ltb, ltb-true, ltb-false, le-leb, lt-leb, eqb-true}
 use Rattle.ground.specs.Lists.{first}
-use Rattle.ground.proofs.Tests.{never}
 use Rattle.ground.proofs.Scan.{Below, scan-hit, scan-end}
 use Rattle.net.specs.Net.{Net}
 use Rattle.net.specs.Letter.{row}
-use Rattle.net.specs.Given.{refuse, orElse, outside, misfit, unlike, netFault, Sized}
+use Rattle.net.specs.Given.{refuse, orElse, outside, unlike, netFault, Sized}
 use Rattle.net.specs.declared.Fault.{Fault}
 use Rattle.net.specs.declared.Fault.the-variants.{Sound, Faulty}
 use Rattle.net.proofs.Refusals.{or-sound, refuse-sound, sized-of}

@@ -1,12 +1,11 @@
 -- Which refusal and which answer is given, from what the code has found. Assumes nothing.
 use Prim.Native.Nat.{ℕ, _≤_, _<_, _/_}
-use mathlib.Core.Path.{_≡_, refl, sym, ap, ap₂, _∙_}
-use mathlib.Core.Bool.{Bool, true, false, cond}
+use mathlib.Core.Path.{_≡_, sym, ap, _∙_}
+use mathlib.Core.Bool.{Bool, true, false}
 use mathlib.Core.List.{List}
-use native.Mathlib.Omega.{arith}
-use lib.ListN.{length, getD}
-use lib.Dec.{ltb, leb, eqb}
-use lib.IntN.{ℤ, pos}
+use lib.ListN.{length}
+use lib.Dec.{leb, eqb}
+use lib.IntN.{ℤ}
 use borrow.Author.Tests.{lt-ltb, le-ltb, le-leb, lt-leb, leb-false, eq-eqb, eqb-true}
 use Rattle.ground.specs.Parts.{up}
 use Rattle.net.specs.Net.{Net}
@@ -14,7 +13,7 @@ use Rattle.net.specs.Given.{refuse, orElse, netFault, firstFault, Sized}
 use Rattle.net.specs.declared.Fault.{Fault}
 use Rattle.net.specs.declared.Fault.the-variants.{Sound, Faulty}
 use Rattle.net.proofs.Refusals.{or-sound, sound-or, refuse-sound, sound-refuse, sized-of, first-sound, sound-first, Fine}
-use Rattle.weighting.specs.Weighting.{entry, weight, lowestTransition, lowestPlace, lowestEntry, hasNegative, allZero, weightingFault}
+use Rattle.weighting.specs.Weighting.{entry, weight, lowestTransition, lowestPlace, lowestEntry, allZero, weightingFault}
 use Rattle.weighting.specs.Lines.{total, held}
 use Rattle.weighting.specs.Place.{placeOf, placeNumbers}
 use Rattle.weighting.specs.declared.PlaceWeighting.the-variants as place

@@ -1,14 +1,13 @@
 -- Laws of the entries' signs: which weightings have a negative entry or are all zero, and the sum of y x marking without one. Assumes nothing.
 use Prim.Native.Nat.{ℕ, zero, suc, _+_, _*_, _≤_, _<_}
 use mathlib.Core.Path.{_≡_, refl, sym, ap, _∙_}
-use mathlib.Core.Bool.{Bool, true, false, not}
+use mathlib.Core.Bool.{true, false, not}
 use mathlib.Core.List.{List}
 use native.Mathlib.Omega.{arith}
 use native.Mathlib.Decide.{decLt}
-use lib.ListN.{length, getD, List·getD-eq-default}
-use lib.Dec.{ltb, leb, eqb}
+use lib.ListN.{length, List·getD-eq-default}
+use lib.Dec.{ltb, eqb}
 use lib.IntN.{ℤ, pos, negsuc, _*ℤ_, pos-*ℤ-pos}
-use lib.Signed.{_≤ℤ_}
 use borrow.Author.Tests.{lt-ltb, le-ltb, ne-eqb}
 use Rattle.ground.specs.Parts.{up, dn}
 use Rattle.ground.proofs.Tests.{never}

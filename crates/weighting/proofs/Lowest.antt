@@ -8,14 +8,13 @@ use mathlib.Core.List.{List}
 use native.Mathlib.Omega.{arith}
 use native.Mathlib.Decide.{decLt}
 use lib.ListN.{length, List·getD-eq-default}
-use lib.Dec.{ltb, leb, eqb}
+use lib.Dec.{ltb, eqb}
 use lib.IntN.{ℤ, pos, negsuc}
-use lib.Signed.{_≤ℤ_}
 use borrow.Author.Tests.{ltb-true, ltb-false, lt-ltb, le-ltb, lt-leb, leb-false, eq-eqb, eqb-true}
 use Rattle.ground.specs.Parts.{dn}
 use Rattle.ground.specs.Lists.{first}
 use Rattle.ground.proofs.Tests.{never}
-use Rattle.ground.proofs.Scan.{first-at, first-none, first-below, first-passes, first-most}
+use Rattle.ground.proofs.Scan.{first-at, first-none, first-below, first-passes}
 use Rattle.ground.proofs.Parts.{neg-le}
 use Rattle.net.specs.Net.{Net}
 use Rattle.net.specs.Given.{refuse, netFault}

@@ -1,36 +1,34 @@
 -- What the answers for weightings mean, by the published definitions of firing and of weightings. Assumes nothing.
-use Prim.Native.Nat.{ℕ, zero, suc, _+_, _*_, _/_, _≤_, _<_}
-use mathlib.Core.Path.{_≡_, refl, sym, ap, ap₂, _∙_}
+use Prim.Native.Nat.{ℕ, _+_, _*_, _/_, _≤_, _<_}
+use mathlib.Core.Path.{_≡_, refl, sym, ap, _∙_}
 use mathlib.Core.Bool.{Bool, true, false, cond}
 use mathlib.Core.Logic.{_↔_}
-use mathlib.Core.List.{List, [], _∷_}
-use native.Mathlib.Nat.{mul-comm, le-div-iff-mul-le, div-mul-le-self, lt-div-mul-add, lt-of-mul-lt-mul-right, add-mul}
+use mathlib.Core.List.{List}
+use native.Mathlib.Nat.{mul-comm, div-mul-le-self, lt-div-mul-add, lt-of-mul-lt-mul-right, add-mul}
 use native.Mathlib.Omega.{arith}
 use lib.ListN.{length}
 use lib.Seq.{ext-getD}
 use lib.Dec.{ltb, eqb}
-use lib.IntN.{ℤ, pos, _+ℤ_, _*ℤ_, +ℤ-assoc, +ℤ-idr, *ℤ-zero, pos-+ℤ-pos, pos-*ℤ-pos}
-use lib.Signed.{_≤ℤ_, _<ℤ_}
-use borrow.Author.Tests.{lt-ltb, le-ltb, ltb-true, ltb-false}
+use lib.IntN.{ℤ, pos, _+ℤ_, _*ℤ_, +ℤ-assoc, +ℤ-idr, *ℤ-zero, pos-+ℤ-pos}
+use borrow.Author.Tests.{le-ltb, ltb-true, ltb-false}
 use Rattle.ground.specs.Lists.{bit}
 use Rattle.ground.specs.Parts.{up, dn}
 use Rattle.ground.proofs.Tests.{never}
 use Rattle.ground.proofs.Parts.{parts-eq, le-pos, pos-lt, neg-le}
 use Rattle.net.specs.Net.{Net, Change, tokens}
-use Rattle.net.specs.Firing.{Gives, Firing, Fires, nothing, letter, Reachable}
+use Rattle.net.specs.Firing.{Gives, Fires, nothing, letter, Reachable}
 use Rattle.net.specs.declared.Fault.{Fault}
 use Rattle.net.specs.declared.Fault.the-variants.{Sound, Faulty}
 use Rattle.net.proofs.Meaning.{kept}
-use Rattle.weighting.specs.Weighting.{sum, entry, placeSum, PlaceInvariant, transitionSum, TransitionInvariant, NoNegative, weight, count, Lowest, Allowed, lowestTransition, lowestPlace, lowestEntry, hasNegative, weightingFault}
+use Rattle.weighting.specs.Weighting.{sum, entry, placeSum, PlaceInvariant, transitionSum, TransitionInvariant, NoNegative, weight, count, Lowest, Allowed, lowestTransition, lowestPlace, lowestEntry, hasNegative}
 use Rattle.weighting.specs.Lines.{total, held}
 use Rattle.weighting.specs.Place.{placeOf}
 use Rattle.weighting.specs.declared.PlaceWeighting.the-variants as place
 use Rattle.weighting.specs.Transition.{transitionOf}
 use Rattle.weighting.specs.declared.TransitionWeighting.the-variants as transition
 use Rattle.weighting.specs.Bound.{WholePart, Judged, boundFault, foundBound, boundOf}
-use Rattle.weighting.specs.declared.NoBoundCause.the-variants.{NotInvariant, Negative, NotPositive}
-use Rattle.weighting.specs.declared.Bound.{Bound}
-use Rattle.weighting.specs.declared.Bound.the-variants.{Bounded, NoBound, Refused}
+use Rattle.weighting.specs.declared.NoBoundCause.the-variants.{NotInvariant}
+use Rattle.weighting.specs.declared.Bound.the-variants.{Bounded, Refused}
 use Rattle.weighting.proofs.Sums.{mul-plus, sum-same, sum-both, sum-none, sum-at, total-at}
 use Rattle.weighting.proofs.Entries.{no-negative, weight-is}
 use Rattle.weighting.proofs.Answers.{bound-sound}

@@ -12,7 +12,7 @@ use Rattle.weighting.specs.declared.PlaceWeighting.the-variants as place
 use Rattle.weighting.specs.Transition.{transitionOf, transitionNumbers}
 use Rattle.weighting.specs.declared.TransitionWeighting.{TransitionWeighting}
 use Rattle.weighting.specs.declared.TransitionWeighting.the-variants as transition
-use Rattle.weighting.specs.Bound.{causeNumber, boundOf, boundNumbers}
+use Rattle.weighting.specs.Bound.{boundOf, boundNumbers}
 use Rattle.weighting.specs.declared.NoBoundCause.{NoBoundCause}
 use Rattle.weighting.specs.declared.NoBoundCause.the-variants.{NotInvariant, Negative, NotPositive}
 use Rattle.weighting.specs.declared.Bound.{Bound}

@@ -182,6 +182,13 @@ fn two_places(case: usize, takes: u8, puts: u8, initial: [u16; 2], y: [i16; 2], 
     tell_bound(case, answer);
 }
 
+// Changes one weight of a table.
+fn put(table: &mut [u8], at: usize, weight: u8) {
+    if at < table.len() {
+        table[at] = weight;
+    }
+}
+
 // Both weightings on a net of 64 places and 64 transitions whose arcs all have weight 255, but for
 // the last arc to a place.
 fn largest(case: usize, y: &[i16], last: u8)
@@ -189,7 +196,7 @@ fn largest(case: usize, y: &[i16], last: u8)
 {
     let pre = [255u8; 4096];
     let mut post = [255u8; 4096];
-    post[4095] = last;
+    put(&mut post, 4095, last);
     let caps = [65535u16; 64];
     let a = weighting::place_weighting(64, 64, &pre, &post, &caps, y);
     tell_place(case, a);
@@ -220,14 +227,13 @@ fn largest_bound(case: usize, own: i16, others: i16, place: usize) {
 // A set of one place on such a net, of which the last arc from a place has weight `last`.
 fn largest_set(case: usize, place: usize, last: u8)
     requires { ⌜ case < 1000 ⌝ }
-    requires { ⌜ place < 64 ⌝ }
 {
     let mut pre = [255u8; 4096];
-    pre[4095] = last;
+    put(&mut pre, 4095, last);
     let post = [255u8; 4096];
     let caps = [65535u16; 64];
     let mut set = [0u8; 64];
-    set[place] = 1;
+    put(&mut set, place, 1);
     let siphon = sets::siphon_set(64, 64, &pre, &post, &caps, &set);
     tell_set(case, siphon);
     let trap = sets::trap_set(64, 64, &pre, &post, &caps, &set);
@@ -279,6 +285,10 @@ fn samples() {
     // sample 11
     sample_set(5, &[1, 1, 0]);
     sample_set(7, &[0, 0, 1]);
+}
+
+// Negative entries, and where a weighting fails.
+fn signs() {
     // negative entries: invariant and not proper
     sample_place(9, &[-1, -1, 0]);
     sample_transition(10, &[-3, -3, -2]);
@@ -289,6 +299,10 @@ fn samples() {
     sample_transition(13, &[3, 2, 2]);
     sample_transition(14, &[3, 3, 1]);
     sample_transition(15, &[-3, -3, 2]);
+}
+
+// All zero, other sets, and lengths.
+fn zeros() {
     // all zero
     sample_place(16, &[0, 0, 0]);
     sample_transition(17, &[0, 0, 0]);
@@ -310,6 +324,10 @@ fn bounds() {
     sample_bound(33, 1, 0, &[-1, -1, 0], 2);
     sample_bound(34, 1, 0, &[1, 1, 0], 2);
     sample_bound(35, 1, 0, &[0, 0, 1], 0);
+}
+
+// Place numbers, and the order of the refusals.
+fn place_numbers() {
     // place numbers up to P and above
     sample_bound(36, 1, 0, &[1, 1, 0], 1);
     sample_bound(37, 1, 0, &[1, 1, 0], 3);
@@ -319,6 +337,10 @@ fn bounds() {
     sample_bound(40, 1, 6, &[0, 0, 0], 3);
     sample_bound(41, 1, 6, &[0, 0], 3);
     sample_bound(42, 65535, 6, &[1, 1, 0], 0);
+}
+
+// What is left over by the division.
+fn remainders() {
     // y(p) = 1, and remainders
     two_places(43, 1, 1, [65534, 65534], [1, 1], 0);
     two_places(44, 3, 2, [4, 1], [2, 3], 0);
@@ -327,6 +349,10 @@ fn bounds() {
     two_places(47, 255, 1, [65534, 65534], [128, 32640], 1);
     // no tokens
     two_places(48, 1, 1, [0, 0], [7, 7], 0);
+}
+
+// The largest bounds.
+fn largest_bounds() {
     // the largest sums
     largest_bound(49, 32767, 32767, 63);
     largest_bound(50, 1, 32767, 0);
@@ -342,10 +368,18 @@ fn extremes() {
     one_place(65, 0, 255, 32767);
     one_place(67, 0, 0, 1);
     one_place(69, 1, 2, 0);
+}
+
+// Sets of one place.
+fn extreme_sets() {
     one_set(71, 255, 255);
     one_set(73, 255, 0);
     one_set(75, 0, 255);
     one_set(77, 0, 0);
+}
+
+// The largest sums.
+fn largest_sums() {
     // every sum is 0
     sixty_four(81, -32768, -32768, 255);
     sixty_four(83, 32767, 32767, 255);
@@ -356,6 +390,10 @@ fn extremes() {
     sixty_four(91, 0, 1, 254);
     sixty_four(93, 1, 0, 254);
     sixty_four(95, 0, 0, 254);
+}
+
+// Sets on the largest net.
+fn largest_sets() {
     // sets: only the last transition fails
     largest_set(97, 63, 0);
     largest_set(99, 62, 0);
@@ -371,17 +409,29 @@ fn refusals() {
     faulty(115, 1, 0, b"", b"", &[1]);
     faulty(117, 65, 1, &[1], &[1], &[1]);
     faulty(119, 1, 18446744073709551615, &[1], &[1], &[0]);
+}
+
+// Refusal 2 for weightings.
+fn lengths() {
     // lengths: the weighting's, Pre's, Post's, the capacities'
     faulty(121, 1, 2, &[1, 1], &[1, 1], &[1]);
     faulty(123, 1, 2, &[1, 1], &[1, 1], &[1, 1]);
     faulty(125, 1, 1, &[1, 1], &[1], &[1]);
     faulty(127, 1, 1, &[1], b"", &[0]);
     faulty(129, 2, 1, &[1, 1], &[1, 1], &[1, 1]);
+}
+
+// Refusals 1 and 2 for a bound.
+fn faulty_bounds() {
     faulty_bound(131, 1, 1, &[1], &[1], &[1]);
     faulty_bound(132, 0, 1, b"", b"", &[1]);
     faulty_bound(133, 1, 65, &[1], &[1], &[1]);
     faulty_bound(134, 1, 1, &[1], &[1, 1], &[1]);
     faulty_bound(135, 2, 1, &[1, 1], &[1, 1], &[1, 1]);
+}
+
+// Refusals 1 and 2 for sets.
+fn faulty_sets() {
     faulty_set(136, 1, 1, &[1], &[1], &[7]);
     faulty_set(138, 65, 65, &[1], &[1], &[7]);
     faulty_set(140, 1, 2, &[1, 1], &[1], &[7]);
@@ -392,7 +442,18 @@ fn refusals() {
 
 fn main() {
     samples();
+    signs();
+    zeros();
     bounds();
+    place_numbers();
+    remainders();
+    largest_bounds();
     extremes();
+    extreme_sets();
+    largest_sums();
+    largest_sets();
     refusals();
+    lengths();
+    faulty_bounds();
+    faulty_sets();
 }

@@ -1,11 +1,9 @@
 use Prim.Native.Nat.{_+_, _*_, _<_, _≤_, _-_}
-use mathlib.Core.Path.{_≡_}
 use native.Mathlib.Omega.{arith}
 use lib.ListN.{length, getD}
 use lib.IntN.{pos}
 use denote.Ref.{now}
 use mir.Syntax.{w16}
-use mir.Val.{toZ, ofZ}
 use mir.Facts.{toZ-ofZ}
 use Rattle.weighting.proofs.Shares.{Sums, line-sums, sums-next}
 use Prim.Native.Nat.{_≤_, _-_}

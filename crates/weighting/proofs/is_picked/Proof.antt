@@ -2,7 +2,6 @@ use mathlib.Core.Path.{ap, _∙_}
 use mir.Syntax.{w16}
 use mir.Facts.{toZ-ofZ}
 use Rattle.ground.specs.Parts.{up, dn}
-use Rattle.weighting.specs.Weighting.{picks}
 use Rattle.weighting.proofs.Entries.{negative-is, nonzero-is}
 use borrow.Author.Needs.{needs}
 use Rattle.weighting.proofs.is_picked.Statement.{statement}

@@ -1,7 +1,6 @@
 use mathlib.Core.Path.{refl}
 use native.Mathlib.Omega.{arith}
 use Rattle.weighting.proofs.Shares.{product-small}
-use borrow.Author.Needs.{needs}
 use Rattle.weighting.proofs.times.Statement.{statement}
 use Rattle.weighting.proofs.times.Tie as tie
 
