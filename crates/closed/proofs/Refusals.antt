@@ -20,6 +20,7 @@ use Rattle.net.specs.declared.Fault.{Fault}
 use Rattle.net.specs.declared.Fault.the-variants.{Sound, Faulty}
 use Rattle.net.proofs.Refusals.{or-sound, refuse-sound, first-sound, Fine}
 use Rattle.lists.specs.Whole.{count, whole, targetFault, sizeFault}
+use Rattle.lists.specs.declared.Failure.{Failure}
 use Rattle.lists.proofs.Wholes.{whole-long, sized-list}
 use Rattle.closed.specs.declared.Closed.{Closed}
 use Rattle.closed.specs.declared.Closed.the-variants.{Accepted, Failed, Refused}
@@ -78,18 +79,27 @@ pub record Lent (net : Net) (initial list : List ℕ) (fits : Bool) (next : Faul
   pub fine : Fine (net .caps) initial
   pub agrees : fits ≡ true
   pub follows : next ≡ Sound
+  pub within : (k : ℕ) → k < length list → getD list k 0 ≤ getD (net .caps) (k % net .places) 0
   pub some : 1 ≤ count (net .places) list
   pub many : count (net .places) list ≤ listLimit
 
-entries-few : (P : ℕ) (caps list : List ℕ) → entryFault P caps list ≡ Sound → Small tokenLimit list
-unfolding entryFault
-entries-few P caps list e =
-    let x = ltb-false (badEntry P caps list) (length list) (refuse-sound _ 3 (badEntry P caps list) e) in
-    record { at = λ k. go k (decLt k (length list)) x }
-  where
-    go : (k : ℕ) → Dec (k < length list) → length list ≤ badEntry P caps list → getD list k 0 ≤ tokenLimit
-    go k (yes h) x = ltb-false tokenLimit (getD list k 0) (or-false _ _ (first-below (λ k. tokenBad (getD caps (k % P) 0) (getD list k 0)) (length list) k (omega arith)) .0)
-    go k (no n) x = rw (List·getD-eq-default list 0 {n = k} (omega arith)) zero-le
+-- each entry of a list that is not refused may be given
+module _ (P : ℕ) (caps list : List ℕ) (e : entryFault P caps list ≡ Sound) where
+  entry-at : (k : ℕ) → k < length list → (ltb tokenLimit (getD list k 0) ≡ false) × (ltb (getD caps (k % P) 0) (getD list k 0) ≡ false)
+  unfolding entryFault
+  entry-at k h =
+      let x = ltb-false (badEntry P caps list) (length list) (refuse-sound _ 3 (badEntry P caps list) e) in
+      or-false (ltb tokenLimit (getD list k 0)) (ltb (getD caps (k % P) 0) (getD list k 0)) (first-below (λ k. tokenBad (getD caps (k % P) 0) (getD list k 0)) (length list) k (omega arith))
+
+  entries-few : Small tokenLimit list
+  entries-few = record { at = λ k. go k (decLt k (length list)) }
+    where
+      go : (k : ℕ) → Dec (k < length list) → getD list k 0 ≤ tokenLimit
+      go k (yes h) = ltb-false tokenLimit (getD list k 0) (entry-at k h .0)
+      go k (no n) = rw (List·getD-eq-default list 0 {n = k} (omega arith)) zero-le
+
+  entries-within : (k : ℕ) → k < length list → getD list k 0 ≤ getD caps (k % P) 0
+  entries-within k h = ltb-false (getD caps (k % P) 0) (getD list k 0) (entry-at k h .1)
 
 module _ (net : Net) (initial list : List ℕ) (fits : Bool) (next : Fault) where
   pub lent-of : closedFault net initial list fits next ≡ Sound → Lent net initial list fits next
@@ -107,6 +117,7 @@ module _ (net : Net) (initial list : List ℕ) (fits : Bool) (next : Fault) wher
         fine = f .3;
         agrees = w .1;
         follows = d .0;
+        within = entries-within (net .places) (net .caps) list (b .0);
         some = z .0;
         many = z .1;
       }
@@ -127,6 +138,13 @@ module _ (net : Net) (initial list : List ℕ) (fits : Bool) (next : Fault) wher
   accepted-sound = go (closedFault net initial list fits next) refl
     where
       go : (f : Fault) → closedFault net initial list fits next ≡ f → answered (closedFault net initial list fits next) (looked net initial list) ≡ Accepted → (closedFault net initial list fits next ≡ Sound) × (looked net initial list ≡ Accepted)
+      go Sound e q = (e, rw e at q)
+      go (Faulty n at) e q = let z : _≡_ {A = ℕ} 0 1 = cc (rw e at q) in absurd (omega arith)
+
+  pub failed-sound : (why : Failure) → closedOf net initial list fits next ≡ Failed why → (closedFault net initial list fits next ≡ Sound) × (looked net initial list ≡ Failed why)
+  failed-sound why = go (closedFault net initial list fits next) refl
+    where
+      go : (f : Fault) → closedFault net initial list fits next ≡ f → answered (closedFault net initial list fits next) (looked net initial list) ≡ Failed why → (closedFault net initial list fits next ≡ Sound) × (looked net initial list ≡ Failed why)
       go Sound e q = (e, rw e at q)
       go (Faulty n at) e q = let z : _≡_ {A = ℕ} 0 1 = cc (rw e at q) in absurd (omega arith)
 

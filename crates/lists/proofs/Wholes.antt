@@ -120,3 +120,8 @@ module _ (P n : ℕ) (list : List ℕ) (k : ℕ) (long : length list ≡ n * P) 
       go : (p : ℕ) → Dec (p < P) → getD (markingAt P list k) p 0 ≤ b
       go p (yes l) = rw (row-at P k list p l) (s .at (k * P + p))
       go p (no x) = rw (List·getD-eq-default (markingAt P list k) 0 {n = p} (omega (arith, marking-long))) zero-le
+
+-- no other case of an answer has a failure's numbers: 0 is the answer looked for, 3 is not shown
+pub not-failure : (why : Failure) (n : ℕ) → (n ≡ 1 → ⊥) → n ∷ [] ≡ failureNumbers why → ⊥
+not-failure InitialMissing n h e = h (cc)
+not-failure (ResultMissing k t) n h e = let z : _≡_ {A = ℕ} 0 1 = cc in absurd (omega arith)
