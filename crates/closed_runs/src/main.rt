@@ -166,6 +166,13 @@ fn counted(case: usize, places: usize, transitions: usize, arcs: usize, list: &[
     tell_list(case, answer);
 }
 
+// The first n entries of a list.
+fn front(list: &[u16], n: usize) -> &[u16]
+    requires { ⌜ n ≤ length (now list) ⌝ }
+{
+    &list[..n]
+}
+
 // The list of all 12 markings, whole, without its last, and with repeats.
 fn whole_lists(list: &[u16])
     requires { ⌜ length (now list) ≡ 36 ⌝ }
@@ -173,7 +180,7 @@ fn whole_lists(list: &[u16])
     // all 12 markings
     sample_list(1, list);
     // (0,1,5) is struck out
-    sample_list(2, &list[..33]);
+    sample_list(2, front(list, 33));
     // (1,0,0), the initial marking, is struck out
     sample_list(3, &list[3..]);
     // each marking of a small list twice
@@ -191,10 +198,10 @@ fn refusals(list: &[u16])
     requires { ⌜ length (now list) ≡ 36 ⌝ }
 {
     // no marking
-    sample_list(11, &list[..0]);
+    sample_list(11, front(list, 0));
     // no multiple of P
-    sample_list(12, &list[..35]);
-    sample_list(13, &list[..1]);
+    sample_list(12, front(list, 35));
+    sample_list(13, front(list, 1));
     // 65,535 in a list
     sample_list(14, &[1, 0, 0, 1, 65535, 0]);
     // a token above capacity at the last place of the last marking
@@ -236,13 +243,13 @@ fn targets(list: &[u16])
     sample_target(35, list, &[1, 0]);
     sample_target(36, list, &[1, 0, 0, 0]);
     // the list's failures
-    sample_target(37, &list[..33], &[1, 1, 0]);
+    sample_target(37, front(list, 33), &[1, 1, 0]);
     sample_target(38, &list[3..], &[1, 1, 0]);
     // 3: initial, then list, then target; then 9
     target_from(39, &[1, 0, 6], &[65535, 0, 0], &[0, 65535, 0]);
     sample_target(40, &[0, 65535, 0], &[65535, 0, 0]);
-    sample_target(41, &list[..0], &[0, 0, 65535]);
-    sample_target(42, &list[..0], &[0, 0, 0]);
+    sample_target(41, front(list, 0), &[0, 0, 65535]);
+    sample_target(42, front(list, 0), &[0, 0, 0]);
 }
 
 // The stall asked of that list and others.
@@ -252,9 +259,9 @@ fn stalls(list: &[u16])
     // every listed marking enables something
     sample_stall(51, list);
     // the list's failures
-    sample_stall(52, &list[..33]);
+    sample_stall(52, front(list, 33));
     sample_stall(53, &list[3..]);
-    sample_stall(54, &list[..0]);
+    sample_stall(54, front(list, 0));
     // a listed marking enables nothing, and is reached
     one_stall(55, 1, 0, 65535, 1, &[1, 0]);
     // a listed marking enables nothing, and is never reached: not shown all the same
@@ -295,16 +302,16 @@ fn long_cases(list: &[u16])
     requires { ⌜ length (now list) ≡ 4098 ⌝ }
 {
     // 4,096 markings, closed
-    one_place(71, 0, 1, 4095, 0, &list[..4096]);
+    one_place(71, 0, 1, 4095, 0, front(list, 4096));
     // the result of the last is missing
-    one_place(72, 0, 1, 4096, 0, &list[..4096]);
+    one_place(72, 0, 1, 4096, 0, front(list, 4096));
     // the result is listed last
-    one_stall(73, 0, 1, 4095, 0, &list[..4096]);
+    one_stall(73, 0, 1, 4095, 0, front(list, 4096));
     // 4,097 markings
-    one_place(74, 0, 1, 4096, 0, &list[..4097]);
+    one_place(74, 0, 1, 4096, 0, front(list, 4097));
     // 3 comes before 9: above capacity in an over-long list
     one_place(75, 0, 1, 4096, 0, list);
-    one_place(76, 0, 1, 4095, 0, &list[..4097]);
+    one_place(76, 0, 1, 4095, 0, front(list, 4097));
 }
 
 fn long_lists() {
@@ -316,8 +323,42 @@ fn long_lists() {
 fn main() {
     // 01's list of all 12 markings: one of places 0 and 1 marked, place 2 from 0 to 5
     let all = [
-        1u16, 0, 0, 1, 0, 1, 1, 0, 2, 1, 0, 3, 1, 0, 4, 1, 0, 5, 0, 1, 0, 0, 1, 1, 0, 1, 2, 0, 1, 3, 0, 1,
-        4, 0, 1, 5,
+        1u16,
+        0,
+        0,
+        1,
+        0,
+        1,
+        1,
+        0,
+        2,
+        1,
+        0,
+        3,
+        1,
+        0,
+        4,
+        1,
+        0,
+        5,
+        0,
+        1,
+        0,
+        0,
+        1,
+        1,
+        0,
+        1,
+        2,
+        0,
+        1,
+        3,
+        0,
+        1,
+        4,
+        0,
+        1,
+        5,
     ];
     whole_lists(&all);
     refusals(&all);
