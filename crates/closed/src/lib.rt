@@ -100,6 +100,7 @@ fn is_given_listed(
     is_listed(places, count, list, room)
 }
 
+// The same, with room of its own.
 fn holds(places: usize, count: usize, list: &[u16], given: &[u16]) -> bool
     requires { ⌜ places ≤ countLimit ⌝ }
     requires { ⌜ length (now list) ≡ count * places ⌝ }

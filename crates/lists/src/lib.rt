@@ -42,12 +42,14 @@ pub fn size_fault(places: usize, list: &[u16]) -> Fault
     Fault::Sound
 }
 
+// One place has more tokens than may be given.
 fn is_any(tokens: u16) -> bool
     ensures { λ r. ⌜ r ≡ ltb tokenLimit tokens ⌝ }
 {
     TOKEN_LIMIT < tokens
 }
 
+// The lowest such place, or the number of places.
 fn lowest_any(target: &[u16]) -> usize
     ensures { λ r. ⌜ r ≡ lowestAny (now (target .entry)) ⌝ }
 {
@@ -73,6 +75,7 @@ pub fn target_fault(target: &[u16]) -> Fault
     }
 }
 
+// A given number of tokens in 32 bits.
 fn wide(tokens: u16) -> u32
     ensures { λ r. ⌜ r ≡ tokens ⌝ }
 {
