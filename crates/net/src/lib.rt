@@ -135,7 +135,7 @@ pub fn why_stopped(takes: &[u8], puts: &[u8], caps: &[u16], marking: &[u32]) -> 
 }
 
 // Fires a letter in place.
-fn fire(takes: &[u8], puts: &[u8], marking: &mut [u32])
+pub fn fire(takes: &[u8], puts: &[u8], marking: &mut [u32])
     requires { ⌜ length (now takes) ≡ length (now marking) ⌝ }
     requires { ⌜ length (now puts) ≡ length (now marking) ⌝ }
     requires { ⌜ Small replayLimit (now marking) ⌝ }
@@ -206,7 +206,8 @@ fn is_misfit(places: usize, transitions: usize, pre: &[u8], post: &[u8], caps: &
     caps.len() != places
 }
 
-fn is_bad_token(cap: u16, tokens: u16) -> bool
+// One place of a given marking has more tokens than may be given, or than its capacity.
+pub fn is_bad_token(cap: u16, tokens: u16) -> bool
     ensures { λ r. ⌜ r ≡ tokenBad cap tokens ⌝ }
 {
     if TOKEN_LIMIT < tokens {

@@ -1,0 +1,4 @@
+pub mod Listings
+pub mod Refusals
+pub mod Answers
+pub mod Meaning

@@ -1,0 +1,4 @@
+pub mod Looks
+pub mod Refusals
+pub mod Answers
+pub mod Meaning

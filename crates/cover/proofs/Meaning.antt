@@ -1,0 +1,329 @@
+-- What the answers to a cover list say of the published relation, and that each promise fixes its answer. Assumes nothing.
+use Prim.Native.Nat.{ℕ, _+_, _-_, _*_, _≤_, _<_}
+use mathlib.Core.Path.{_≡_, refl, sym, ap, _∙_}
+use mathlib.Core.Bool.{Bool, true, false, not, cond, _&&_}
+use mathlib.Core.List.{List}
+use native.Mathlib.Omega.{arith}
+use native.Mathlib.Decide.{decLe}
+use lib.ListN.{length, getD}
+use lib.Dec.{ltb, leb, eqb}
+use borrow.Author.Tests.{ltb-true, ltb-false, le-ltb, le-leb, lt-leb, leb-true, eqb-true, not-true, not-false}
+use Rattle.ground.specs.Limits.{tokenLimit}
+use Rattle.ground.specs.Lists.{first, table}
+use Rattle.ground.proofs.Tests.{never, and-true}
+use Rattle.ground.proofs.Scan.{first-below, first-passes}
+use Rattle.ground.proofs.Fill.{table-length, table-at}
+use Rattle.net.specs.Net.{Net, Pre, Post, tokens}
+use Rattle.net.specs.Firing.{Firing, Reachable}
+use Rattle.net.specs.Letter.{row}
+use Rattle.net.specs.declared.Fault.{Fault}
+use Rattle.net.specs.declared.Fault.the-variants.{Sound, Faulty}
+use Rattle.net.proofs.Meaning.{gives-plain, reachable-has}
+use Rattle.net.proofs.Rows.{row-at}
+use Rattle.lists.specs.Some.{some, none}
+use Rattle.lists.specs.Whole.{count, markingAt, targetFault}
+use Rattle.lists.specs.declared.Failure.the-variants.{InitialMissing, ResultMissing}
+use Rattle.lists.proofs.Somes.{some-first, some-none, some-is, is-none, none-at}
+use Rattle.lists.proofs.Wholes.{marking-long}
+use Rattle.cover.specs.declared.Cover.{Cover}
+use Rattle.cover.specs.declared.Cover.the-variants as list
+use Rattle.cover.specs.declared.CoverTarget.{CoverTarget}
+use Rattle.cover.specs.declared.CoverTarget.the-variants as target
+use Rattle.cover.specs.Covering.{Finite, CoversAt, beyond, covering, lacks, able, afterAny, firedAny}
+use Rattle.cover.specs.Cover.{Covers, Covered, Able, CoversResult, ResultCovered, Holds, IsCover, FirstMissing}
+use Rattle.cover.specs.Looking.{covered, missing, lowestMissing, fails, firstFailing, results, looked}
+use Rattle.cover.specs.Given.{coverFault, answered, coverOf, numbers}
+use Rattle.cover.specs.Target.{targetOf, targetNumbers}
+use Rattle.cover.specs.Ready.{Ready}
+use Rattle.cover.proofs.Refusals.{Lent, lent-of, accepted-sound, failed-sound}
+use Rattle.cover.proofs.Answers.{numbers-apart, target-numbers-apart}
+
+-- one place's two tests say what is published: x is what is asked for, tokens or a weight
+of-beyond : (entry x : ℕ) → beyond entry x ≡ false → CoversAt entry x
+of-beyond entry x e h = ltb-false entry x (rw (le-leb entry tokenLimit h) at e)
+
+beyond-of : (entry x : ℕ) → CoversAt entry x → beyond entry x ≡ false
+beyond-of entry x c = go (leb entry tokenLimit) refl
+  where
+    go : (b : Bool) → leb entry tokenLimit ≡ b → (leb entry tokenLimit && ltb entry x) ≡ false
+    go true e = rw e (le-ltb entry x (c (leb-true entry tokenLimit e)))
+    go false e = rw e
+
+-- a listed marking covers m
+covers-of : (P : ℕ) (c m : List ℕ) → length m ≡ P → covering c m ≡ true → Covers P c m
+covers-of P c m e q = record { at = λ p h. of-beyond (tokens c p) (tokens m p) (none-at (λ p. beyond (getD c p 0) (getD m p 0)) (length m) q p (omega arith)) }
+
+of-covers : (P : ℕ) (c m : List ℕ) → length m ≡ P → Covers P c m → covering c m ≡ true
+of-covers P c m e x = is-none (λ p. beyond (getD c p 0) (getD m p 0)) (length m) (λ p h. beyond-of (tokens c p) (tokens m p) (x .at p (omega arith)))
+
+module _ (P : ℕ) (l m : List ℕ) (e : length m ≡ P) where
+  pub of-covered : Covered P l m → covered P (count P l) l m ≡ true
+  of-covered h = some-is (λ k. covering (markingAt P l k) m) (count P l) (h .number) (h .inside) (of-covers P (markingAt P l (h .number)) m e (h .covers))
+
+  pub covered-of : covered P (count P l) l m ≡ true → Covered P l m
+  covered-of q =
+      let f = some-first (λ k. covering (markingAt P l k) m) (count P l) q in
+      let k = first (λ k. covering (markingAt P l k) m) (count P l) in
+      record { number = k; inside = f .0; covers = covers-of P (markingAt P l k) m e (f .1) }
+
+  pub uncovered-of : covered P (count P l) l m ≡ false → Covered P l m → ⊥
+  uncovered-of q h = never (sym (of-covered h) ∙ q)
+
+-- a transition at a listed marking c of as many places: enabled, and its result
+module _ (net : Net) (c : List ℕ) (t : ℕ) (long : length c ≡ net .places) where
+  able-of : t < net .transitions → able (row (net .places) t (net .pre)) c ≡ true → Able net c t
+  able-of h q =
+      record {
+        named = h;
+        enough = λ p b f.
+            rw (← row-at (net .places) t (net .pre) p b)
+            (of-beyond (tokens c p) (getD (row (net .places) t (net .pre)) p 0) (none-at (λ p. lacks (getD (row (net .places) t (net .pre)) p 0) (getD c p 0)) (length c) q p (omega arith)) f);
+      }
+
+  of-able : Able net c t → able (row (net .places) t (net .pre)) c ≡ true
+  of-able a =
+      is-none (λ p. lacks (getD (row (net .places) t (net .pre)) p 0) (getD c p 0)) (length c)
+      (λ p h.
+      let b : p < net .places = omega arith in
+      beyond-of (tokens c p) (getD (row (net .places) t (net .pre)) p 0) (λ f. rw (row-at (net .places) t (net .pre) p b) (a .enough p b f)))
+
+  result-long : length (firedAny (row (net .places) t (net .pre)) (row (net .places) t (net .post)) c) ≡ net .places
+  result-long = table-length (λ p. afterAny (getD (row (net .places) t (net .pre)) p 0) (getD (row (net .places) t (net .post)) p 0) (getD c p 0)) (length c) ∙ long
+
+  result-at : (p : ℕ) → p < net .places → tokens (firedAny (row (net .places) t (net .pre)) (row (net .places) t (net .post)) c) p ≡ afterAny (Pre net p t) (Post net p t) (tokens c p)
+  result-at p h =
+      rw (← row-at (net .places) t (net .pre) p h, ← row-at (net .places) t (net .post) p h)
+      (table-at (λ p. afterAny (getD (row (net .places) t (net .pre)) p 0) (getD (row (net .places) t (net .post)) p 0) (getD c p 0)) (length c) p 0 (omega arith))
+
+  -- a listed marking d covers the result exactly where it covers what the code makes
+  module _ (d : List ℕ) (a : Able net c t) where
+    result-covers : Covers (net .places) d (firedAny (row (net .places) t (net .pre)) (row (net .places) t (net .post)) c) → CoversResult net c t d
+    result-covers x = record { number = λ p h f. number p h f; at = λ p h f. at p h f (number p h f) }
+      where
+        less : (p : ℕ) → p < net .places → Finite (tokens d p) → afterAny (Pre net p t) (Post net p t) (tokens c p) ≤ tokens d p
+        less p h f = rw (← result-at p h) (x .at p h f)
+
+        number : (p : ℕ) → p < net .places → Finite (tokens d p) → Finite (tokens c p)
+        number p h f = go (decLe (tokens c p) tokenLimit)
+          where
+            go : Dec (tokens c p ≤ tokenLimit) → tokens c p ≤ tokenLimit
+            go (yes q) = q
+            go (no n) = absurd (n (omega (arith, rw (lt-leb (tokens c p) tokenLimit (omega arith)) at (less p h f))))
+
+        at : (p : ℕ) → p < net .places → Finite (tokens d p) → Finite (tokens c p) → tokens c p + Post net p t ≤ tokens d p + Pre net p t
+        at p h f g = omega (arith, rw (le-leb (tokens c p) tokenLimit g) at (less p h f))
+
+    covers-result : CoversResult net c t d → Covers (net .places) d (firedAny (row (net .places) t (net .pre)) (row (net .places) t (net .post)) c)
+    covers-result x =
+        record {
+          at = λ p h f.
+              rw (result-at p h, le-leb (tokens c p) tokenLimit (x .number p h f))
+              (omega (arith, x .at p h f));
+        }
+
+-- a pair's test says what is published
+module _ (net : Net) (l : List ℕ) (ready : Ready net (count (net .places) l) l) (k : ℕ) (h : k < count (net .places) l) (t : ℕ) where
+  long-at : length (markingAt (net .places) l k) ≡ net .places
+  long-at = marking-long (net .places) (count (net .places) l) l k (ready .long) h
+
+  covered-result : Able net (markingAt (net .places) l k) t → Covered (net .places) l (firedAny (row (net .places) t (net .pre)) (row (net .places) t (net .post)) (markingAt (net .places) l k)) → ResultCovered net l (markingAt (net .places) l k) t
+  covered-result a x = record { number = x .number; inside = x .inside; covers = result-covers net (markingAt (net .places) l k) t long-at (markingAt (net .places) l (x .number)) a (x .covers) }
+
+  result-covered : Able net (markingAt (net .places) l k) t → ResultCovered net l (markingAt (net .places) l k) t → Covered (net .places) l (firedAny (row (net .places) t (net .pre)) (row (net .places) t (net .post)) (markingAt (net .places) l k))
+  result-covered a x = record { number = x .number; inside = x .inside; covers = covers-result net (markingAt (net .places) l k) t long-at (markingAt (net .places) l (x .number)) a (x .covers) }
+
+  holds-of : missing net (count (net .places) l) l k t ≡ false → Holds net l k t
+  unfolding missing
+  holds-of q a =
+      let e = of-able net (markingAt (net .places) l k) t long-at a in
+      covered-result a
+      (covered-of (net .places) l (firedAny (row (net .places) t (net .pre)) (row (net .places) t (net .post)) (markingAt (net .places) l k)) (result-long net (markingAt (net .places) l k) t long-at) (not-false _ (rw e at q)))
+
+  missing-of : t < net .transitions → missing net (count (net .places) l) l k t ≡ true → Able net (markingAt (net .places) l k) t × (ResultCovered net l (markingAt (net .places) l k) t → ⊥)
+  unfolding missing
+  missing-of ht q =
+      let b = and-true (able (row (net .places) t (net .pre)) (markingAt (net .places) l k)) _ q in
+      let a = able-of net (markingAt (net .places) l k) t long-at ht (b .0) in (
+        a,
+        λ x. uncovered-of (net .places) l (firedAny (row (net .places) t (net .pre)) (row (net .places) t (net .post)) (markingAt (net .places) l k)) (result-long net (markingAt (net .places) l k) t long-at) (not-true _ (b .1)) (result-covered a x),
+      )
+
+  of-holds : Holds net l k t → t < net .transitions → missing net (count (net .places) l) l k t ≡ false
+  of-holds q ht = go (missing net (count (net .places) l) l k t) refl
+    where
+      go : (b : Bool) → missing net (count (net .places) l) l k t ≡ b → missing net (count (net .places) l) l k t ≡ false
+      go true e = let m = missing-of ht e in absurd (m .1 (q (m .0)))
+      go false e = e
+
+-- the answer about the results, taken apart: n markings
+module _ (net : Net) (n : ℕ) (l : List ℕ) where
+  results-accepted : results net n l ≡ list.Accepted → (k t : ℕ) → k < n → t < net .transitions → missing net n l k t ≡ false
+  unfolding results
+  results-accepted q k t hk ht = go (ltb (firstFailing net n l) n) refl
+    where
+      go : (b : Bool) → ltb (firstFailing net n l) n ≡ b → missing net n l k t ≡ false
+      go true e = let z : _≡_ {A = ℕ} 0 1 = cc (rw e at q) in absurd (omega arith)
+      go false e =
+          let x = ltb-false (firstFailing net n l) n e in
+          some-none (missing net n l k) (net .transitions) (first-below (fails net n l) n k (omega arith)) t ht
+
+  accepted-results : ((k t : ℕ) → k < n → t < net .transitions → missing net n l k t ≡ false) → results net n l ≡ list.Accepted
+  unfolding results
+  accepted-results lo = go (ltb (firstFailing net n l) n) refl
+    where
+      go : (b : Bool) → ltb (firstFailing net n l) n ≡ b → results net n l ≡ list.Accepted
+      go true e =
+          let x = ltb-true (firstFailing net n l) n e in
+          let f = some-first (missing net n l (firstFailing net n l)) (net .transitions) (first-passes (fails net n l) n x) in
+          never (sym (f .1) ∙ lo (firstFailing net n l) (lowestMissing net n l (firstFailing net n l)) x (f .0))
+      go false e = rw e
+
+  results-initial : results net n l ≡ list.Failed InitialMissing → ⊥
+  unfolding results
+  results-initial q = go (ltb (firstFailing net n l) n) refl
+    where
+      go : (b : Bool) → ltb (firstFailing net n l) n ≡ b → ⊥
+      go true e = let z : _≡_ {A = ℕ} 0 1 = cc (rw e at q) in omega arith
+      go false e = let z : _≡_ {A = ℕ} 0 1 = cc (rw e at q) in omega arith
+
+  record Found (k t : ℕ) : Type 0 where
+    inside : k < n
+    named : t < net .transitions
+    missed : missing net n l k t ≡ true
+    lower : (u : ℕ) → u < t → missing net n l k u ≡ false
+    earlier : (j u : ℕ) → j < k → u < net .transitions → missing net n l j u ≡ false
+
+  results-failed : (k t : ℕ) → results net n l ≡ list.Failed (ResultMissing k t) → Found k t
+  unfolding results
+  results-failed k t q = go (ltb (firstFailing net n l) n) refl
+    where
+      go : (b : Bool) → ltb (firstFailing net n l) n ≡ b → Found k t
+      go true e =
+          let x = ltb-true (firstFailing net n l) n e in
+          let f = some-first (missing net n l (firstFailing net n l)) (net .transitions) (first-passes (fails net n l) n x) in
+          let a : firstFailing net n l ≡ k = cc (rw e at q) in
+          let b : lowestMissing net n l (firstFailing net n l) ≡ t = cc (rw e at q) in
+          rw (← b, ← a)
+          (record {
+            inside = x;
+            named = f .0;
+            missed = f .1;
+            lower = λ u h. first-below (missing net n l (firstFailing net n l)) (net .transitions) u h;
+            earlier = λ j u h hu. some-none (missing net n l j) (net .transitions) (first-below (fails net n l) n j h) u hu;
+          })
+      go false e = let z : _≡_ {A = ℕ} 0 1 = cc (rw e at q) in absurd (omega arith)
+
+module _ (net : Net) (initial l : List ℕ) where
+  looked-accepted : looked net initial l ≡ list.Accepted → (covered (net .places) (count (net .places) l) l initial ≡ true) × (results net (count (net .places) l) l ≡ list.Accepted)
+  unfolding looked
+  looked-accepted q = go (covered (net .places) (count (net .places) l) l initial) refl
+    where
+      go : (b : Bool) → covered (net .places) (count (net .places) l) l initial ≡ b → (covered (net .places) (count (net .places) l) l initial ≡ true) × (results net (count (net .places) l) l ≡ list.Accepted)
+      go true e = (e, rw e at q)
+      go false e = let z : _≡_ {A = ℕ} 0 1 = cc (rw e at q) in absurd (omega arith)
+
+  accepted-looked : covered (net .places) (count (net .places) l) l initial ≡ true → results net (count (net .places) l) l ≡ list.Accepted → looked net initial l ≡ list.Accepted
+  unfolding looked
+  accepted-looked e q = rw e q
+
+  looked-initial : looked net initial l ≡ list.Failed InitialMissing → covered (net .places) (count (net .places) l) l initial ≡ false
+  unfolding looked
+  looked-initial q = go (covered (net .places) (count (net .places) l) l initial) refl
+    where
+      go : (b : Bool) → covered (net .places) (count (net .places) l) l initial ≡ b → covered (net .places) (count (net .places) l) l initial ≡ false
+      go true e = absurd (results-initial net (count (net .places) l) l (rw e at q))
+      go false e = e
+
+  looked-result : (k t : ℕ) → looked net initial l ≡ list.Failed (ResultMissing k t) → (covered (net .places) (count (net .places) l) l initial ≡ true) × (results net (count (net .places) l) l ≡ list.Failed (ResultMissing k t))
+  unfolding looked
+  looked-result k t q = go (covered (net .places) (count (net .places) l) l initial) refl
+    where
+      go : (b : Bool) → covered (net .places) (count (net .places) l) l initial ≡ b → (covered (net .places) (count (net .places) l) l initial ≡ true) × (results net (count (net .places) l) l ≡ list.Failed (ResultMissing k t))
+      go true e = (e, rw e at q)
+      go false e = let z : _≡_ {A = ℕ} 0 1 = cc (rw e at q) in absurd (omega arith)
+
+  module _ (fits : Bool) (next : Fault) where
+    -- a list that is not refused is accepted exactly if it is a cover list
+    pub accepted-cover : coverOf net initial l fits next ≡ list.Accepted → IsCover net initial l
+    accepted-cover q =
+        let a = accepted-sound net initial l fits next q in
+        let g = lent-of net initial l fits next (a .0) in
+        let k = looked-accepted (a .1) in
+        record {
+          starts = covered-of (net .places) l initial (g .start) (k .0);
+          holds = λ j t h x. holds-of net l (g .ready) j h t (results-accepted net (count (net .places) l) l (k .1) j t h (x .named)) x;
+        }
+
+    pub cover-accepted : coverFault net initial l fits next ≡ Sound → IsCover net initial l → coverOf net initial l fits next ≡ list.Accepted
+    cover-accepted q c =
+        let g = lent-of net initial l fits next q in
+        rw q
+        (accepted-looked (of-covered (net .places) l initial (g .start) (c .starts))
+        (accepted-results net (count (net .places) l) l (λ k t hk ht. of-holds net l (g .ready) k hk t (c .holds k t hk) ht)))
+
+    -- else its failure is: initial missing
+    pub initial-missing : coverOf net initial l fits next ≡ list.Failed InitialMissing → Covered (net .places) l initial → ⊥
+    initial-missing q =
+        let a = failed-sound net initial l fits next InitialMissing q in
+        uncovered-of (net .places) l initial (lent-of net initial l fits next (a .0) .start) (looked-initial (a .1))
+
+    -- or the first listed marking, and in it the lowest transition, whose result is not covered
+    pub result-missing : (k t : ℕ) → coverOf net initial l fits next ≡ list.Failed (ResultMissing k t) → Covered (net .places) l initial × FirstMissing net l k t
+    result-missing k t q =
+        let a = failed-sound net initial l fits next (ResultMissing k t) q in
+        let g = lent-of net initial l fits next (a .0) in
+        let b = looked-result k t (a .1) in
+        let f = results-failed net (count (net .places) l) l k t (b .1) in
+        let m = missing-of net l (g .ready) k (f .inside) t (f .named) (f .missed) in (
+          covered-of (net .places) l initial (g .start) (b .0),
+          record {
+            inside = f .inside;
+            able = m .0;
+            uncovered = m .1;
+            lower = λ u h. holds-of net l (g .ready) k (f .inside) u (f .lower u h);
+            earlier = λ j u h x. holds-of net l (g .ready) j (omega (arith, f .inside)) u (f .earlier j u h (x .named)) x;
+          },
+        )
+
+-- every marking reachable in the net with its capacities is covered by a listed one: capacities only disable
+pub cover-covers : {net : Net} {initial l m : List ℕ} → IsCover net initial l → Reachable net initial m → Covered (net .places) l m
+cover-covers {net} {initial} {l} {m} c r = reachable-has net (λ (x : List ℕ). Covered (net .places) l x) step r (c .starts)
+  where
+    step : (x y : List ℕ) (t : ℕ) → Firing net x t y → Covered (net .places) l x → Covered (net .places) l y
+    step x y t f h =
+        let a : Able net (markingAt (net .places) l (h .number)) t = record { named = f .named; enough = λ p b q. omega (arith, f .enabled .covers p b, h .covers .at p b q) } in
+        let d = c .holds (h .number) t (h .inside) a in
+        record {
+          number = d .number;
+          inside = d .inside;
+          covers = record { at = λ p b q. omega (arith, gives-plain (f .gives) p b, h .covers .at p b (d .covers .number p b q), d .covers .at p b q) };
+        }
+
+-- a target: asked of an accepted list
+module _ (net : Net) (initial l m : List ℕ) where
+  never-cases : targetOf net initial l m ≡ target.NeverCovered → (coverOf net initial l (eqb (length m) (net .places)) (targetFault m) ≡ list.Accepted) × (covered (net .places) (count (net .places) l) l m ≡ false)
+  never-cases q = go (coverOf net initial l (eqb (length m) (net .places)) (targetFault m)) refl (covered (net .places) (count (net .places) l) l m) refl
+    where
+      go : (c : Cover) → coverOf net initial l (eqb (length m) (net .places)) (targetFault m) ≡ c → (b : Bool) → covered (net .places) (count (net .places) l) l m ≡ b → (coverOf net initial l (eqb (length m) (net .places)) (targetFault m) ≡ list.Accepted) × (covered (net .places) (count (net .places) l) l m ≡ false)
+      go list.Accepted e false k = (e, k)
+      go list.Accepted e true k = let z : _≡_ {A = ℕ} 0 1 = cc (rw (e, k) at q) in absurd (omega arith)
+      go (list.Failed why) e b k = let z : _≡_ {A = ℕ} 0 1 = cc (rw e at q) in absurd (omega arith)
+      go (list.Refused n at) e b k = let z : _≡_ {A = ℕ} 0 1 = cc (rw e at q) in absurd (omega arith)
+
+  -- "a target that no listed marking covers is never covered by a reachable marking": one with at least as many tokens everywhere
+  pub target-never : targetOf net initial l m ≡ target.NeverCovered → (x : List ℕ) → Reachable net initial x → ((p : ℕ) → p < net .places → tokens m p ≤ tokens x p) → ⊥
+  target-never q x r more =
+      let c = never-cases q in
+      let a = accepted-sound net initial l (eqb (length m) (net .places)) (targetFault m) (c .0) in
+      let g = lent-of net initial l (eqb (length m) (net .places)) (targetFault m) (a .0) in
+      let y = cover-covers (accepted-cover net initial l (eqb (length m) (net .places)) (targetFault m) (c .0)) r in
+      uncovered-of (net .places) l m (eqb-true _ _ (g .agrees)) (c .1)
+      (record { number = y .number; inside = y .inside; covers = record { at = λ p b f. omega (arith, y .covers .at p b f, more p b) } })
+
+-- each promise fixes its answer
+module _ (net : Net) (initial l : List ℕ) where
+  pub unique-list : (r r′ : Cover) → numbers r ≡ numbers (coverOf net initial l true Sound) → numbers r′ ≡ numbers (coverOf net initial l true Sound) → r ≡ r′
+  unique-list r r′ p q = numbers-apart r r′ (p ∙ sym q)
+
+  pub unique-target : (m : List ℕ) (r r′ : CoverTarget) → targetNumbers r ≡ targetNumbers (targetOf net initial l m) → targetNumbers r′ ≡ targetNumbers (targetOf net initial l m) → r ≡ r′
+  unique-target m r r′ p q = target-numbers-apart r r′ (p ∙ sym q)

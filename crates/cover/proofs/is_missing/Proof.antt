@@ -1,0 +1,118 @@
+use Prim.Native.Nat.{_+_, _*_, _≤_}
+use native.Mathlib.Omega.{arith}
+use native.Mathlib.Nat.{add-sub-cancel-left}
+use lib.ListN.{length}
+use denote.Ref.{now}
+use Rattle.net.specs.Net.{Net, netOf}
+use Rattle.net.proofs.Rows.{pre-end, post-end}
+use Rattle.lists.proofs.Wholes.{fronts}
+use Rattle.cover.specs.Looking.{missing}
+use Rattle.cover.proofs.Looks.{pair-end, pair-long, rows-long}
+use borrow.Author.Needs.{needs}
+use Rattle.cover.proofs.is_missing.Statement.{statement}
+use Rattle.cover.proofs.is_missing.Tie as tie
+
+-- the net at the function's entry, and the ends of its rows and of the listed marking
+at : tie.Start → Net
+at s = netOf (s .args .places) (s .args .transitions) (now (s .args .pre)) (now (s .args .post)) (now (s .args .caps))
+
+list-ends : (s : tie.Start) → s .args .k * s .args .places + s .args .places ≤ length (now (s .args .list))
+unfolding at
+list-ends s = pair-end (at s) (s .args .count) (now (s .args .list)) (s .args .k) (s .pre .0) (s .pre .1 .0)
+
+pre-ends : (s : tie.Start) → s .args .t * s .args .places + s .args .places ≤ length (now (s .args .pre))
+unfolding at
+pre-ends s = pre-end (at s) (now (s .args .list)) (s .args .t) (s .pre .0 .sized) (s .pre .1 .1)
+
+post-ends : (s : tie.Start) → s .args .t * s .args .places + s .args .places ≤ length (now (s .args .post))
+unfolding at
+post-ends s = post-end (at s) (now (s .args .list)) (s .args .t) (s .pre .0 .sized) (s .pre .1 .1)
+
+no-tokens-requires : tie.Need-no-tokens-requires
+no-tokens-requires c κs = search needs
+
+mul-a : tie.Need-mul-a
+mul-a c = let s : tie.Start = search needs in omega (arith, list-ends s)
+
+add-e : tie.Need-add-e
+add-e c = let s : tie.Start = search needs in omega (arith, list-ends s)
+
+mul-b : tie.Need-mul-b
+mul-b c = let s : tie.Start = search needs in omega (arith, pre-ends s)
+
+add-f : tie.Need-add-f
+add-f c = let s : tie.Start = search needs in omega (arith, pre-ends s)
+
+sub-is-uncovered : tie.Need-sub-is-uncovered
+sub-is-uncovered c = search needs
+
+part-is-uncovered-start : tie.Need-part-is-uncovered-start
+part-is-uncovered-start c = search needs
+
+part-is-uncovered-end : tie.Need-part-is-uncovered-end
+part-is-uncovered-end c = let s : tie.Start = search needs in omega (arith, pre-ends s)
+
+sub-is-uncovered-2 : tie.Need-sub-is-uncovered-2
+sub-is-uncovered-2 c = search needs
+
+part-is-uncovered-start-2 : tie.Need-part-is-uncovered-start-2
+part-is-uncovered-start-2 c = search needs
+
+part-is-uncovered-end-2 : tie.Need-part-is-uncovered-end-2
+part-is-uncovered-end-2 c = let s : tie.Start = search needs in omega (arith, post-ends s)
+
+mul-is-uncovered : tie.Need-mul-is-uncovered
+mul-is-uncovered c = let s : tie.Start = search needs in omega (arith, list-ends s)
+
+sub-is-uncovered-3 : tie.Need-sub-is-uncovered-3
+sub-is-uncovered-3 c = search needs
+
+part-is-uncovered-start-3 : tie.Need-part-is-uncovered-start-3
+part-is-uncovered-start-3 c = search needs
+
+part-is-uncovered-end-3 : tie.Need-part-is-uncovered-end-3
+part-is-uncovered-end-3 c = let s : tie.Start = search needs in omega (arith, list-ends s)
+
+array-borrow-prefix-room : tie.Need-array-borrow-prefix-room
+array-borrow-prefix-room c = search needs
+
+slice-aggregate-is-uncovered : tie.Need-slice-aggregate-is-uncovered
+slice-aggregate-is-uncovered c = search (fronts, needs)
+
+is-uncovered-requires : tie.Need-is-uncovered-requires
+unfolding at
+is-uncovered-requires c κs =
+    let s : tie.Start = search needs in
+    let l = pair-long (at s) (s .args .count) (now (s .args .list)) (s .args .k) (s .pre .0) (s .pre .1 .0) in
+    let r = rows-long (at s) (s .args .t) (s .pre .0 .sized) (s .pre .1 .1) in
+    simp add-sub-cancel-left (search needs, ((l, search (fronts, needs)), (r .0, r .1)))
+
+returns : tie.Need-returns
+unfolding missing
+returns c =
+    let f : tie.After-is-uncovered = search needs in
+    simp add-sub-cancel-left at (f .is-uncovered .ensures)
+
+pub is-missing-spec : {M : Type 1} → statement M
+is-missing-spec =
+    tie.close
+    (tie.spec
+    no-tokens-requires
+    mul-a
+    add-e
+    mul-b
+    add-f
+    sub-is-uncovered
+    part-is-uncovered-start
+    part-is-uncovered-end
+    sub-is-uncovered-2
+    part-is-uncovered-start-2
+    part-is-uncovered-end-2
+    mul-is-uncovered
+    sub-is-uncovered-3
+    part-is-uncovered-start-3
+    part-is-uncovered-end-3
+    array-borrow-prefix-room
+    slice-aggregate-is-uncovered
+    is-uncovered-requires
+    returns)

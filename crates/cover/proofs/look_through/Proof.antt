@@ -1,0 +1,23 @@
+use Rattle.cover.proofs.Looks.{looks}
+use borrow.Author.Needs.{needs}
+use Rattle.cover.proofs.look_through.Statement.{statement}
+use Rattle.cover.proofs.look_through.Tie as tie
+
+div-n : tie.Need-div-n
+div-n c = search needs
+
+has-cover-requires : tie.Need-has-cover-requires
+has-cover-requires c κs = search needs
+
+first-missing-requires : tie.Need-first-missing-requires
+first-missing-requires c κs = search needs
+
+returns : tie.Need-returns
+returns c = search (looks, needs)
+
+returns-2 : tie.Need-returns-2
+returns-2 c = search (looks, needs)
+
+pub look-through-spec : {M : Type 1} → statement M
+look-through-spec =
+    tie.close (tie.spec div-n has-cover-requires first-missing-requires returns returns-2)

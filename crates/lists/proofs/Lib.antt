@@ -1,0 +1,2 @@
+pub mod Somes
+pub mod Wholes

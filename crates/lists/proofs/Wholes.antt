@@ -1,0 +1,131 @@
+-- Laws of lists of markings: which refusal, what a list that is not refused has, and its markings. Assumes nothing.
+use Prim.Native.Nat.{ℕ, zero, suc, _+_, _*_, _/_, _%_, _≤_, _<_, zero-le}
+use mathlib.Core.Path.{_≡_, refl, sym, ap, _∙_}
+use mathlib.Core.Bool.{Bool, true, false, _&&_, _||_}
+use mathlib.Core.List.{List, [], _∷_}
+use native.Mathlib.Omega.{arith}
+use native.Mathlib.Nat.{div-add-mod'}
+use native.Mathlib.Decide.{decLt}
+use lib.ListN.{length, getD, take, drop, length-drop, List·getD-eq-default}
+use lib.Dec.{ltb, eqb}
+use borrow.Author.Tests.{lt-ltb, le-ltb, ltb-true, ltb-false, eqb-true}
+use lib.Seq.{length-take-le}
+use Rattle.ground.specs.Limits.{countLimit, tokenLimit, listLimit}
+use Rattle.ground.specs.Lists.{first}
+use Rattle.ground.proofs.Tests.{and-true, or-false}
+use Rattle.ground.proofs.Scan.{first-below}
+use Rattle.net.specs.Letter.{Small}
+use Rattle.net.specs.declared.Fault.{Fault}
+use Rattle.net.specs.declared.Fault.the-variants.{Sound, Faulty}
+use Rattle.net.proofs.Rows.{row-end, row-at}
+use Rattle.net.proofs.Refusals.{refuse-sound}
+use Rattle.lists.specs.declared.Failure.{Failure}
+use Rattle.lists.specs.declared.Failure.the-variants.{InitialMissing, ResultMissing}
+use Rattle.lists.specs.Whole.{count, markingAt, whole, lowestAny, targetFault, sizeFault, failureNumbers}
+
+-- whether the list is made of whole markings
+module _ (P : ℕ) (list : List ℕ) where
+  pub whole-some : 0 < P → eqb (length list % P) 0 ≡ whole P list
+  whole-some h = rw (lt-ltb 0 P h)
+
+  pub whole-none : P ≤ 0 → false ≡ whole P list
+  whole-none h = rw (le-ltb 0 P h)
+
+  -- such a list is as long as its markings
+  pub whole-long : whole P list ≡ true → length list ≡ count P list * P
+  whole-long e =
+      let z = eqb-true (length list % P) 0 (and-true (ltb 0 P) (eqb (length list % P) 0) e .1) in
+      omega (arith, div-add-mod' (length list) P)
+
+pub ruleset wholes = (whole-some, whole-none)
+
+-- which refusal 9
+module _ (P : ℕ) (list : List ℕ) (n : ℕ) (e : n ≡ count P list) where
+  pub size-none : n < 1 → Faulty 9 0 ≡ sizeFault P list
+  unfolding sizeFault
+  size-none h = rw (← e, lt-ltb n 1 h)
+
+  pub size-many : 1 ≤ n → listLimit < n → Faulty 9 0 ≡ sizeFault P list
+  unfolding sizeFault
+  size-many h l = rw (← e, le-ltb n 1 h, lt-ltb listLimit n l)
+
+  pub size-fine : 1 ≤ n → n ≤ listLimit → Sound ≡ sizeFault P list
+  unfolding sizeFault
+  size-fine h l = rw (← e, le-ltb n 1 h, le-ltb listLimit n l)
+
+pub ruleset sizes = (size-none, size-many, size-fine)
+
+-- a list that is not refused has 1 to 4,096 markings
+pub sized-list : (P : ℕ) (list : List ℕ) → sizeFault P list ≡ Sound → (1 ≤ count P list) × (count P list ≤ listLimit)
+unfolding sizeFault
+sized-list P list e =
+    let a = or-false (ltb (count P list) 1) (ltb listLimit (count P list)) (refuse-sound _ 9 0 e) in
+    (ltb-false (count P list) 1 (a .0), ltb-false listLimit (count P list) (a .1))
+
+-- which refusal of a target
+module _ (target : List ℕ) (p : ℕ) (e : p ≡ lowestAny target) where
+  pub target-any : p < length target → Faulty 3 p ≡ targetFault target
+  unfolding targetFault
+  target-any h = rw (← e, lt-ltb p (length target) h)
+
+  pub target-fine : length target ≤ p → Sound ≡ targetFault target
+  unfolding targetFault
+  target-fine h = rw (← e, le-ltb p (length target) h)
+
+pub ruleset targets = (target-any, target-fine)
+
+-- a target that is not refused has no 65,535
+pub target-few : (target : List ℕ) → targetFault target ≡ Sound → Small tokenLimit target
+unfolding targetFault
+target-few target e =
+    let x = ltb-false (lowestAny target) (length target) (refuse-sound _ 3 (lowestAny target) e) in
+    record { at = λ p. go p (decLt p (length target)) x }
+  where
+    go : (p : ℕ) → Dec (p < length target) → length target ≤ lowestAny target → getD target p 0 ≤ tokenLimit
+    go p (yes h) x = ltb-false tokenLimit (getD target p 0) (first-below (λ p. ltb tokenLimit (getD target p 0)) (length target) p (omega arith))
+    go p (no n) x = rw (List·getD-eq-default target 0 {n = p} (omega arith)) zero-le
+
+-- the numbers tell any two failures apart
+pub failures-apart : (a b : Failure) → failureNumbers a ≡ failureNumbers b → a ≡ b
+failures-apart InitialMissing InitialMissing e = refl
+failures-apart InitialMissing (ResultMissing k t) e = let z : _≡_ {A = ℕ} 1 2 = cc in absurd (omega arith)
+failures-apart (ResultMissing k t) InitialMissing e = let z : _≡_ {A = ℕ} 2 1 = cc in absurd (omega arith)
+failures-apart (ResultMissing k t) (ResultMissing l u) e =
+    let a : k ≡ l = cc in
+    let b : t ≡ u = cc in
+    rw (a, b)
+
+-- the front of such a room, for P places
+module _ (P : ℕ) (room : List ℕ) (long : length room ≡ countLimit) (few : P ≤ countLimit) where
+  pub front-long : length (take P room) ≡ P
+  front-long = length-take-le P room (omega arith)
+
+  pub long-front : P ≡ length (take P room)
+  long-front = sym front-long
+
+pub ruleset fronts = (front-long, long-front)
+
+-- marking number k of a list of n whole markings
+module _ (P n : ℕ) (list : List ℕ) (k : ℕ) (long : length list ≡ n * P) (h : k < n) where
+  pub marking-end : k * P + P ≤ length list
+  marking-end = omega (arith, row-end k n P h)
+
+  pub marking-long : length (markingAt P list k) ≡ P
+  marking-long = length-take-le P (drop (k * P) list) (rw length-drop (omega (arith, marking-end)))
+
+  -- its entries are the list's
+  pub marking-small : (b : ℕ) → Small b list → Small b (markingAt P list k)
+  marking-small b s = record { at = λ p. go p (decLt p P) }
+    where
+      go : (p : ℕ) → Dec (p < P) → getD (markingAt P list k) p 0 ≤ b
+      go p (yes l) = rw (row-at P k list p l) (s .at (k * P + p))
+      go p (no x) = rw (List·getD-eq-default (markingAt P list k) 0 {n = p} (omega (arith, marking-long))) zero-le
+
+-- no other case of an answer has a failure's numbers: 0 is the answer looked for, 3 is not shown
+pub not-failure : (why : Failure) (n : ℕ) → (n ≡ 1 → ⊥) → n ∷ [] ≡ failureNumbers why → ⊥
+not-failure InitialMissing n h e = h (cc)
+not-failure (ResultMissing k t) n h e = let z : _≡_ {A = ℕ} 0 1 = cc in absurd (omega arith)
+
+-- a part from the front is as long as it says
+pub part-long : (n : ℕ) (l : List ℕ) → n ≤ length l → n ≡ length (take n l)
+part-long n l h = sym (length-take-le n l h)
