@@ -6,7 +6,7 @@ use mathlib.Core.List.{List}
 use native.Mathlib.Omega.{arith}
 use native.Mathlib.Decide.{decLt}
 use lib.ListN.{length, getD}
-use lib.Seq.{ext-getD}
+use lib.Signed.{clashℤ}
 use lib.Dec.{ltb, eqb}
 use borrow.Author.Tests.{lt-ltb, le-ltb, ltb-true, ltb-false, eq-eqb}
 use Rattle.ground.specs.Limits.{noCapacity}
@@ -137,3 +137,16 @@ module _ (net : Net) (m : List ℕ) (t : ℕ) (long : length m ≡ net .places) 
       go true q s k = let z : _≡_ {A = ℕ} 0 1 = cc (rw q at e) in absurd (omega arith)
       go false q true k = rw (stopped q, k) (short-named (ltb-true _ _ k))
       go false q false k = rw (stopped q, k) (over-named q (ltb-false _ _ k))
+
+-- the answer `Passes` says that no place stops the letter
+pub passes-judged : (net : Net) (m : List ℕ) (t : ℕ) → judgeAt net t m ≡ Passes → passes (arcsAt net t) m ≡ true
+passes-judged net m t e = go (passes (arcsAt net t) m) refl
+  where
+    go : (b : Bool) → passes (arcsAt net t) m ≡ b → passes (arcsAt net t) m ≡ true
+    go true q = q
+    go false q = let z : _≡_ {A = ℕ} 0 1 = cc (rw q at e) in absurd (omega arith)
+
+-- a letter that has a cause named is not enabled
+pub named-stops : (net : Net) (m : List ℕ) (t : ℕ) (why : Cause) → Names net m t why → Enabled net m t → ⊥
+named-stops net m t (Short p) n e = let c = e .covers p (n .here) in let s = n .short in omega arith
+named-stops net m t (Over p) n e = clashℤ (n .over .1) (e .keeps p (n .here) (n .over .0))

@@ -16,8 +16,7 @@ use Rattle.ground.specs.Lists.{first}
 use Rattle.ground.proofs.Tests.{never, or-false, both-false, and-true, unlike-false, like-false}
 use Rattle.ground.proofs.Scan.{first-none, first-below}
 use Rattle.net.specs.Net.{Net}
-use Rattle.net.specs.Letter.{Small}
-use Rattle.net.specs.Given.{refuse, orElse, outside, unlike, misfit, tokenBad, badToken, netFault, markingFault, firstFault, badLetter, wordFault, Sized, Letters}
+use Rattle.net.specs.Given.{refuse, orElse, outside, unlike, misfit, tokenBad, badToken, netFault, markingFault, firstFault, badLetter, wordFault, Sized, Fine, Letters}
 use Rattle.net.specs.declared.Fault.{Fault}
 use Rattle.net.specs.declared.Fault.the-variants.{Sound, Faulty}
 
@@ -158,11 +157,6 @@ unfit-all net initial next = go (eqb (length initial) (net .places))
     go : (b : Bool) → orElse (orElse (netFault net (b && false)) (markingFault (net .caps) initial)) next ≡ orElse (netFault net (b && false)) (markingFault (net .caps) initial)
     go true = rw (unfit-first net (markingFault (net .caps) initial)) (unfit-first net next)
     go false = rw (unfit-first net (markingFault (net .caps) initial)) (unfit-first net next)
-
--- what a marking that is not refused has: few tokens, and no more than the capacity
-pub record Fine (caps m : List ℕ) : Type 0 where
-  pub few : Small tokenLimit m
-  pub within : (p : ℕ) → p < length m → getD m p 0 ≤ getD caps p 0
 
 pub fine-of : (caps m : List ℕ) → markingFault caps m ≡ Sound → Fine caps m
 unfolding markingFault

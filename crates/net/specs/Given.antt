@@ -8,6 +8,7 @@ use lib.Dec.{ltb, leb, eqb}
 use Rattle.ground.specs.Limits.{countLimit, tokenLimit, wordLimit}
 use Rattle.ground.specs.Lists.{first}
 use Rattle.net.specs.Net.{Net}
+use Rattle.net.specs.Letter.{Small}
 use Rattle.net.specs.declared.Fault.{Fault}
 use Rattle.net.specs.declared.Fault.the-variants.{Sound, Faulty}
 
@@ -81,6 +82,11 @@ pub record Sized (net : Net) : Type 0 where
   pub pres : length (net .pre) ≡ net .transitions * net .places
   pub posts : length (net .post) ≡ net .transitions * net .places
   pub capped : length (net .caps) ≡ net .places
+
+-- a given marking with no more tokens than allowed at any place, nor than its capacity
+pub record Fine (caps m : List ℕ) : Type 0 where
+  pub few : Small tokenLimit m
+  pub within : (p : ℕ) → p < length m → getD m p 0 ≤ getD caps p 0
 
 -- each letter names a transition
 pub record Letters (n : ℕ) (w : List ℕ) : Type 0 where

@@ -1,0 +1,104 @@
+-- Laws of the whole answer: the refusal that is given, or the replay that was run. Assumes nothing.
+use Prim.Native.Nat.{ℕ, _≤_, _<_}
+use mathlib.Core.Path.{_≡_, refl, sym, ap, _∙_}
+use mathlib.Core.Bool.{Bool, true, false, _&&_, and-false}
+use mathlib.Core.List.{List}
+use native.Mathlib.Omega.{arith}
+use lib.ListN.{length}
+use lib.Dec.{leb, eqb}
+use borrow.Author.Tests.{eqb-true, le-leb, lt-leb}
+use Rattle.ground.specs.Limits.{tokenLimit, wordLimit}
+use Rattle.ground.proofs.Tests.{never, and-true}
+use Rattle.net.specs.Net.{Net}
+use Rattle.net.specs.Letter.{Small}
+use Rattle.net.specs.Given.{orElse, firstFault, wordFault, stretch, inside, Sized, Fine, Letters}
+use Rattle.net.specs.declared.Fault.{Fault}
+use Rattle.net.specs.declared.Fault.the-variants.{Sound, Faulty}
+use Rattle.net.proofs.Refusals.{or-sound, sound-or, first-sound, sound-first, word-sound, sound-word, unfit-all}
+use Rattle.replay.specs.Replay.{Ran, playFrom, Ended}
+use Rattle.replay.specs.Entry.{replayFault, answered, replayOf, numbers, Replayed}
+use Rattle.replay.specs.declared.Replay.{Replay}
+use Rattle.replay.specs.declared.Replay.the-variants.{Refused}
+
+-- which refusal: found is what the first three tests gave
+module _ (net : Net) (initial w : List ℕ) (fits : Bool) (found : Fault) (e : found ≡ firstFault net initial fits) where
+  pub replay-first : (n at : ℕ) → found ≡ Faulty n at → Faulty n at ≡ replayFault net initial w fits
+  unfolding replayFault
+  replay-first n at q = rw (← e, q)
+
+  pub replay-word : (r : Fault) → found ≡ Sound → r ≡ wordFault (net .transitions) w → r ≡ replayFault net initial w fits
+  unfolding replayFault
+  replay-word r q k = rw (← e, q) k
+
+pub ruleset replay-faults = (replay-first, replay-word)
+
+-- nothing is refused exactly where all this holds
+pub record Sane (net : Net) (initial w : List ℕ) (fits : Bool) : Type 0 where
+  pub sized : Sized net
+  pub marked : length initial ≡ net .places
+  pub fitting : fits ≡ true
+  pub fine : Fine (net .caps) initial
+  pub short : length w ≤ wordLimit
+  pub letters : Letters (net .transitions) w
+
+pub sane-of : (net : Net) (initial w : List ℕ) (fits : Bool) → replayFault net initial w fits ≡ Sound → Sane net initial w fits
+unfolding replayFault
+sane-of net initial w fits e =
+    let a = or-sound (firstFault net initial fits) (wordFault (net .transitions) w) e in
+    let f = first-sound net initial fits (a .0) in
+    let l = word-sound (net .transitions) w (a .1) in
+    record { sized = f .0; marked = f .1; fitting = f .2; fine = f .3; short = l .0; letters = l .1 }
+
+pub sane-is : (net : Net) (initial w : List ℕ) (fits : Bool) → Sane net initial w fits → replayFault net initial w fits ≡ Sound
+unfolding replayFault
+sane-is net initial w fits s =
+    sound-or _ _ (sound-first net initial fits (s .sized) (s .marked) (s .fitting) (s .fine)) (sound-word (net .transitions) w (s .short) (s .letters))
+
+-- where the room or the stretch does not fit, the letters do not matter
+unfit-same : (net : Net) (initial u w room : List ℕ) → replayOf net initial u false room ≡ replayOf net initial w false room
+unfolding replayFault
+unfit-same net initial u w room = rw and-false (rw (unfit-all net initial (wordFault (net .transitions) u), unfit-all net initial (wordFault (net .transitions) w)) (go (firstFault net initial false) refl))
+  where
+    go : (f : Fault) → firstFault net initial false ≡ f → answered (firstFault net initial false) (playFrom net 0 initial u) room ≡ answered (firstFault net initial false) (playFrom net 0 initial w) room
+    go (Faulty n at) e = rw e
+    go Sound e = never (sym (first-sound net initial false e .2))
+
+-- the answer, from the fault that was found
+module _ (net : Net) (initial w : List ℕ) (within : Bool) (room : List ℕ) (fits : Bool) (found : Fault)
+    (ef : fits ≡ (eqb (length room) (net .places) && within)) (e : found ≡ replayFault net initial w fits) where
+  is-found : (f : Fault) → found ≡ f → replayFault net initial w (eqb (length room) (net .places) && within) ≡ f
+  is-found f q = rw (← ef) (sym e ∙ q)
+
+  pub replayed-refused : (n at : ℕ) → found ≡ Faulty n at → Replayed net initial w within room (Refused n at) room
+  replayed-refused n at q = record { answer = rw (is-found (Faulty n at) q); left = rw (is-found (Faulty n at) q) }
+
+  pub replayed-ended : (m : List ℕ) (r : Replay) (m′ : List ℕ) → found ≡ Sound → m ≡ initial → Ended net m w r m′ → Replayed net initial w within room r m′
+  replayed-ended m r m′ q l p =
+      record { answer = rw (is-found Sound q, ← l) (ap numbers (p .answer)); left = rw (is-found Sound q, ← l) (p .left) }
+
+  pub sane-room : found ≡ Sound → Sane net initial w (eqb (length room) (net .places) && within)
+  sane-room q = sane-of net initial w (eqb (length room) (net .places) && within) (is-found Sound q)
+
+pub ruleset replayeds = (replayed-refused, replayed-ended)
+
+pub room-long : (net : Net) (initial w : List ℕ) (within : Bool) (room : List ℕ) → Sane net initial w (eqb (length room) (net .places) && within) → length initial ≡ length room
+room-long net initial w within room s =
+    s .marked ∙ sym (eqb-true (length room) (net .places) (and-true (eqb (length room) (net .places)) within (s .fitting) .0))
+
+-- a stretch is a part of its word, or does not fit
+module _ (net : Net) (initial w : List ℕ) (a b : ℕ) (room : List ℕ) (r : Replay) (room′ : List ℕ) where
+  pub stretch-inside : a ≤ b → b ≤ length w → Replayed net initial (stretch w a b) true room r room′ → Replayed net initial (stretch w a b) (inside w a b) room r room′
+  stretch-inside h l p = rw (le-leb a b h, le-leb b (length w) l) p
+
+  not-inside : inside w a b ≡ false → Replayed net initial w false room r room′ → Replayed net initial (stretch w a b) (inside w a b) room r room′
+  not-inside e p =
+      let q = unfit-same net initial (stretch w a b) w room in
+      rw e (record { answer = p .answer ∙ sym (ap (λ (z : Ran). numbers (z .answer)) q); left = p .left ∙ sym (ap (λ (z : Ran). z .left) q) })
+
+  pub stretch-past : length w < b → Replayed net initial w false room r room′ → Replayed net initial (stretch w a b) (inside w a b) room r room′
+  stretch-past h p = not-inside (rw (lt-leb b (length w) h) (and-false (leb a b))) p
+
+  pub stretch-back : b < a → Replayed net initial w false room r room′ → Replayed net initial (stretch w a b) (inside w a b) room r room′
+  stretch-back h p = not-inside (rw (lt-leb a b h)) p
+
+pub ruleset stretches = (stretch-inside, stretch-past, stretch-back)

@@ -1,0 +1,76 @@
+use Prim.Native.Nat.{_-_}
+use lib.ListN.{length}
+use denote.Ref.{now}
+use native.Mathlib.Omega.{arith}
+use Rattle.net.specs.Net.{netOf}
+use Rattle.net.specs.Firing.{Light}
+use Rattle.replay.proofs.Words.{Running, runs}
+use borrow.Author.Needs.{needs}
+use Rattle.replay.proofs.play_word.Statement.{statement}
+use Rattle.replay.proofs.play_word.Tie as tie
+
+abbrev Inv-loop : tie.InvT-loop
+Inv-loop places transitions pre post caps word marking₀ i₀ marking i = Running (netOf places transitions pre post caps) marking₀ word i marking
+
+abbrev μ-loop : tie.MeasureT-loop
+μ-loop places transitions pre post caps word marking₀ i₀ marking i = length word - i
+
+loop-holds : tie.Need-loop-holds Inv-loop μ-loop
+loop-holds c = search (runs, needs)
+
+shared-slice-read-play-letter : tie.Need-shared-slice-read-play-letter Inv-loop μ-loop
+shared-slice-read-play-letter c = search needs
+
+play-letter-requires : tie.Need-play-letter-requires Inv-loop μ-loop
+play-letter-requires c κs = (search (runs, needs), (search (runs, needs), (search (runs, needs), search (runs, needs))))
+
+enum-told : tie.Need-enum-told Inv-loop μ-loop
+enum-told c = search needs
+
+add-i : tie.Need-add-i Inv-loop μ-loop
+add-i c = search needs
+
+loop-less : tie.Need-loop-less Inv-loop μ-loop
+loop-less c = search needs
+
+loop-again : tie.Need-loop-again Inv-loop μ-loop
+loop-again c =
+    let s : tie.After-shared-slice-known2 Inv-loop μ-loop = search needs in
+    let a = s .before .before .args in
+    let l : Light (netOf (a .places) (a .transitions) (now (a .pre)) (now (a .post)) (now (a .caps))) =
+    record { pre = λ k. omega (arith, s .before .shared-slice-known .given k); post = λ k. omega (arith, s .shared-slice-known2 .given k) } in
+    search (runs, needs)
+
+enum-known-played : tie.Need-enum-known-played Inv-loop μ-loop
+enum-known-played c = search needs
+
+same-length : tie.Need-same-length Inv-loop μ-loop
+same-length c = search needs
+
+returns : tie.Need-returns Inv-loop μ-loop
+returns c = search (runs, needs)
+
+same-length-2 : tie.Need-same-length-2 Inv-loop μ-loop
+same-length-2 c = search needs
+
+returns-2 : tie.Need-returns-2 Inv-loop μ-loop
+returns-2 c = search (runs, needs)
+
+pub play-word-spec : {M : Type 1} → statement M
+play-word-spec =
+    tie.close
+    (tie.spec
+    Inv-loop
+    μ-loop
+    loop-holds
+    shared-slice-read-play-letter
+    play-letter-requires
+    enum-told
+    add-i
+    loop-less
+    loop-again
+    enum-known-played
+    same-length
+    returns
+    same-length-2
+    returns-2)

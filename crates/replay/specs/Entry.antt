@@ -1,0 +1,74 @@
+-- The public replay: refusals 1 to 5 "in number order", else the replay from the initial marking.
+use Prim.Native.Nat.{ℕ, _≤_, _<_}
+use mathlib.Core.Path.{_≡_}
+use mathlib.Core.Bool.{Bool, true, _&&_}
+use mathlib.Core.List.{List, [], _∷_}
+use lib.ListN.{length, take}
+use lib.Dec.{eqb}
+use Rattle.ground.specs.Limits.{wordLimit}
+use Rattle.net.specs.Net.{Net}
+use Rattle.net.specs.Firing.{Fires}
+use Rattle.net.specs.Given.{orElse, firstFault, wordFault, Sized, Fine, Letters}
+use Rattle.net.specs.declared.Cause.{Cause}
+use Rattle.net.specs.declared.Cause.the-variants.{Short, Over}
+use Rattle.net.specs.declared.Fault.{Fault}
+use Rattle.net.specs.declared.Fault.the-variants.{Sound, Faulty}
+use Rattle.replay.specs.Replay.{Ran, playFrom}
+use Rattle.replay.specs.declared.Replay.{Replay}
+use Rattle.replay.specs.declared.Replay.the-variants.{Fired, Blocked, Refused}
+
+-- 1, 2, 3, then 4 and 5; `fits` tells whether the room's length and the stretch's ends are right
+unfoldable pub replayFault : Net → List ℕ → List ℕ → Bool → Fault
+replayFault net initial w fits = orElse (firstFault net initial fits) (wordFault (net .transitions) w)
+
+-- "A refusal leaves lent memory as found."
+abbrev pub answered : Fault → Ran → List ℕ → Ran
+answered Sound ran room = ran
+answered (Faulty n at) ran room = record { answer = Refused n at; left = room }
+
+-- the whole answer to the word w, where `within` tells whether it is a stretch inside its word
+abbrev pub replayOf : Net → List ℕ → List ℕ → Bool → List ℕ → Ran
+replayOf net initial w within room =
+    answered (replayFault net initial w (eqb (length room) (net .places) && within)) (playFrom net 0 initial w) room
+
+-- document 01's numbers for each case: 81 00 and the letters fired; 81 01 (short) or 81 02 (over), position and place;
+-- 82, a refusal's number and position
+abbrev pub causeNumber : Cause → ℕ
+causeNumber (Short p) = 1
+causeNumber (Over p) = 2
+
+abbrev pub causePlace : Cause → ℕ
+causePlace (Short p) = p
+causePlace (Over p) = p
+
+abbrev pub numbers : Replay → List ℕ
+numbers (Fired n) = 0x81 ∷ 0 ∷ n ∷ []
+numbers (Blocked i why) = 0x81 ∷ causeNumber why ∷ i ∷ causePlace why ∷ []
+numbers (Refused n at) = 0x82 ∷ n ∷ at ∷ []
+
+-- what a replay promises of its answer r and of the room at its end
+pub record Replayed (net : Net) (initial w : List ℕ) (within : Bool) (room : List ℕ) (r : Replay) (room′ : List ℕ) : Type 0 where
+  pub answer : numbers r ≡ numbers (replayOf net initial w within room .answer)
+  pub left : room′ ≡ replayOf net initial w within room .left
+
+-- all that document 01 asks of what a replay is lent: nothing is refused exactly where this holds
+pub record Allowed (net : Net) (initial w : List ℕ) (within : Bool) (room : List ℕ) : Type 0 where
+  pub sized : Sized net
+  pub marked : length initial ≡ net .places
+  pub roomy : length room ≡ net .places
+  pub inside : within ≡ true
+  pub fine : Fine (net .caps) initial
+  pub short : length w ≤ wordLimit
+  pub letters : Letters (net .transitions) w
+
+-- the letters fired
+abbrev pub lettersFired : Replay → ℕ
+lettersFired (Fired n) = n
+lettersFired (Blocked n why) = n
+lettersFired (Refused n at) = 0
+
+-- "The number of letters fired equals the length of the longest prefix that fires", which leads to m′
+pub record Longest (net : Net) (m w : List ℕ) (k : ℕ) (m′ : List ℕ) : Type 0 where
+  pub within : k ≤ length w
+  pub fires : Fires net m (take k w) m′
+  pub more : (j : ℕ) → k < j → j ≤ length w → (m″ : List ℕ) → Fires net m (take j w) m″ → ⊥

@@ -1,0 +1,208 @@
+// Replay of a word on a net: whether the events could have happened in this order, and if not, at
+// which letter and for which cause.
+use net::Cause;
+use net::Fault;
+use net::Letter;
+ghost use mathlib.Core.Path.{_≡_};
+ghost use mathlib.Core.Bool.{true, _&&_};
+ghost use Prim.Native.Nat.{_≤_};
+ghost use lib.Dec.{eqb};
+ghost use lib.ListN.{length};
+ghost use Rattle.ground.specs.Limits.{tokenLimit, wordLimit};
+ghost use Rattle.net.specs.Net.{netOf};
+ghost use Rattle.net.specs.Letter.{Small};
+ghost use Rattle.net.specs.Given.{Sized, Letters, stretch, inside};
+ghost use Rattle.replay.specs.Replay.{Ended};
+ghost use Rattle.replay.specs.Entry.{replayFault, Replayed};
+
+// The answer to a replay: fired, with the number of letters; blocked, with the position of the
+// letter that is not enabled and its cause; or refused, with document 01's number and position.
+pub enum Replay {
+    Fired(usize),
+    Blocked(usize, Cause),
+    Refused(u8, usize),
+}
+
+fn wide(tokens: u16) -> u32
+    ensures { λ r. ⌜ r ≡ tokens ⌝ }
+{
+    tokens as u32
+}
+
+// The initial marking into the room for the result.
+fn load(initial: &[u16], room: &mut [u32])
+    requires { ⌜ length (now initial) ≡ length (now room) ⌝ }
+    ensures { λ r. ⌜ now (room .exit) ≡ now (initial .entry) ⌝ }
+{
+    let mut p = 0;
+    while p < room.len() {
+        room[p] = wide(initial[p]);
+        p += 1;
+    }
+}
+
+// A word, letter by letter, up to the first that is not enabled.
+fn play_word(
+    places: usize,
+    transitions: usize,
+    pre: &[u8],
+    post: &[u8],
+    caps: &[u16],
+    word: &[u8],
+    marking: &mut [u32],
+) -> Replay
+    requires { ⌜ Sized (netOf places transitions (now pre) (now post) (now caps)) ⌝ }
+    requires { ⌜ length (now marking) ≡ places ⌝ }
+    requires { ⌜ Small tokenLimit (now marking) ⌝ }
+    requires { ⌜ Letters transitions (now word) ⌝ }
+    requires { ⌜ length (now word) ≤ wordLimit ⌝ }
+    ensures { λ r. ⌜ Ended (netOf places transitions (now (pre .entry)) (now (post .entry)) (now (caps .entry))) (now (marking .entry)) (now (word .entry)) r (now (marking .exit)) ⌝ }
+{
+    let mut i = 0;
+    while i < word.len() {
+        let played = net::play_letter(places, transitions, pre, post, caps, word[i], marking);
+        match played {
+            Letter::Passes => {
+                i += 1;
+            }
+            Letter::Stops(why) => {
+                return Replay::Blocked(i, why);
+            }
+        }
+    }
+    Replay::Fired(i)
+}
+
+// Refusals 1 to 5. It is not lent the room, so a refusal cannot touch it.
+fn find_fault(
+    places: usize,
+    transitions: usize,
+    pre: &[u8],
+    post: &[u8],
+    caps: &[u16],
+    initial: &[u16],
+    word: &[u8],
+    fits: bool,
+) -> Fault
+    ensures { λ r. ⌜ r ≡ replayFault (netOf places transitions (now (pre .entry)) (now (post .entry)) (now (caps .entry))) (now (initial .entry)) (now (word .entry)) fits ⌝ }
+{
+    let found = net::first_fault(places, transitions, pre, post, caps, initial, fits);
+    match found {
+        Fault::Faulty(number, at) => Fault::Faulty(number, at),
+        Fault::Sound => net::word_fault(transitions, word),
+    }
+}
+
+// Whether the room has a number for each place, and the part's ends were inside its word.
+fn is_fitting(room: usize, places: usize, within: bool) -> bool
+    ensures { λ r. ⌜ r ≡ (eqb room places && within) ⌝ }
+{
+    if room == places { within } else { false }
+}
+
+// The replay of a part of a word; `within` tells whether the part's ends were inside the word.
+fn replay_part(
+    places: usize,
+    transitions: usize,
+    pre: &[u8],
+    post: &[u8],
+    caps: &[u16],
+    initial: &[u16],
+    part: &[u8],
+    within: bool,
+    room: &mut [u32],
+) -> Replay
+    ensures { λ r. ⌜ Replayed (netOf places transitions (now (pre .entry)) (now (post .entry)) (now (caps .entry))) (now (initial .entry)) (now (part .entry)) within (now (room .entry)) r (now (room .exit)) ⌝ }
+{
+    let fits = is_fitting(room.len(), places, within);
+    let found = find_fault(places, transitions, pre, post, caps, initial, part, fits);
+    match found {
+        Fault::Faulty(number, at) => Replay::Refused(number, at),
+        Fault::Sound => {
+            load(initial, room);
+            play_word(places, transitions, pre, post, caps, part, room)
+        }
+    }
+}
+
+// The replay of a word on a net from its initial marking. The room, a number for each place,
+// holds the marking after the last letter fired; a refusal leaves it as found.
+pub fn replay_word(
+    places: usize,
+    transitions: usize,
+    pre: &[u8],
+    post: &[u8],
+    caps: &[u16],
+    initial: &[u16],
+    word: &[u8],
+    room: &mut [u32],
+) -> Replay
+    ensures { λ r. ⌜ Replayed (netOf places transitions (now (pre .entry)) (now (post .entry)) (now (caps .entry))) (now (initial .entry)) (now (word .entry)) true (now (room .entry)) r (now (room .exit)) ⌝ }
+{
+    replay_part(
+        places,
+        transitions,
+        pre,
+        post,
+        caps,
+        initial,
+        word,
+        true,
+        room,
+    )
+}
+
+// The same for the letters from number start up to number end. Positions count from the stretch's
+// first letter, and refusals 4 and 5 look at the stretch only.
+pub fn replay_stretch(
+    places: usize,
+    transitions: usize,
+    pre: &[u8],
+    post: &[u8],
+    caps: &[u16],
+    initial: &[u16],
+    word: &[u8],
+    start: usize,
+    end: usize,
+    room: &mut [u32],
+) -> Replay
+    ensures { λ r. ⌜ Replayed (netOf places transitions (now (pre .entry)) (now (post .entry)) (now (caps .entry))) (now (initial .entry)) (stretch (now (word .entry)) start end) (inside (now (word .entry)) start end) (now (room .entry)) r (now (room .exit)) ⌝ }
+{
+    if end < start {
+        return replay_part(
+            places,
+            transitions,
+            pre,
+            post,
+            caps,
+            initial,
+            word,
+            false,
+            room,
+        );
+    }
+    if word.len() < end {
+        return replay_part(
+            places,
+            transitions,
+            pre,
+            post,
+            caps,
+            initial,
+            word,
+            false,
+            room,
+        );
+    }
+    replay_part(
+        places,
+        transitions,
+        pre,
+        post,
+        caps,
+        initial,
+        &word[start..end],
+        true,
+        room,
+    )
+}
