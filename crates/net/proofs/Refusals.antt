@@ -42,7 +42,7 @@ refuse-sound false n at e = refl
 pub sound-refuse : (b : Bool) (n at : ℕ) → b ≡ false → refuse b n at ≡ Sound
 sound-refuse b n at e = rw e
 
-inside-of : (n : ℕ) → outside n ≡ false → (1 ≤ n) × (n ≤ countLimit)
+pub inside-of : (n : ℕ) → outside n ≡ false → (1 ≤ n) × (n ≤ countLimit)
 inside-of n e = let a = or-false (ltb n 1) (ltb countLimit n) e in (ltb-false n 1 (a .0), ltb-false countLimit n (a .1))
 
 pub few-of : (n : ℕ) (r : Bool) → r ≡ outside n → r ≡ false → n ≤ countLimit
@@ -107,7 +107,7 @@ sized-of net fits e =
       not-false fits (f .1),
     )
 
-inside-is : (n : ℕ) → 1 ≤ n → n ≤ countLimit → outside n ≡ false
+pub inside-is : (n : ℕ) → 1 ≤ n → n ≤ countLimit → outside n ≡ false
 inside-is n h l = both-false (ltb n 1) (ltb countLimit n) (le-ltb n 1 h) (le-ltb countLimit n l)
 
 -- a sized net is not refused, where all else fits too
@@ -121,7 +121,7 @@ sized-is net fits s e =
     (rw e)))
 
 -- where something else does not fit, 1 or 2 is given whatever follows
-unfit-first : (net : Net) (next : Fault) → orElse (netFault net false) next ≡ netFault net false
+pub unfit-first : (net : Net) (next : Fault) → orElse (netFault net false) next ≡ netFault net false
 unfolding netFault
 unfit-first net next = go (outside (net .places) || outside (net .transitions)) (misfit net)
   where

@@ -99,8 +99,8 @@ all-assoc a b c e =
 
 -- the loop that joins in place: the slot that it has come to, and its end
 module _ (a b : List Slot) (p : ℕ) (r : List Slot) (f : Filled nil (λ k x. joined x (getD b k nil)) a p r) where
-  pub joining : (cap : ℕ) → Wells cap a → Well cap (getD r p nil)
-  joining cap w = rw (fill-here nil (λ k x. joined x (getD b k nil)) a p r f) (w .at p)
+  pub joining : (cap : ℕ) → Wells cap a → p < countLimit → Well cap (getD r p nil)
+  joining cap w h = rw (fill-here nil (λ k x. joined x (getD b k nil)) a p r f) (w .at p h)
 
   pub joins-end : length a ≡ countLimit → countLimit ≤ p → r ≡ joinedAll a b
   joins-end e h = fill-end nil (λ k x. joined x (getD b k nil)) a p r f (omega (arith, f .long))

@@ -5,16 +5,19 @@ use mathlib.Core.List.{List}
 use native.Mathlib.Omega.{arith}
 use native.Mathlib.Numerals.{add-one}
 use native.Mathlib.Nat.{suc-mul, mul-le-mul-right}
-use lib.ListN.{length, take, getD}
-use lib.Seq.{take-all}
+use native.Mathlib.Decide.{decLt}
+use borrow.Author.Tests.{lt-ltb, le-ltb}
+use lib.ListN.{length, take, getD, replicate, length-replicate, getD-replicate}
+use lib.Seq.{take-all, ext-getD}
 use lib.IntN.{ℤ, subℕ}
-use Rattle.ground.specs.Limits.{weightLimit, wordLimit}
+use Rattle.ground.specs.Limits.{countLimit, weightLimit}
 use Rattle.ground.specs.Lists.{most}
 use Rattle.ground.proofs.Most.{most-none}
+use Rattle.ground.proofs.Fill.{Filled, table-length, table-at}
 use Rattle.net.specs.Net.{Net}
 use Rattle.net.specs.Given.{Sized, Letters}
-use Rattle.slots.specs.Place.{Move}
-use Rattle.slots.specs.Slots.{step, slotOf}
+use Rattle.slots.specs.Place.{Move, letterAt}
+use Rattle.slots.specs.Slots.{nil, step, slotOf, slotAt, slotsOf}
 use Rattle.slots.specs.declared.Slot.{Slot}
 use Rattle.slots.proofs.Peaks.{total, total-more, heightAt, peak-more}
 use Rattle.slots.proofs.Words.{takes, puts, rise, change-is, need-most, climb-most}
@@ -70,3 +73,21 @@ module _ (at : ℕ → Move) (w : List ℕ) where
         }
 
 pub ruleset runs = (cell-inside, run-start, run-next, run-end)
+
+-- the loop over the places, from slots that are all zero
+module _ (net : Net) (w : List ℕ) (slots₀ : List Slot) (zero-slots : slots₀ ≡ replicate countLimit nil) (p : ℕ) (slots : List Slot) (f : Filled nil (λ k x. slotOf (letterAt net k) w) slots₀ p slots) where
+  pub slots-end : p ≤ net .places → net .places ≤ p → slots ≡ slotsOf net w
+  slots-end h l =
+      ext-getD nil slots (slotsOf net w) (f .long ∙ ap length zero-slots ∙ length-replicate countLimit nil ∙ sym (table-length (slotAt net w) countLimit))
+      (λ k b. let c : k < countLimit = omega (arith, f .long, ap length zero-slots, length-replicate countLimit nil) in
+      go k c (decLt k (net .places)) ∙ sym (table-at (slotAt net w) countLimit k nil c))
+    where
+      here : (k : ℕ) → k < net .places → slotAt net w k ≡ slotOf (letterAt net k) w
+      here k q = rw (lt-ltb k (net .places) q)
+
+      past : (k : ℕ) → net .places ≤ k → slotAt net w k ≡ nil
+      past k q = rw (le-ltb k (net .places) q)
+
+      go : (k : ℕ) → k < countLimit → Dec (k < net .places) → getD slots k nil ≡ slotAt net w k
+      go k c (yes q) = f .done k (omega arith) ∙ sym (here k q)
+      go k c (no q) = let o : net .places ≤ k = omega arith in f .rest k (omega arith) ∙ ap (λ (l : List Slot). getD l k nil) zero-slots ∙ getD-replicate countLimit k nil nil c ∙ sym (past k o)

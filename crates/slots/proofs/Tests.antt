@@ -4,8 +4,7 @@ use mathlib.Core.Path.{_≡_, refl, sym, ap, _∙_}
 use mathlib.Core.Bool.{Bool, true, false, cond, _&&_, _||_}
 use mathlib.Core.List.{List}
 use native.Mathlib.Omega.{arith}
-use native.Mathlib.Decide.{decLt}
-use lib.ListN.{length, getD, List·getD-eq-default}
+use lib.ListN.{length, getD}
 use lib.Dec.{ltb}
 use mir.Syntax.{w32}
 use mir.Val.{SFits, toZ, ofZ}
@@ -74,11 +73,8 @@ cap-low places cap p = go (ltb p places)
     go true = omega arith
     go false = zero-le
 
-pub well-at : (cap : ℕ) (slots : List Slot) (p : ℕ) → Wells cap slots → Well cap (getD slots p nil)
-well-at cap slots p w = w .at p
-
-pub climb-at : (cap : ℕ) (slots : List Slot) (p : ℕ) → Wells cap slots → getD slots p nil .climb ≤ cap
-climb-at cap slots p w = w .at p .climb
+pub well-at : (cap : ℕ) (slots : List Slot) (p : ℕ) → Wells cap slots → p < countLimit → Well cap (getD slots p nil)
+well-at cap slots p w h = w .at p h
 
 pub nil-well : (cap : ℕ) → Well cap nil
 nil-well cap = record { need = zero-le; climb = zero-le; down = zero-le; top = zero-le }
@@ -93,12 +89,8 @@ module _ (places cap : ℕ) (slots : List Slot) where
   pub of-wells : ((p : ℕ) → p < countLimit → Well (cond (ltb p places) cap 0) (getD slots p nil)) → badSlot places cap slots ≡ countLimit
   of-wells w = first-none (λ p. badAt places cap p (getD slots p nil)) countLimit (λ p h. well-not _ _ (w p h))
 
-  pub wells : (limit : ℕ) → cap ≤ limit → length slots ≡ countLimit → countLimit ≤ badSlot places cap slots → Wells limit slots
-  wells limit h e b = record { at = λ p. go p (decLt p countLimit) }
-    where
-      go : (p : ℕ) → Dec (p < countLimit) → Well limit (getD slots p nil)
-      go p (yes l) = well-more _ limit _ (omega (arith, cap-low places cap p)) (wells-of b p l)
-      go p (no n) = rw (List·getD-eq-default slots nil {n = p} (omega arith)) (nil-well limit)
+  pub wells : (limit : ℕ) → cap ≤ limit → countLimit ≤ badSlot places cap slots → Wells limit slots
+  wells limit h b = record { at = λ p l. well-more _ limit _ (omega (arith, cap-low places cap p)) (wells-of b p l) }
 
 -- one place's answer
 pub no-short : (need climb cap tokens : ℕ) → tokens < need → true ≡ noAt need climb cap tokens

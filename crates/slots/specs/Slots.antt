@@ -1,14 +1,15 @@
 -- One place of a summary, and all its places: of a word, joined, and judged.
-use Prim.Native.Nat.{ℕ, _+_, _-_, _*_, _≤_, max}
+use Prim.Native.Nat.{ℕ, _+_, _-_, _*_, _≤_, _<_, max}
 use mathlib.Core.Bool.{Bool, cond, _||_}
 use mathlib.Core.List.{List}
 use lib.ListN.{getD}
 use lib.Dec.{ltb}
 use lib.IntN.{ℤ, pos, _+ℤ_, _-ℤ_}
 use Rattle.ground.specs.Limits.{countLimit, weightLimit, wordLimit}
-use Rattle.ground.specs.Lists.{first, mapAt}
+use Rattle.ground.specs.Lists.{first, mapAt, table}
 use Rattle.ground.specs.Parts.{up, dn}
-use Rattle.slots.specs.Place.{Move, need, climb, change}
+use Rattle.net.specs.Net.{Net}
+use Rattle.slots.specs.Place.{Move, letterAt, need, climb, change}
 use Rattle.slots.specs.declared.Slot.{Slot}
 
 -- the slot of the empty word, and of no place
@@ -18,6 +19,13 @@ nil = record { need = 0; climb = 0; change = pos 0 }
 -- what the word w needs, climbs and changes at one place
 unfoldable pub slotOf : (ℕ → Move) → List ℕ → Slot
 slotOf at w = record { need = need at w; climb = climb at w; change = change at w }
+
+-- "these three per place"; slots past the place count are zero
+abbrev pub slotAt : Net → List ℕ → ℕ → Slot
+slotAt net w p = cond (ltb p (net .places)) (slotOf (letterAt net p) w) nil
+
+abbrev pub slotsOf : Net → List ℕ → List Slot
+slotsOf net w = table (slotAt net w) countLimit
 
 -- the larger of x and y + l - g: the form in which needs and climbs are computed
 unfoldable pub step : ℕ → ℕ → ℕ → ℕ → ℕ
@@ -62,4 +70,4 @@ pub record Well (cap : ℕ) (s : Slot) : Type 0 where
 
 -- all slots are
 pub record Wells (cap : ℕ) (slots : List Slot) : Type 0 where
-  pub at : (p : ℕ) → Well cap (getD slots p nil)
+  pub at : (p : ℕ) → p < countLimit → Well cap (getD slots p nil)

@@ -10,7 +10,7 @@ ghost use Rattle.ground.specs.Parts.{up, dn};
 ghost use Rattle.net.specs.Net.{netOf};
 ghost use Rattle.net.specs.Given.{Sized, Letters};
 ghost use Rattle.slots.specs.Place.{letterAt};
-ghost use Rattle.slots.specs.Slots.{nil, step, slotOf, joined, joinedAll, slotLimit, slotBad, badAt, badSlot, Well, Wells};
+ghost use Rattle.slots.specs.Slots.{nil, step, slotOf, slotsOf, joined, joinedAll, slotLimit, slotBad, badAt, badSlot, Well, Wells};
 ghost use Rattle.slots.specs.Asked.{noAt, lowestNo, endAt, ends, Covered};
 
 // What a word needs, climbs and changes at one place.
@@ -60,7 +60,7 @@ fn cell(table: &[u8], places: usize, t: usize, p: usize) -> u32
 }
 
 // One place of a word's summary, from what the letters so far have lost and gained there.
-pub fn slot_of(
+fn slot_of(
     places: usize,
     transitions: usize,
     pre: &[u8],
@@ -96,6 +96,30 @@ pub fn slot_of(
         climb,
         change,
     }
+}
+
+// All places of a word's summary.
+pub fn word_slots(
+    places: usize,
+    transitions: usize,
+    pre: &[u8],
+    post: &[u8],
+    caps: &[u16],
+    word: &[u8],
+) -> [Slot; 64]
+    requires { ⌜ Sized (netOf places transitions (now pre) (now post) (now caps)) ⌝ }
+    requires { ⌜ length (now word) ≤ wordLimit ⌝ }
+    requires { ⌜ Letters transitions (now word) ⌝ }
+    ensures { λ r. ⌜ r ≡ slotsOf (netOf places transitions (now (pre .entry)) (now (post .entry)) (now (caps .entry))) (now (word .entry)) ⌝ }
+{
+    let mut slots = no_slots();
+    let mut p: usize = 0;
+    while p < places {
+        let s = slot_of(places, transitions, pre, post, caps, p, word);
+        slots[p] = s;
+        p += 1;
+    }
+    slots
 }
 
 // One place of a then b.

@@ -35,7 +35,7 @@ join-slot-requires c κs =
     let s : tie.Start Inv-loop μ-loop = search needs in
     let l : tie.In-loop Inv-loop μ-loop = search needs in
     let w : Wells slotLimit (s .args .a) = search needs in
-    (joining (s .args .a) (s .args .t2) (l .before .loop .p) (l .before .loop .r) (l .before .loop .inv) slotLimit w, search (well-at, needs))
+    (joining (s .args .a) (s .args .t2) (l .before .loop .p) (l .before .loop .r) (l .before .loop .inv) slotLimit w (search needs), search (well-at, needs))
 
 mul-r : tie.Need-mul-r Inv-loop μ-loop
 mul-r c = search needs

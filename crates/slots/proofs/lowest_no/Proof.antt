@@ -1,8 +1,8 @@
-use Rattle.slots.proofs.Tests.{climb-at}
+use native.Mathlib.Omega.{arith}
+use Rattle.slots.specs.Slots.{nil, slotLimit, Wells}
 use Prim.Native.Nat.{_≤_, _-_}
 use lib.ListN.{length, getD}
 use Rattle.ground.proofs.Scan.{Below, scans}
-use Rattle.slots.specs.Slots.{nil}
 use Rattle.slots.specs.Asked.{noAt}
 use borrow.Author.Needs.{needs}
 use Rattle.slots.proofs.lowest_no.Statement.{statement}
@@ -37,7 +37,11 @@ shared-slice-read-is-no-2 : tie.Need-shared-slice-read-is-no-2 Inv-loop μ-loop
 shared-slice-read-is-no-2 c = search needs
 
 is-no-requires : tie.Need-is-no-requires Inv-loop μ-loop
-is-no-requires c κs = search (climb-at, needs)
+is-no-requires c κs =
+    let s : tie.Start Inv-loop μ-loop = search needs in
+    let l : tie.In-loop Inv-loop μ-loop = search needs in
+    let w : Wells slotLimit (s .args .t1) = search needs in
+    w .at (l .before .loop .p) (omega arith) .climb
 
 returns : tie.Need-returns Inv-loop μ-loop
 returns c = search (scans, needs)

@@ -6,9 +6,8 @@ use mathlib.Core.Path.{_≡_, _∙_}
 use mathlib.Core.List.{List}
 use Rattle.ground.specs.Lists.{table}
 use Rattle.ground.proofs.Fill.{Made, makes, make-end}
-use Rattle.slots.proofs.Tests.{well-at}
 use lib.ListN.{length, getD}
-use Rattle.slots.specs.Slots.{nil}
+use Rattle.slots.specs.Slots.{nil, slotLimit, Wells}
 use borrow.Author.Needs.{needs}
 use Rattle.slots.proofs.write_end.Statement.{statement}
 use Rattle.slots.proofs.write_end.Tie as tie
@@ -43,7 +42,8 @@ end-at-requires c κs =
     let l : tie.In-loop Inv-loop μ-loop = search needs in
     let h : Covered (s .args .t1) (now (s .args .marking)) = search needs in
     let e : length (l .before .loop .room) ≡ length (now (s .args .room)) = l .before .loop .inv .filled .long in
-    (search (well-at, needs), h .at (l .before .loop .p) (omega arith))
+    let w : Wells slotLimit (s .args .t1) = search needs in
+    (w .at (l .before .loop .p) (omega arith), h .at (l .before .loop .p) (omega arith))
 
 mul-room : tie.Need-mul-room Inv-loop μ-loop
 mul-room c = search needs
