@@ -3,6 +3,7 @@ use Prim.Native.Nat.{ℕ, _≤_, _<_}
 use mathlib.Core.Path.{_≡_, refl, sym, ap, _∙_}
 use mathlib.Core.Bool.{Bool, true, false, _&&_, and-false}
 use mathlib.Core.List.{List}
+use native.Mathlib.Omega.{arith}
 use lib.ListN.{length}
 use lib.Dec.{leb}
 use borrow.Author.Tests.{le-leb, lt-leb}
@@ -17,8 +18,19 @@ use Rattle.slots.specs.Slots.{slotsOf}
 use Rattle.slots.specs.declared.Slot.{Slot}
 use Rattle.summary.specs.Summary.{summaryOf, emptySummary, refusal, summed, numbers, Answers, emptyAnswer, partFault, wordAnswer}
 use Rattle.summary.specs.declared.Summary.{Summary}
+use Rattle.summary.specs.declared.Made.{Made}
 use Rattle.summary.specs.declared.Made.the-variants.{Done, Refused}
 use Rattle.summary.specs.declared.Summed.{Summed}
+
+-- `numbers` tells any two answers apart
+pub made-apart : (a b : Made) → numbers a ≡ numbers b → a ≡ b
+made-apart Done Done e = refl
+made-apart Done (Refused n at) e = let z : _≡_ {A = ℕ} 0x81 0x82 = cc in absurd (omega arith)
+made-apart (Refused n at) Done e = let z : _≡_ {A = ℕ} 0x82 0x81 = cc in absurd (omega arith)
+made-apart (Refused n at) (Refused k p) e = let x : n ≡ k = cc in let y : at ≡ p = cc in cc
+
+pub answers-is : (x r : Summed) → Answers x r → r ≡ x
+answers-is x r a = λ i. record { answer = made-apart (r .answer) (x .answer) (a .answer) i; summary = a .summary i }
 
 pub answers-same : (x r : Summed) → r ≡ x → Answers x r
 answers-same x r e = record { answer = ap (λ (z : Summed). numbers (z .answer)) e; summary = ap (λ (z : Summed). z .summary) e }

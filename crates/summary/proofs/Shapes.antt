@@ -140,3 +140,8 @@ of-joinable a b j =
     sound-or _ _ (sound-refuse _ 1 0 (both-false _ _ (j .first-count) (j .second-count)))
     (sound-or _ _ (sound-refuse _ 2 0 (like-false _ _ (j .like)))
     (sound-or _ _ (j .first-shape) (sound-or _ _ (j .second-shape) (sound-refuse _ 7 0 (le-ltb wordLimit (a .letters + b .letters) (j .few))))))
+
+-- lengths that are too large together are the last thing that is looked at
+pub over-joined : (a b : Summary) → outside (a .places) ≡ false → outside (b .places) ≡ false → a .places ≡ b .places → shapeFault a ≡ Sound → shapeFault b ≡ Sound → wordLimit < a .letters + b .letters → joinFault a b ≡ Faulty 7 0
+unfolding joinFault laterFault
+over-joined a b x y e p q h = rw (x, y, eq-eqb (a .places) (b .places) e, p, q, lt-ltb wordLimit (a .letters + b .letters) h)

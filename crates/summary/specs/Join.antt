@@ -8,6 +8,8 @@ use Rattle.net.specs.declared.Fault.{Fault}
 use Rattle.slots.specs.Slots.{joinedAll}
 use Rattle.summary.specs.Summary.{summed, shapeFault}
 use Rattle.summary.specs.declared.Summary.{Summary}
+use Rattle.summary.specs.declared.Made.{Made}
+use Rattle.summary.specs.declared.Made.the-variants.{Done, Refused}
 use Rattle.summary.specs.declared.Summed.{Summed}
 
 -- "Join of a then b: lengths .. add", and each place is joined
@@ -27,3 +29,11 @@ joinFault a b =
 
 abbrev pub joinAnswer : Summary → Summary → Summed
 joinAnswer a b = summed (joinFault a b) (joinSummary a b)
+
+-- one join after another: what is refused stays refused
+abbrev pub unlessRefused : Made → Summed → Summed → Summed
+unlessRefused Done r next = next
+unlessRefused (Refused n at) r next = r
+
+abbrev pub thenJoin : Summed → (Summary → Summed) → Summed
+thenJoin r f = unlessRefused (r .answer) r (f (r .summary))

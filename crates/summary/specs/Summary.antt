@@ -76,3 +76,11 @@ pub record WellFormed (s : Summary) : Type 0 where
   pub few : s .letters ≤ wordLimit
   pub at : (p : ℕ) → p < s .places → p < countLimit → WellAt (s .letters) (getD (s .slots) p nil)
   pub past : (p : ℕ) → s .places ≤ p → p < countLimit → getD (s .slots) p nil ≡ nil
+
+-- a well-formed summary of P places, 1 to 64, as the struct holds one: with 64 slots
+pub record Held (P : ℕ) (s : Summary) : Type 0 where
+  pub some : 1 ≤ P
+  pub most : P ≤ countLimit
+  pub count : s .places ≡ P
+  pub slots : length (s .slots) ≡ countLimit
+  pub formed : WellFormed s
