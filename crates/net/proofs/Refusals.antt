@@ -41,7 +41,7 @@ refuse-sound false n at e = refl
 pub sound-refuse : (b : Bool) (n at : ℕ) → b ≡ false → refuse b n at ≡ Sound
 sound-refuse b n at e = rw e
 
-inside-of : (n : ℕ) → outside n ≡ false → (1 ≤ n) × (n ≤ countLimit)
+pub inside-of : (n : ℕ) → outside n ≡ false → (1 ≤ n) × (n ≤ countLimit)
 inside-of n e = let a = or-false (ltb n 1) (ltb countLimit n) e in (ltb-false n 1 (a .0), ltb-false countLimit n (a .1))
 
 pub few-of : (n : ℕ) (r : Bool) → r ≡ outside n → r ≡ false → n ≤ countLimit
@@ -106,7 +106,7 @@ sized-of net fits e =
       not-false fits (f .1),
     )
 
-inside-is : (n : ℕ) → 1 ≤ n → n ≤ countLimit → outside n ≡ false
+pub inside-is : (n : ℕ) → 1 ≤ n → n ≤ countLimit → outside n ≡ false
 inside-is n h l = both-false (ltb n 1) (ltb countLimit n) (le-ltb n 1 h) (le-ltb countLimit n l)
 
 -- a sized net is not refused, where all else fits too
@@ -120,7 +120,7 @@ sized-is net fits s e =
     (rw e)))
 
 -- where something else does not fit, 1 or 2 is given whatever follows
-unfit-first : (net : Net) (next : Fault) → orElse (netFault net false) next ≡ netFault net false
+pub unfit-first : (net : Net) (next : Fault) → orElse (netFault net false) next ≡ netFault net false
 unfolding netFault
 unfit-first net next = go (outside (net .places) || outside (net .transitions)) (misfit net)
   where

@@ -183,7 +183,8 @@ pub fn play_letter(
     play_rows(&pre[a..e], &post[a..e], caps, marking)
 }
 
-fn is_outside(count: usize) -> bool
+// Refusal 1 for one count.
+pub fn is_outside(count: usize) -> bool
     ensures { λ r. ⌜ r ≡ outside count ⌝ }
 {
     if count < 1 {

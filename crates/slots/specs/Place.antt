@@ -1,0 +1,39 @@
+-- A word at one place, as document 01 ("Summaries") says it: change, need and climb. A letter is seen there by three numbers.
+use Prim.Native.Nat.{ℕ, suc, _-_}
+use mathlib.Core.List.{List, [], _∷_}
+use lib.ListN.{length, take, getD}
+use lib.IntN.{ℤ, pos, _+ℤ_, _-ℤ_}
+use Rattle.ground.specs.Lists.{most}
+use Rattle.ground.specs.Parts.{up}
+use Rattle.net.specs.Net.{Net, Pre, Post}
+
+-- what a letter takes from a place and puts there, and how far above its tokens the place rises on the way
+pub record Move : Type 0 where
+  pub takes : ℕ
+  pub puts : ℕ
+  pub rise : ℕ
+
+-- letter t at place p of a net. The capacity rule, "m(p) + Change(p,t) <= capacity", lets a place rise by Change, where that is not negative.
+abbrev pub letterAt : Net → ℕ → ℕ → Move
+letterAt net p t = record { takes = Pre net p t; puts = Post net p t; rise = Post net p t - Pre net p t }
+
+-- letter number i of a word
+abbrev pub letterOf : (ℕ → Move) → List ℕ → ℕ → Move
+letterOf at w i = at (getD w i 0)
+
+-- "change = sum of Change over the letters"
+unfoldable pub change : (ℕ → Move) → List ℕ → ℤ
+change at [] = pos 0
+change at (t ∷ w) = (pos (at t .puts) -ℤ pos (at t .takes)) +ℤ change at w
+
+-- "need = the largest of 0 and, for each letter t with u before it, Pre(p,t) - change(u)"
+unfoldable pub need : (ℕ → Move) → List ℕ → ℕ
+need at w = most (length w) (λ i. up (pos (letterOf at w i .takes) -ℤ change at (take i w)))
+
+-- the largest of 0 and, for each letter with u before it, change(u) + its rise; for the rise above this is 01's climb, `prefixClimb`
+unfoldable pub climb : (ℕ → Move) → List ℕ → ℕ
+climb at w = most (length w) (λ i. up (change at (take i w) +ℤ pos (letterOf at w i .rise)))
+
+-- "climb = the largest change over all prefixes, the empty one (0) included"
+unfoldable pub prefixClimb : (ℕ → Move) → List ℕ → ℕ
+prefixClimb at w = most (suc (length w)) (λ i. up (change at (take i w)))

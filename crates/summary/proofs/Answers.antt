@@ -1,0 +1,114 @@
+-- Laws of the answers that carry a summary: the refusal that is given, or the summary that was made. Assumes nothing.
+use Prim.Native.Nat.{ℕ, _≤_, _<_}
+use mathlib.Core.Path.{_≡_, refl, sym, ap, _∙_}
+use mathlib.Core.Bool.{Bool, true, false, _&&_, and-false}
+use mathlib.Core.List.{List}
+use native.Mathlib.Omega.{arith}
+use lib.ListN.{length}
+use lib.Dec.{leb}
+use borrow.Author.Tests.{le-leb, lt-leb}
+use Rattle.ground.specs.Limits.{wordLimit}
+use Rattle.ground.proofs.Tests.{never}
+use Rattle.net.specs.Net.{Net}
+use Rattle.net.specs.Given.{orElse, outside, netFault, wordFault, stretch, inside, Sized, Letters}
+use Rattle.net.specs.declared.Fault.{Fault}
+use Rattle.net.specs.declared.Fault.the-variants.{Sound, Faulty}
+use Rattle.net.proofs.Refusals.{or-sound, sound-or, sized-of, sized-is, word-sound, sound-word, unfit-first}
+use Rattle.slots.specs.Slots.{slotsOf}
+use Rattle.slots.specs.declared.Slot.{Slot}
+use Rattle.summary.specs.Summary.{summaryOf, emptySummary, refusal, summed, numbers, Answers, emptyAnswer, partFault, wordAnswer}
+use Rattle.summary.specs.declared.Summary.{Summary}
+use Rattle.summary.specs.declared.Made.{Made}
+use Rattle.summary.specs.declared.Made.the-variants.{Done, Refused}
+use Rattle.summary.specs.declared.Summed.{Summed}
+
+-- `numbers` tells any two answers apart
+pub made-apart : (a b : Made) → numbers a ≡ numbers b → a ≡ b
+made-apart Done Done e = refl
+made-apart Done (Refused n at) e = let z : _≡_ {A = ℕ} 0x81 0x82 = cc in absurd (omega arith)
+made-apart (Refused n at) Done e = let z : _≡_ {A = ℕ} 0x82 0x81 = cc in absurd (omega arith)
+made-apart (Refused n at) (Refused k p) e = let x : n ≡ k = cc in let y : at ≡ p = cc in cc
+
+pub answers-is : (x r : Summed) → Answers x r → r ≡ x
+answers-is x r a = λ i. record { answer = made-apart (r .answer) (x .answer) (a .answer) i; summary = a .summary i }
+
+pub answers-same : (x r : Summed) → r ≡ x → Answers x r
+answers-same x r e = record { answer = ap (λ (z : Summed). numbers (z .answer)) e; summary = ap (λ (z : Summed). z .summary) e }
+
+-- f is the first fault, found what the code found
+module _ (f found : Fault) (s : Summary) (e : found ≡ f) where
+  pub answers-refused : (n at : ℕ) (r : Summed) → found ≡ Faulty n at → r ≡ refusal n at → Answers (summed f s) r
+  answers-refused n at r q h = rw (← e, q) (answers-same (refusal n at) r h)
+
+  pub answers-done : (r : Summary) → found ≡ Sound → r ≡ s → Answers (summed f s) (record { answer = Done; summary = r })
+  answers-done r q h = rw (← e, q) (record { answer = refl; summary = h })
+
+-- the empty summary
+module _ (P : ℕ) (a : Bool) (e : a ≡ outside P) where
+  pub empty-refused : (r : Summed) → a ≡ true → r ≡ refusal 1 0 → Answers (emptyAnswer P) r
+  empty-refused r q h = rw (sym e ∙ q) (answers-same (refusal 1 0) r h)
+
+  pub empty-done : (r : Summary) → a ≡ false → r ≡ emptySummary P → Answers (emptyAnswer P) (record { answer = Done; summary = r })
+  empty-done r q h = rw (sym e ∙ q) (record { answer = refl; summary = h })
+
+pub ruleset empties = (empty-refused, empty-done)
+
+-- which refusal of a word
+module _ (net : Net) (w : List ℕ) (within : Bool) (found : Fault) (e : found ≡ netFault net within) where
+  pub part-net : (n at : ℕ) → found ≡ Faulty n at → Faulty n at ≡ partFault net w within
+  unfolding partFault
+  part-net n at q = rw (← e, q)
+
+  pub part-word : (r : Fault) → found ≡ Sound → r ≡ wordFault (net .transitions) w → r ≡ partFault net w within
+  unfolding partFault
+  part-word r q k = rw (← e, q) k
+
+pub ruleset part-faults = (part-net, part-word)
+
+-- nothing is refused exactly where all this holds
+pub record Sane (net : Net) (w : List ℕ) (within : Bool) : Type 0 where
+  pub sized : Sized net
+  pub fitting : within ≡ true
+  pub short : length w ≤ wordLimit
+  pub letters : Letters (net .transitions) w
+
+pub sane-of : (net : Net) (w : List ℕ) (within : Bool) → partFault net w within ≡ Sound → Sane net w within
+unfolding partFault
+sane-of net w within e =
+    let a = or-sound (netFault net within) (wordFault (net .transitions) w) e in
+    let f = sized-of net within (a .0) in
+    let l = word-sound (net .transitions) w (a .1) in
+    record { sized = f .0; fitting = f .1; short = l .0; letters = l .1 }
+
+pub sane-is : (net : Net) (w : List ℕ) (within : Bool) → Sane net w within → partFault net w within ≡ Sound
+unfolding partFault
+sane-is net w within s = sound-or _ _ (sized-is net within (s .sized) (s .fitting)) (sound-word (net .transitions) w (s .short) (s .letters))
+
+-- the summary of a word, from what the code has
+pub word-made : (net : Net) (w : List ℕ) (slots : List Slot) → slots ≡ slotsOf net w → _≡_ {A = Summary} (record { places = net .places; letters = length w; slots = slots }) (summaryOf net w)
+word-made net w slots e = λ i. record { places = net .places; letters = length w; slots = e i }
+
+-- where the stretch does not fit, the letters do not matter
+unfit-same : (net : Net) (u w : List ℕ) → wordAnswer net u false ≡ wordAnswer net w false
+unfolding partFault
+unfit-same net u w = rw (unfit-first net (wordFault (net .transitions) u), unfit-first net (wordFault (net .transitions) w)) (go (netFault net false) refl)
+  where
+    go : (f : Fault) → netFault net false ≡ f → summed (netFault net false) (summaryOf net u) ≡ summed (netFault net false) (summaryOf net w)
+    go (Faulty n at) e = rw e
+    go Sound e = never (sym (sized-of net false e .1))
+
+-- a stretch is a part of its word, or does not fit
+module _ (net : Net) (w : List ℕ) (a b : ℕ) (r : Summed) where
+  pub stretch-inside : a ≤ b → b ≤ length w → Answers (wordAnswer net (stretch w a b) true) r → Answers (wordAnswer net (stretch w a b) (inside w a b)) r
+  stretch-inside h l p = rw (le-leb a b h, le-leb b (length w) l) p
+
+  not-inside : inside w a b ≡ false → Answers (wordAnswer net w false) r → Answers (wordAnswer net (stretch w a b) (inside w a b)) r
+  not-inside e p = rw (e, unfit-same net (stretch w a b) w) p
+
+  pub stretch-past : length w < b → Answers (wordAnswer net w false) r → Answers (wordAnswer net (stretch w a b) (inside w a b)) r
+  stretch-past h p = not-inside (rw (lt-leb b (length w) h) (and-false (leb a b))) p
+
+  pub stretch-back : b < a → Answers (wordAnswer net w false) r → Answers (wordAnswer net (stretch w a b) (inside w a b)) r
+  stretch-back h p = not-inside (rw (lt-leb a b h)) p
+
+pub ruleset stretches = (stretch-inside, stretch-past, stretch-back)

@@ -1,0 +1,24 @@
+use Rattle.summary.proofs.Asking.{judges}
+use Rattle.slots.proofs.Tests.{covered-of}
+use borrow.Author.Needs.{needs}
+use Rattle.summary.proofs.ask_slots.Statement.{statement}
+use Rattle.summary.proofs.ask_slots.Tie as tie
+
+lowest-no-requires : tie.Need-lowest-no-requires
+lowest-no-requires c κs = search needs
+
+returns : tie.Need-returns
+returns c = search (judges, needs)
+
+write-end-requires : tie.Need-write-end-requires
+write-end-requires c κs = (search needs, (search needs, (search needs, search (covered-of, needs))))
+
+same-length : tie.Need-same-length
+same-length c = search needs
+
+returns-2 : tie.Need-returns-2
+returns-2 c = search (judges, needs)
+
+pub ask-slots-spec : {M : Type 1} → statement M
+ask-slots-spec =
+    tie.close (tie.spec lowest-no-requires returns write-end-requires same-length returns-2)

@@ -1,0 +1,13 @@
+use Rattle.summary.proofs.Asking.{same-yes, same-no}
+use borrow.Author.Needs.{needs}
+use Rattle.summary.proofs.same_count.Statement.{statement}
+use Rattle.summary.proofs.same_count.Tie as tie
+
+returns : tie.Need-returns
+returns c = search (same-yes, needs)
+
+returns-2 : tie.Need-returns-2
+returns-2 c = search needs
+
+pub same-count-spec : {M : Type 1} → statement M
+same-count-spec = tie.close (tie.spec returns returns-2)

@@ -1,0 +1,61 @@
+-- "A summary asked against a marking answers yes with the end marking, or no, which leaves the room for the end marking untouched.
+-- For a summary no word produced, only the arithmetic holds": the answer is said of the summary's numbers alone.
+use Prim.Native.Nat.{ℕ}
+use mathlib.Core.Path.{_≡_}
+use mathlib.Core.Bool.{Bool, true, false, cond, _&&_}
+use mathlib.Core.List.{List, [], _∷_}
+use lib.ListN.{length}
+use lib.Dec.{eqb, leb}
+use Rattle.net.specs.Net.{Net}
+use Rattle.net.specs.Given.{refuse, orElse, outside, firstFault}
+use Rattle.net.specs.declared.Fault.{Fault}
+use Rattle.net.specs.declared.Fault.the-variants.{Sound, Faulty}
+use Rattle.slots.specs.Asked.{lowestNo, ends}
+use Rattle.slots.specs.declared.Slot.{Slot}
+use Rattle.summary.specs.Summary.{shapeFault}
+use Rattle.summary.specs.declared.Summary.{Summary}
+use Rattle.summary.specs.declared.Asked.{Asked}
+use Rattle.summary.specs.declared.Asked.the-variants.{Yes, No, Refused}
+
+-- an answer, and the room left
+pub record Reply : Type 0 where
+  pub answer : Asked
+  pub left : List ℕ
+
+-- 1 for the summary's own place count; 1, 2 and 3 for the net and the marking, with the room's length and the summary's place count; then 6
+unfoldable pub askFault : Net → List ℕ → Summary → Bool → Fault
+askFault net m s roomy =
+    orElse (refuse (outside (s .places)) 1 0)
+    (orElse (firstFault net m (roomy && eqb (s .places) (net .places))) (shapeFault s))
+
+-- yes where no place says no
+abbrev pub saysYes : List Slot → List ℕ → List ℕ → Bool
+saysYes slots caps m = leb (length m) (lowestNo slots caps m)
+
+abbrev pub judged : List Slot → List ℕ → List ℕ → List ℕ → Reply
+judged slots caps m room = cond (saysYes slots caps m) (record { answer = Yes; left = ends slots m }) (record { answer = No; left = room })
+
+-- "A refusal leaves lent memory as found."
+abbrev pub replied : Fault → Reply → List ℕ → Reply
+replied Sound reply room = reply
+replied (Faulty n at) reply room = record { answer = Refused n at; left = room }
+
+abbrev pub askAnswer : Net → List ℕ → Summary → List ℕ → Reply
+askAnswer net m s room =
+    replied (askFault net m s (eqb (length room) (net .places))) (judged (s .slots) (net .caps) m room) room
+
+-- document 01's numbers for each case: 81 00 yes, 81 01 no; 82, a refusal's number and position
+abbrev pub numbers : Asked → List ℕ
+numbers Yes = 0x81 ∷ 0 ∷ []
+numbers No = 0x81 ∷ 1 ∷ []
+numbers (Refused n at) = 0x82 ∷ n ∷ at ∷ []
+
+-- the slots were asked
+pub record Judged (slots : List Slot) (caps m room : List ℕ) (r : Asked) (room′ : List ℕ) : Type 0 where
+  pub answer : r ≡ judged slots caps m room .answer
+  pub left : room′ ≡ judged slots caps m room .left
+
+-- what is promised of the answer r and of the room at its end
+pub record Replied (net : Net) (m : List ℕ) (s : Summary) (room : List ℕ) (r : Asked) (room′ : List ℕ) : Type 0 where
+  pub answer : numbers r ≡ numbers (askAnswer net m s room .answer)
+  pub left : room′ ≡ askAnswer net m s room .left

@@ -1,0 +1,3 @@
+pub mod Summary
+pub mod Join
+pub mod Ask
