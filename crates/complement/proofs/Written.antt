@@ -124,9 +124,14 @@ sets-whole vs l h =
     sets-eq vs l 0 (omega arith) ∙ rw (q, drop-of-length-le l {i = length vs} (omega arith)) (append-nil vs)
 
 -- the initial marking, from its two parts
-pub tokens-whole : (m new l l₁ l₂ : List ℕ) → length m + length new ≡ length l → l₁ ≡ sets l 0 m → l₂ ≡ sets l₁ (length m) new → l₂ ≡ m ++ new
-tokens-whole m new l l₁ l₂ h e k =
-    sets-then m new l l₁ l₂ 0 (length m) e (omega arith) k ∙ sets-whole (m ++ new) l (length-append m new ∙ h)
+module _ (caps m l l₁ : List ℕ) (h : length m + length (cappedFrom 0 caps) ≡ length l) (e : l₁ ≡ sets l 0 m) where
+  pub tokens-room : length m + length (cappedFrom 0 caps) ≤ length l₁
+  tokens-room = rw (e, length-sets l 0 m) (omega arith)
+
+  pub tokens-whole : (f : ℕ → ℕ) (l₂ : List ℕ) → l₂ ≡ sets l₁ (length m) (atCapped f caps) → l₂ ≡ m ++ atCapped f caps
+  tokens-whole f l₂ k =
+      sets-then m (atCapped f caps) l l₁ l₂ 0 (length m) e (omega arith) k
+      ∙ sets-whole (m ++ atCapped f caps) l (length-append m (atCapped f caps) ∙ omega (arith, length-map (cappedFrom 0 caps) f))
 
 -- the rows of a table, written one after the other: t of them are
 pub record Rowing (places wide : ℕ) (kept other caps l₀ : List ℕ) (t : ℕ) (l : List ℕ) : Type 0 where

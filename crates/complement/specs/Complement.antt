@@ -52,8 +52,11 @@ complementNet net =
     }
 
 -- each new place "starting with capacity minus tokens"
+abbrev pub newTokens : List ℕ → List ℕ → List ℕ
+newTokens caps m = m ++ atCapped (λ p. getD caps p 0 - tokens m p) caps
+
 abbrev pub complementMarking : Net → List ℕ → List ℕ
-complementMarking net m = m ++ atCapped (λ p. capacity net p - tokens m p) (net .caps)
+complementMarking net m = newTokens (net .caps) m
 
 -- "old places agree, and each new place holds capacity minus tokens"
 pub record Related (net : Net) (m m′ : List ℕ) : Type 0 where

@@ -25,13 +25,15 @@ pub record Rooms : Type 0 where
 abbrev pub roomsOf : List ℕ → List ℕ → List ℕ → List ℕ → Rooms
 roomsOf pre post caps initial = record { pre = pre; post = post; caps = caps; initial = initial }
 
--- the rooms' lengths against T' x P' and P', else refusal 2, "even where that is over 64"
+-- the rooms' lengths against T x P' and P', else refusal 2, "even where that is over 64"
 abbrev pub lengthsFit : ℕ → ℕ → ℕ → ℕ → ℕ → ℕ → Bool
 lengthsFit cells places pre post caps initial = eqb pre cells && (eqb post cells && (eqb caps places && eqb initial places))
 
+abbrev pub netFits : Net → ℕ → ℕ → ℕ → ℕ → Bool
+netFits net pre post caps initial = lengthsFit (net .transitions * complementPlaces net) (complementPlaces net) pre post caps initial
+
 abbrev pub roomsFit : Net → Rooms → Bool
-roomsFit net rooms =
-    lengthsFit (net .transitions * complementPlaces net) (complementPlaces net) (length (rooms .pre)) (length (rooms .post)) (length (rooms .caps)) (length (rooms .initial))
+roomsFit net rooms = netFits net (length (rooms .pre)) (length (rooms .post)) (length (rooms .caps)) (length (rooms .initial))
 
 -- 1, 2 and 3 for the net and its initial marking, then 10
 unfoldable pub complementFault : Net → List ℕ → Bool → Fault
