@@ -11,7 +11,6 @@ use mir.Val.{Fits}
 use borrow.Author.Count.{below-more}
 use Rattle.ground.specs.Limits.{countLimit}
 use Rattle.ground.specs.Lists.{first, bit, tally}
-use Rattle.ground.proofs.Tests.{never}
 
 pub first-at : (f : ℕ → Bool) (n i : ℕ) → ((k : ℕ) → k < i → f k ≡ false) → f i ≡ true → i < n → first f n ≡ i
 unfolding first

@@ -1,21 +1,21 @@
 -- The letter as the code judges and fires it is the published one: enabled, given and named as 001 and 01 say. Assumes nothing.
 use Prim.Native.Nat.{ℕ, _+_, _≤_, _<_}
-use mathlib.Core.Path.{_≡_, refl, sym, ap, _∙_}
-use mathlib.Core.Bool.{Bool, true, false, _&&_, _||_}
+use mathlib.Core.Path.{_≡_, refl, sym, _∙_}
+use mathlib.Core.Bool.{Bool, true, false, _&&_}
 use mathlib.Core.List.{List}
 use native.Mathlib.Omega.{arith}
 use native.Mathlib.Decide.{decLt}
 use lib.ListN.{length, getD}
 use lib.Signed.{clashℤ}
-use lib.Dec.{ltb, eqb}
+use lib.Dec.{ltb}
 use borrow.Author.Tests.{lt-ltb, le-ltb, ltb-true, ltb-false, eq-eqb}
 use Rattle.ground.specs.Limits.{noCapacity}
-use Rattle.ground.specs.Lists.{first, tally}
+use Rattle.ground.specs.Lists.{tally}
 use Rattle.ground.proofs.Tests.{never, or-false, both-false, and-true}
-use Rattle.ground.proofs.Scan.{Below, first-below, first-passes, first-most, first-none, tally-none, none-of}
+use Rattle.ground.proofs.Scan.{first-below, first-passes, first-most, tally-none}
 use Rattle.ground.proofs.Fill.{mapAt-length, mapAt-at}
 use Rattle.ground.proofs.Parts.{moved-le, moved-lt, moved-is}
-use Rattle.net.specs.Net.{Net, Pre, Post, capacity, Capped, tokens}
+use Rattle.net.specs.Net.{Net, Pre, Post, capacity, tokens}
 use Rattle.net.specs.Firing.{Covers, Keeps, Enabled, Gives, LowestShort, LowestOver, Names}
 use Rattle.net.specs.Letter.{arcsAt, overAt, short, over, stops, lowestShort, lowestOver, cause, passes, after, judgeAt, firedAt}
 use Rattle.net.specs.declared.Cause.{Cause}

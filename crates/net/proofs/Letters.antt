@@ -1,18 +1,17 @@
 -- Laws of one letter judged: what the passes over the places tell. Assumes nothing.
-use Prim.Native.Nat.{ℕ, _+_, _-_, _≤_, _<_, zero-le}
-use mathlib.Core.Path.{_≡_, refl, sym, ap, _∙_}
+use Prim.Native.Nat.{ℕ, _≤_, _<_, zero-le}
+use mathlib.Core.Path.{_≡_, sym, ap, _∙_}
 use mathlib.Core.Bool.{Bool, true, false, _||_}
 use mathlib.Core.List.{List}
 use native.Mathlib.Omega.{arith}
 use native.Mathlib.Decide.{decLt}
 use lib.ListN.{length, getD, List·getD-eq-default}
-use lib.Dec.{ltb, eqb}
-use borrow.Author.Tests.{lt-ltb, le-ltb, ltb-false, eq-eqb, eqb-true, eqb-false}
+use borrow.Author.Tests.{lt-ltb, le-ltb, ltb-false, eqb-true}
 use Rattle.ground.specs.Lists.{bit, tally}
 use Rattle.ground.proofs.Tests.{or-false}
 use Rattle.ground.proofs.Scan.{Below, none-of}
 use Rattle.ground.proofs.Fill.{Filled, fill-here}
-use Rattle.net.specs.Letter.{Arcs, shortAt, overAt, short, over, stops, lowestShort, lowestOver, cause, passes, judge, fired, settled, Small, Enough, Rows, Played}
+use Rattle.net.specs.Letter.{Arcs, shortAt, overAt, stops, lowestShort, lowestOver, cause, passes, fired, Small, Enough, Played}
 use Rattle.net.specs.declared.Cause.{Cause}
 use Rattle.net.specs.declared.Cause.the-variants.{Short, Over}
 use Rattle.net.specs.declared.Letter.the-variants.{Passes, Stops}

@@ -1,17 +1,17 @@
 -- Firing as published: what the other crates rest on. Assumes nothing.
-use Prim.Native.Nat.{ℕ, zero, suc, _+_, _*_, _≤_, _<_, zero-le}
+use Prim.Native.Nat.{ℕ, _+_, _*_, _≤_, _<_, zero-le}
 use mathlib.Core.Path.{_≡_, refl, sym, ap, _∙_}
 use mathlib.Core.List.{List, [], _∷_, _++_}
 use native.Mathlib.Omega.{arith}
 use native.Mathlib.Decide.{decLt}
 use lib.ListN.{length, getD, List·getD-eq-default}
-use lib.IntN.{ℤ, pos}
+use lib.IntN.{pos}
 use lib.Seq.{ext-getD}
-use Rattle.ground.specs.Limits.{weightLimit, tokenLimit, wordLimit, tokensAfter, replayLimit}
+use Rattle.ground.specs.Limits.{weightLimit, tokenLimit, wordLimit, replayLimit}
 use Rattle.ground.specs.Parts.{up}
 use Rattle.ground.proofs.Parts.{moved-is, le-pos}
 use Rattle.net.specs.Net.{Net, Pre, Post, capacity, tokens}
-use Rattle.net.specs.Firing.{Enabled, Gives, Firing, Fires, nothing, letter, Reachable, Within, Light}
+use Rattle.net.specs.Firing.{Gives, Firing, Fires, nothing, letter, Reachable, Within, Light}
 use Rattle.net.specs.Letter.{Small}
 
 -- firing in numbers that are not signed

@@ -12,8 +12,7 @@ use mir.Syntax.{w64}
 use mir.Val.{Fits}
 use borrow.Author.Tests.{lt-ltb, le-ltb, ltb-false, lt-leb, leb-false, eq-eqb, ne-eqb, eqb-true, not-false}
 use Rattle.ground.specs.Limits.{countLimit, tokenLimit, wordLimit}
-use Rattle.ground.specs.Lists.{first}
-use Rattle.ground.proofs.Tests.{never, or-false, both-false, and-true, unlike-false, like-false}
+use Rattle.ground.proofs.Tests.{or-false, both-false, and-true, unlike-false, like-false}
 use Rattle.ground.proofs.Scan.{first-none, first-below}
 use Rattle.net.specs.Net.{Net}
 use Rattle.net.specs.Given.{refuse, orElse, outside, unlike, misfit, tokenBad, badToken, netFault, markingFault, firstFault, badLetter, wordFault, Sized, Fine, Letters}

@@ -3,15 +3,13 @@ use Prim.Native.Nat.{ℕ, _≤_, _<_}
 use mathlib.Core.Path.{_≡_, refl, sym, ap, _∙_}
 use mathlib.Core.Bool.{Bool, true, false, _&&_, and-false}
 use mathlib.Core.List.{List}
-use native.Mathlib.Omega.{arith}
 use lib.ListN.{length}
 use lib.Dec.{leb, eqb}
 use borrow.Author.Tests.{eqb-true, le-leb, lt-leb}
-use Rattle.ground.specs.Limits.{tokenLimit, wordLimit}
+use Rattle.ground.specs.Limits.{wordLimit}
 use Rattle.ground.proofs.Tests.{never, and-true}
 use Rattle.net.specs.Net.{Net}
-use Rattle.net.specs.Letter.{Small}
-use Rattle.net.specs.Given.{orElse, firstFault, wordFault, stretch, inside, Sized, Fine, Letters}
+use Rattle.net.specs.Given.{firstFault, wordFault, stretch, inside, Sized, Fine, Letters}
 use Rattle.net.specs.declared.Fault.{Fault}
 use Rattle.net.specs.declared.Fault.the-variants.{Sound, Faulty}
 use Rattle.net.proofs.Refusals.{or-sound, sound-or, first-sound, sound-first, word-sound, sound-word, unfit-all}

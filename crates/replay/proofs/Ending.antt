@@ -1,7 +1,6 @@
 -- How a word's replay ends, by the published relation: the whole word fires, or a prefix does and the next letter's cause is true. Assumes nothing.
-use Prim.Native.Nat.{ℕ, zero, suc, _+_, _≤_, _<_, zero-le, suc-le-suc}
-use mathlib.Core.Path.{_≡_, refl, sym, ap, _∙_}
-use mathlib.Core.Bool.{Bool, true, false}
+use Prim.Native.Nat.{ℕ, zero, suc, _+_, _<_, zero-le, suc-le-suc}
+use mathlib.Core.Path.{_≡_, refl, ap, _∙_}
 use mathlib.Core.List.{List, [], _∷_}
 use native.Mathlib.Omega.{arith}
 use native.Mathlib.Nat.{not-suc-le-zero, le-of-suc-le-suc}
@@ -9,7 +8,7 @@ use lib.ListN.{length, getD, take}
 use Rattle.ground.proofs.Fill.{mapAt-length}
 use Rattle.net.specs.Net.{Net}
 use Rattle.net.specs.Firing.{Enabled, Firing, Fires, nothing, letter, Names}
-use Rattle.net.specs.Letter.{arcsAt, passes, after, judgeAt, firedAt}
+use Rattle.net.specs.Letter.{arcsAt, after, judgeAt, firedAt}
 use Rattle.net.specs.Given.{Letters}
 use Rattle.net.specs.declared.Cause.{Cause}
 use Rattle.net.specs.declared.Letter.{Letter}
@@ -17,7 +16,6 @@ use Rattle.net.specs.declared.Letter.the-variants.{Passes, Stops}
 use Rattle.net.proofs.Judged.{enabled-of, gives-fired, names-of, passes-judged}
 use Rattle.net.proofs.Meaning.{gives-one, fires-nil, fires-cons}
 use Rattle.replay.specs.Replay.{Ran, playFrom}
-use Rattle.replay.specs.declared.Replay.{Replay}
 use Rattle.replay.specs.declared.Replay.the-variants.{Fired, Blocked}
 
 -- the replay of w from m ended as `ran`, its first letter being number i

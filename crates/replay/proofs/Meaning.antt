@@ -1,8 +1,8 @@
 -- What a replay's answer means: the demands of document 01, over the published relation. Assumes nothing.
-use Prim.Native.Nat.{ℕ, _+_, _≤_, _<_}
+use Prim.Native.Nat.{ℕ, _+_, _<_}
 use mathlib.Core.Path.{_≡_, refl, sym, ap, _∙_}
-use mathlib.Core.Bool.{Bool, true, false, _&&_}
-use mathlib.Core.List.{List, [], _∷_}
+use mathlib.Core.Bool.{Bool, _&&_}
+use mathlib.Core.List.{List, []}
 use mathlib.Core.Logic.{_↔_}
 use native.Mathlib.Omega.{arith}
 use lib.ListN.{length, getD, take, length-take}
@@ -20,11 +20,11 @@ use Rattle.net.specs.declared.Fault.{Fault}
 use Rattle.net.specs.declared.Fault.the-variants.{Sound, Faulty}
 use Rattle.net.proofs.Judged.{named-stops}
 use Rattle.net.proofs.Meaning.{deterministic, within-stays, replay-reaches}
-use Rattle.replay.specs.Replay.{Ran, playFrom}
-use Rattle.replay.specs.Entry.{replayFault, answered, replayOf, numbers, Replayed, Allowed, lettersFired, Longest}
+use Rattle.replay.specs.Replay.{playFrom}
+use Rattle.replay.specs.Entry.{replayFault, replayOf, numbers, Replayed, Allowed, lettersFired, Longest}
 use Rattle.replay.specs.declared.Replay.{Replay}
 use Rattle.replay.specs.declared.Replay.the-variants.{Fired, Blocked, Refused}
-use Rattle.replay.proofs.Answers.{Sane, sane-of, sane-is}
+use Rattle.replay.proofs.Answers.{sane-of, sane-is}
 use Rattle.replay.proofs.Ending.{Ending, whole, stops, ending, no-more}
 
 -- `numbers` tells any two answers apart

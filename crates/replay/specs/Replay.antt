@@ -6,7 +6,7 @@ use Rattle.net.specs.Net.{Net}
 use Rattle.net.specs.Letter.{judgeAt, firedAt}
 use Rattle.net.specs.declared.Letter.the-variants.{Passes, Stops}
 use Rattle.replay.specs.declared.Replay.{Replay}
-use Rattle.replay.specs.declared.Replay.the-variants.{Fired, Blocked, Refused}
+use Rattle.replay.specs.declared.Replay.the-variants.{Fired, Blocked}
 
 -- an answer, and the marking left
 pub record Ran : Type 0 where

@@ -1,7 +1,6 @@
-use native.Mathlib.Omega.{arith}
 use lib.Dec.{lit<}
 use mir.Syntax.{w32}
-use Rattle.ground.proofs.Signed.{flip-fits, flip-more, flip-down, no-down, dn-fits}
+use Rattle.ground.proofs.Signed.{flip-fits, flip-more, flip-down, no-down}
 use Rattle.ground.proofs.down_part.Statement.{statement}
 use Rattle.ground.proofs.down_part.Tie as tie
 

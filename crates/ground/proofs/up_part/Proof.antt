@@ -1,6 +1,5 @@
-use native.Mathlib.Omega.{arith}
 use mir.Syntax.{w32}
-use Rattle.ground.proofs.Signed.{cast-fits, cast-up, no-up, up-fits}
+use Rattle.ground.proofs.Signed.{cast-fits, cast-up, no-up}
 use Rattle.ground.proofs.up_part.Statement.{statement}
 use Rattle.ground.proofs.up_part.Tie as tie
 
