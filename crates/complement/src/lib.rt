@@ -96,8 +96,9 @@ fn write_row(kept: &[u8], other: &[u8], caps: &[u16], to: usize, room: &mut [u8]
     requires { ⌜ to + (length (now caps) + length (cappedFrom 0 (now caps))) ≤ length (now room) ⌝ }
     ensures { λ r. ⌜ now (room .exit) ≡ sets (now (room .entry)) to (newRow (now (kept .entry)) (now (other .entry)) (now (caps .entry))) ⌝ }
 {
+    let next = to + kept.len();
     copy_row(kept, to, room);
-    add_row(kept, other, caps, to + kept.len(), room);
+    add_row(kept, other, caps, next, room);
 }
 
 // All transitions' weights, row by row.
@@ -149,6 +150,14 @@ fn copy_tokens(initial: &[u16], room: &mut [u16])
     }
 }
 
+// What a place has room for yet.
+fn spare(cap: u16, tokens: u16) -> u16
+    requires { ⌜ tokens ≤ cap ⌝ }
+    ensures { λ r. ⌜ r ≡ cap - tokens ⌝ }
+{
+    cap - tokens
+}
+
 // The new places' tokens, capacity minus tokens, into the room from `to` on.
 fn add_tokens(caps: &[u16], initial: &[u16], to: usize, room: &mut [u16])
     requires { ⌜ length (now initial) ≡ length (now caps) ⌝ }
@@ -160,7 +169,7 @@ fn add_tokens(caps: &[u16], initial: &[u16], to: usize, room: &mut [u16])
     let mut p = 0;
     while p < caps.len() {
         if is_capped(caps[p]) {
-            room[at] = caps[p] - initial[p];
+            room[at] = spare(caps[p], initial[p]);
             at += 1;
         }
         p += 1;

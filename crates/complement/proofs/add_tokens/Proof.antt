@@ -1,7 +1,7 @@
-use Rattle.complement.proofs.Written.{Adding, adds, fine-at}
 use Prim.Native.Nat.{_-_}
 use mathlib.Core.Logic.{⊎-elim}
 use lib.ListN.{length, getD}
+use Rattle.complement.proofs.Written.{Adding, adds, fine-at}
 use borrow.Author.Needs.{needs}
 use Rattle.complement.proofs.add_tokens.Statement.{statement}
 use Rattle.complement.proofs.add_tokens.Tie as tie
@@ -24,23 +24,23 @@ shared-slice-read-is-capped c = search needs
 is-capped-requires : tie.Need-is-capped-requires Inv-loop μ-loop
 is-capped-requires c κs = search needs
 
+mul-spare : tie.Need-mul-spare Inv-loop μ-loop
+mul-spare c = search needs
+
+shared-slice-read-spare : tie.Need-shared-slice-read-spare Inv-loop μ-loop
+shared-slice-read-spare c = search needs
+
+mul-spare-2 : tie.Need-mul-spare-2 Inv-loop μ-loop
+mul-spare-2 c = search needs
+
+shared-slice-read-spare-2 : tie.Need-shared-slice-read-spare-2 Inv-loop μ-loop
+shared-slice-read-spare-2 c = search needs
+
+spare-requires : tie.Need-spare-requires Inv-loop μ-loop
+spare-requires c κs = search (fine-at, needs)
+
 mul-room : tie.Need-mul-room Inv-loop μ-loop
 mul-room c = search needs
-
-shared-slice-read-room : tie.Need-shared-slice-read-room Inv-loop μ-loop
-shared-slice-read-room c = search needs
-
-mul-room-2 : tie.Need-mul-room-2 Inv-loop μ-loop
-mul-room-2 c = search needs
-
-shared-slice-read-room-2 : tie.Need-shared-slice-read-room-2 Inv-loop μ-loop
-shared-slice-read-room-2 c = search needs
-
-sub-room : tie.Need-sub-room Inv-loop μ-loop
-sub-room c = search (fine-at, needs)
-
-mul-room-3 : tie.Need-mul-room-3 Inv-loop μ-loop
-mul-room-3 c = search needs
 
 slice-write-room : tie.Need-slice-write-room Inv-loop μ-loop
 slice-write-room c = search (adds, needs)
@@ -73,12 +73,12 @@ add-tokens-spec =
     mul-is-capped
     shared-slice-read-is-capped
     is-capped-requires
+    mul-spare
+    shared-slice-read-spare
+    mul-spare-2
+    shared-slice-read-spare-2
+    spare-requires
     mul-room
-    shared-slice-read-room
-    mul-room-2
-    shared-slice-read-room-2
-    sub-room
-    mul-room-3
     slice-write-room
     add-at
     add-p

@@ -3,11 +3,11 @@ use borrow.Author.Needs.{needs}
 use Rattle.complement.proofs.write_row.Statement.{statement}
 use Rattle.complement.proofs.write_row.Tie as tie
 
+add-next : tie.Need-add-next
+add-next c = search needs
+
 copy-row-requires : tie.Need-copy-row-requires
 copy-row-requires c κs = search needs
-
-add-add-row : tie.Need-add-add-row
-add-add-row c = search needs
 
 add-row-requires : tie.Need-add-row-requires
 add-row-requires c κs = search needs
@@ -20,4 +20,4 @@ returns c = search (sets-then, needs)
 
 pub write-row-spec : {M : Type 1} → statement M
 write-row-spec =
-    tie.close (tie.spec copy-row-requires add-add-row add-row-requires same-length returns)
+    tie.close (tie.spec add-next copy-row-requires add-row-requires same-length returns)
