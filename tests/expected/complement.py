@@ -148,20 +148,19 @@ for case, caps, initial, cells, wide in [
 ]:
     ask_net(case, 3, 2, [3, 0, 255, 1, 2, 4], [1, 5, 0, 1, 9, 6], caps, initial, [cells, cells, wide, wide])
 
-# around 64 places: the first ones have capacity 9
-for case, P, first, tokens, wide in [
-    (51, 32, 32, 5, 64),
-    (52, 33, 33, 5, 66),
-    (53, 33, 31, 5, 64),
-    (54, 64, 0, 5, 64),
-    (55, 64, 1, 5, 65),
-    (56, 33, 33, 10, 66),
-    (57, 33, 33, 5, 64),
-    (58, 65, 0, 5, 65),
+# around 64 places, all alike
+for case, P, takes, puts, cap, arcs, cells, wide in [
+    (51, 32, 3, 5, 9, 64, 128, 64),
+    (52, 33, 3, 5, 9, 66, 132, 66),
+    (53, 32, 5, 3, 5, 64, 128, 64),
+    (54, 64, 3, 5, NONE, 128, 128, 64),
+    (55, 33, 3, 5, 4, 66, 132, 66),
+    (56, 33, 3, 5, 9, 66, 128, 64),
+    (57, 65, 3, 5, NONE, 130, 130, 65),
 ]:
-    net = P, 2, [k % 6 for k in range(2 * P)], [k % 7 for k in range(2 * P)], [9] * first + [NONE] * (P - first)
+    net = P, 2, [takes] * arcs, [puts] * arcs, [cap] * P
     ask_places(case, *net)
-    ask_net(case, *net, [tokens] * P, [2 * wide, 2 * wide, wide, wide])
+    ask_net(case, *net, [5] * P, [cells, cells, wide, wide])
 
 # two places, the first capped, and two transitions: other lengths of what is lent, then of the rooms
 for case, pre, post, caps, initial in [

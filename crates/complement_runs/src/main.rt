@@ -9,9 +9,7 @@ use complement::ComplementPlaces;
 use libc::STDOUT_FILENO;
 use net::Cause;
 use replay::Replay;
-ghost use mathlib.Core.Path.{_≡_};
 ghost use Prim.Native.Nat.{_≤_};
-ghost use lib.ListN.{length};
 
 // A number with a blank before it.
 fn tell(n: u64) {
@@ -299,46 +297,28 @@ fn three_places(case: usize, caps: [u16; 3], initial: [u16; 3], cells: usize, wi
     );
 }
 
-// Fills Pre and Post by the number of each entry: modulo 6, and modulo 7.
-fn weave(pre: &mut [u8], post: &mut [u8])
-    requires { ⌜ length (now pre) ≡ length (now post) ⌝ }
+// A net of many places, alike, and two transitions, alike: how many places its complement net has,
+// and that net; by the lengths of Pre and Post and of the rooms.
+fn many_places(
+    case: usize,
+    places: usize,
+    takes: u8,
+    puts: u8,
+    cap: u16,
+    arcs: usize,
+    cells: usize,
+    wide: usize,
+)
+    requires { ⌜ (places ≤ 65) × (arcs ≤ 130) × (cells ≤ 132) × (wide ≤ 66) ⌝ }
 {
-    let mut k = 0;
-    while k < pre.len() {
-        pre[k] = (k % 6) as u8;
-        post[k] = (k % 7) as u8;
-        k += 1;
-    }
-}
-
-// Gives the first places capacity 9.
-fn cap_first(caps: &mut [u16], capped: usize)
-    requires { ⌜ capped ≤ length (now caps) ⌝ }
-{
-    let mut p = 0;
-    while p < capped {
-        caps[p] = 9;
-        p += 1;
-    }
-}
-
-// A net of many places and two transitions, the first places capped: how many places its complement
-// net has, and that net.
-fn many_places(case: usize, places: usize, capped: usize, tokens: u16, wide: usize)
-    requires { ⌜ (places ≤ 65) × (capped ≤ 65) × (wide ≤ 66) ⌝ }
-{
-    let mut pre = [0u8; 130];
-    let mut post = [0u8; 130];
-    weave(&mut pre, &mut post);
-    let mut caps = [65535u16; 65];
-    cap_first(&mut caps, capped);
-    let initial = [tokens; 65];
+    let pre = [takes; 130];
+    let post = [puts; 130];
+    let caps = [cap; 65];
+    let initial = [5u16; 65];
     let mut pre2 = [0u8; 132];
     let mut post2 = [0u8; 132];
     let mut caps2 = [0u16; 66];
     let mut initial2 = [0u16; 66];
-    let arcs = 2 * places;
-    let cells = 2 * wide;
     ask_places(case, places, 2, &pre[..arcs], &post[..arcs], &caps[..places]);
     ask_net(
         case,
@@ -496,14 +476,13 @@ fn several() {
 
 // Around 64 places.
 fn largest() {
-    many_places(51, 32, 32, 5, 64);
-    many_places(52, 33, 33, 5, 66);
-    many_places(53, 33, 31, 5, 64);
-    many_places(54, 64, 0, 5, 64);
-    many_places(55, 64, 1, 5, 65);
-    many_places(56, 33, 33, 10, 66);
-    many_places(57, 33, 33, 5, 64);
-    many_places(58, 65, 0, 5, 65);
+    many_places(51, 32, 3, 5, 9, 64, 128, 64);
+    many_places(52, 33, 3, 5, 9, 66, 132, 66);
+    many_places(53, 32, 5, 3, 5, 64, 128, 64);
+    many_places(54, 64, 3, 5, 65535, 128, 128, 64);
+    many_places(55, 33, 3, 5, 4, 66, 132, 66);
+    many_places(56, 33, 3, 5, 9, 66, 128, 64);
+    many_places(57, 65, 3, 5, 65535, 130, 130, 65);
 }
 
 // Refusals 1 and 2.

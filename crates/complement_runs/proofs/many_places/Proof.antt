@@ -3,27 +3,6 @@ use borrow.Author.Needs.{needs}
 use Rattle.complement_runs.proofs.many_places.Statement.{statement}
 use Rattle.complement_runs.proofs.many_places.Tie as tie
 
-slice-aggregate-weave : tie.Need-slice-aggregate-weave
-slice-aggregate-weave c = search (length-take-le, needs)
-
-slice-aggregate-weave-2 : tie.Need-slice-aggregate-weave-2
-slice-aggregate-weave-2 c = search (length-take-le, needs)
-
-weave-requires : tie.Need-weave-requires
-weave-requires c κs = search needs
-
-slice-aggregate-cap-first : tie.Need-slice-aggregate-cap-first
-slice-aggregate-cap-first c = search (length-take-le, needs)
-
-cap-first-requires : tie.Need-cap-first-requires
-cap-first-requires c κs = search needs
-
-mul-arcs : tie.Need-mul-arcs
-mul-arcs c = search needs
-
-mul-cells : tie.Need-mul-cells
-mul-cells c = search needs
-
 array-share-prefix-pre : tie.Need-array-share-prefix-pre
 array-share-prefix-pre c = search needs
 
@@ -103,13 +82,6 @@ pub many-places-spec : {M : Type 1} → statement M
 many-places-spec =
     tie.close
     (tie.spec
-    slice-aggregate-weave
-    slice-aggregate-weave-2
-    weave-requires
-    slice-aggregate-cap-first
-    cap-first-requires
-    mul-arcs
-    mul-cells
     array-share-prefix-pre
     slice-aggregate-ask-places
     array-share-prefix-post
