@@ -8,7 +8,7 @@ use native.Mathlib.Nat.{mul-le-mul-right}
 use mir.Syntax.{w64}
 use mir.Val.{Fits}
 use lib.ListN.{length, getD}
-use lib.Dec.{ltb, eqb}
+use lib.Dec.{eqb}
 use borrow.Author.Tests.{lt-ltb, le-ltb, ltb-false, eqb-true, eq-eqb}
 use Rattle.ground.specs.Limits.{countLimit, noCapacity}
 use Rattle.ground.specs.Lists.{table}
@@ -17,14 +17,14 @@ use Rattle.ground.proofs.Tests.{and-true}
 use Rattle.ground.proofs.Parts.{up-sub, dn-sub, minus-is}
 use Rattle.net.specs.Net.{Net, Pre, Post, Change}
 use Rattle.net.specs.Letter.{row}
-use Rattle.net.specs.Given.{refuse, orElse, outside, misfit, netFault, markingFault, firstFault, Sized, Fine}
+use Rattle.net.specs.Given.{refuse, orElse, outside, misfit, netFault, markingFault, firstFault, Sized}
 use Rattle.net.specs.declared.Fault.{Fault}
 use Rattle.net.specs.declared.Fault.the-variants.{Sound, Faulty}
-use Rattle.net.proofs.Refusals.{or-sound, sound-or, refuse-sound, sound-refuse, sized-of, sized-is, first-sound, sound-first}
+use Rattle.net.proofs.Refusals.{or-sound, sound-or, refuse-sound, sized-of, sized-is, first-sound, sound-first}
 use Rattle.net.proofs.Rows.{row-at}
-use Rattle.complement.specs.Complement.{cappedFrom, complementPlaces, complementNet, complementMarking, atCapped, newRow, newRows, newTokens, joined}
-use Rattle.complement.specs.Told.{limitFault, placesFault, placesOf, placesNumbers, Told, Countable}
-use Rattle.complement.specs.Entry.{Rooms, roomsOf, lengthsFit, netFits, roomsFit, complementFault, made, complementOf, Complemented, Allowed}
+use Rattle.complement.specs.Complement.{cappedFrom, complementPlaces, atCapped, newRow, newRows, newTokens, joined}
+use Rattle.complement.specs.Told.{limitFault, placesFault, Told, Countable}
+use Rattle.complement.specs.Entry.{Rooms, roomsOf, lengthsFit, netFits, roomsFit, complementFault, made, Complemented, Allowed}
 use Rattle.complement.specs.declared.ComplementPlaces.the-variants as places
 use Rattle.complement.specs.declared.ComplementNet.the-variants.{Made, Refused}
 use Rattle.complement.proofs.Capped.{capped-few, capped-map}

@@ -1,6 +1,6 @@
 -- Laws of the capped places: how many, which, and where each stands among them. Assumes nothing.
 use Prim.Native.Nat.{ℕ, zero, suc, _+_, _-_, _≤_, _<_, zero-le, suc-le-suc}
-use mathlib.Core.Path.{_≡_, refl, sym, ap, _∙_}
+use mathlib.Core.Path.{_≡_, refl, sym, _∙_}
 use mathlib.Core.Bool.{Bool, true, false, cond}
 use mathlib.Core.List.{List, [], _∷_, map}
 use native.Mathlib.Omega.{arith}
@@ -9,6 +9,7 @@ use lib.ListN.{length, getD}
 use lib.Dec.{ltb}
 use borrow.Author.Tests.{ltb-true, lt-ltb}
 use Rattle.ground.specs.Limits.{noCapacity}
+use Rattle.ground.proofs.Tests.{never}
 use Rattle.complement.specs.Complement.{cappedFrom}
 
 -- no more than there are places
@@ -44,10 +45,7 @@ capped-has p (cap ∷ caps) k h c = go (ltb cap noCapacity) refl k (capped-has (
     go : (b : Bool) → ltb cap noCapacity ≡ b → (k : ℕ) → ((k : ℕ) → k < length caps → getD caps k 0 < noCapacity → (j : ℕ) × (j < length (cappedFrom (suc p) caps)) × (getD (cappedFrom (suc p) caps) j 0 ≡ suc p + k)) → k < suc (length caps) → getD (cap ∷ caps) k 0 < noCapacity → (j : ℕ) × (j < length (cond (ltb cap noCapacity) (p ∷ cappedFrom (suc p) caps) (cappedFrom (suc p) caps))) × (getD (cond (ltb cap noCapacity) (p ∷ cappedFrom (suc p) caps) (cappedFrom (suc p) caps)) j 0 ≡ p + k)
     go true e zero ih h c = rw e (0, suc-le-suc zero-le, omega arith)
     go true e (suc k) ih h c = let r = ih k (le-of-suc-le-suc h) c in let q = r .2 in rw e (suc (r .0), suc-le-suc (r .1), omega arith)
-    go false e zero ih h c = let z : _≡_ {A = ℕ} 0 1 = absurd (omega (arith, ne)) in absurd (omega arith)
-      where
-        ne : ⊥
-        ne = let q = sym e ∙ lt-ltb cap noCapacity c in let z : _≡_ {A = ℕ} 0 1 = cc in omega arith
+    go false e zero ih h c = never (sym (lt-ltb cap noCapacity c) ∙ e)
     go false e (suc k) ih h c = let r = ih k (le-of-suc-le-suc h) c in let q = r .2 in rw e (r .0, r .1, omega arith)
 
 -- two functions that agree at the places agree over the capped ones

@@ -10,8 +10,8 @@ use lib.ListN.{length, getD, drop, length-append, length-map, length-take, List�
 use lib.Seq.{getD-append-add}
 use Rattle.ground.specs.Limits.{noCapacity, weightLimit}
 use Rattle.ground.specs.Parts.{up, dn}
-use Rattle.ground.proofs.Fill.{table-length, table-at}
-use Rattle.net.specs.Net.{Net, Pre, Post, Change, capacity, Capped}
+use Rattle.ground.proofs.Fill.{table-at}
+use Rattle.net.specs.Net.{Net, Pre, Post, Change, Capped}
 use Rattle.net.specs.Firing.{Light}
 use Rattle.net.specs.Letter.{row, Small}
 use Rattle.net.specs.Given.{Sized}

@@ -1,9 +1,9 @@
 -- What the complement net is for: the demands of document 01, over the published relation. Assumes nothing.
-use Prim.Native.Nat.{ℕ, _+_, _-_, _*_, _≤_, _<_, zero-le}
+use Prim.Native.Nat.{ℕ, _+_, _-_, _≤_, _<_, zero-le}
 use mathlib.Core.Path.{_≡_, refl, sym, ap, _∙_}
-use mathlib.Core.Bool.{Bool, true, _&&_}
-use mathlib.Core.List.{List, [], _∷_, _++_}
-use mathlib.Core.Logic.{_↔_, _⊎_, inl, inr, ⊎-elim}
+use mathlib.Core.Bool.{true}
+use mathlib.Core.List.{List}
+use mathlib.Core.Logic.{_↔_}
 use native.Mathlib.Omega.{arith}
 use native.Mathlib.Decide.{decLt}
 use lib.ListN.{length, getD, length-append, length-map, List·getD-append, List·getD-eq-default}
@@ -12,8 +12,8 @@ use Rattle.ground.specs.Limits.{countLimit, noCapacity, tokenLimit}
 use Rattle.ground.proofs.Parts.{moved-le, moved-is}
 use Rattle.ground.proofs.Fill.{table-length, table-at}
 use Rattle.net.specs.Net.{Net, Pre, Post, capacity, Capped, tokens}
-use Rattle.net.specs.Firing.{Keeps, Enabled, Gives, Firing, Fires, nothing, letter, Within, Light}
-use Rattle.net.specs.Letter.{Small, firedAt}
+use Rattle.net.specs.Firing.{Keeps, Enabled, Gives, Firing, Fires, nothing, letter, Within}
+use Rattle.net.specs.Letter.{firedAt}
 use Rattle.net.specs.Given.{Sized, Fine}
 use Rattle.net.proofs.Judged.{gives-fired}
 use Rattle.net.proofs.Meaning.{gives-plain, gives-one, firing-within}
@@ -23,7 +23,7 @@ use Rattle.replay.specs.Entry.{Replayed, Allowed as Replayable}
 use Rattle.replay.specs.declared.Replay.{Replay}
 use Rattle.replay.specs.declared.Replay.the-variants.{Fired}
 use Rattle.replay.proofs.Meaning.{answered-allowed, fired-means, fires-fired}
-use Rattle.complement.specs.Complement.{cappedFrom, cappedPlaces, atCapped, complementPlaces, complementNet, complementMarking, Related}
+use Rattle.complement.specs.Complement.{cappedPlaces, atCapped, complementPlaces, complementNet, complementMarking, Related}
 use Rattle.complement.specs.Told.{placesFault, placesOf, placesNumbers, Told, Countable}
 use Rattle.complement.specs.Entry.{Rooms, roomsFit, complementFault, made, complementOf, numbers, Complemented, Allowed}
 use Rattle.complement.specs.declared.ComplementPlaces.{ComplementPlaces}

@@ -319,7 +319,14 @@ fn many_places(
     let mut post2 = [0u8; 132];
     let mut caps2 = [0u16; 66];
     let mut initial2 = [0u16; 66];
-    ask_places(case, places, 2, &pre[..arcs], &post[..arcs], &caps[..places]);
+    ask_places(
+        case,
+        places,
+        2,
+        &pre[..arcs],
+        &post[..arcs],
+        &caps[..places],
+    );
     ask_net(
         case,
         places,
