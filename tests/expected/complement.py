@@ -1,0 +1,192 @@
+#!/usr/bin/env python3
+"""What crates/complement_runs must print: its file stdout is this script's output.
+
+    python3 tests/expected/complement.py > crates/complement_runs/stdout
+
+Written from document 01 alone, without the program's code: nets are dictionaries from (place, transition) to a weight,
+the numbers are unbounded, and each rule is spelled out as 01 words it. A line a case: its number, the answer in numbers
+(129 and the places; 129 alone for a net that was written; 130 refusal position), and for a net the four rooms, each
+behind a bar; they hold 7s before the question. A replay's line has its answer and its room.
+It also checks, word by word up to three letters, that each net that is written fires the very same words.
+"""
+from itertools import product
+
+NONE = 65535  # "65,535 means none"
+HUGE = 2**64 - 1
+
+
+def weights(P, T, flat):
+    return {(p, t): flat[t * P + p] for t in range(T) for p in range(P)}
+
+
+def capped(caps):
+    """The capped places, in order of number."""
+    return [p for p, c in enumerate(caps) if c != NONE]
+
+
+def net_refusal(P, T, pre, post, caps):
+    if P not in range(1, 65) or T not in range(1, 65):
+        return 1, 0
+    if len(pre) != P * T or len(post) != P * T or len(caps) != P:
+        return 2, 0
+    return None
+
+
+def places_answer(P, T, pre, post, caps):
+    refused = net_refusal(P, T, pre, post, caps)
+    if refused is None and P + len(capped(caps)) > 64:
+        refused = 10, 0  # "old plus complement places over 64"
+    return [130, *refused] if refused else [129, P + len(capped(caps))]
+
+
+def net_answer(P, T, pre, post, caps, initial, lengths):
+    """The answer, and the four rooms afterwards."""
+    rooms = [[7] * n for n in lengths]
+    refused = net_refusal(P, T, pre, post, caps)
+    if refused is None:
+        new = P + len(capped(caps))
+        if len(initial) != P or list(lengths) != [T * new, T * new, new, new]:
+            refused = 2, 0
+        else:
+            bad = [p for p in range(P) if initial[p] == 65535 or (caps[p] != NONE and initial[p] > caps[p])]
+            if bad:
+                refused = 3, min(bad)
+            elif new > 64:
+                refused = 10, 0
+    if refused:
+        return [130, *refused], rooms  # "A refusal leaves lent memory as found."
+    Pre, Post = weights(P, T, pre), weights(P, T, post)
+    start = dict(enumerate(initial))
+    for k, p in enumerate(capped(caps)):  # "gets a new place after the old ones"
+        start[P + k] = caps[p] - initial[p]  # "starting with capacity minus tokens"
+        for t in range(T):
+            change = Post[p, t] - Pre[p, t]
+            Pre[P + k, t] = change if change > 0 else 0  # "Change > 0 becomes an arc from it"
+            Post[P + k, t] = -change if change < 0 else 0  # "change < 0 an arc to it"
+    flat = lambda arcs: [arcs[p, t] for t in range(T) for p in range(new)]
+    made = [flat(Pre), flat(Post), [NONE] * new, [start[p] for p in range(new)]]
+    same_words(P, T, pre, post, caps, initial, new, *made)
+    return [129], made
+
+
+def replay(P, T, pre, post, caps, initial, word):
+    """The answer and the marking after the last letter fired."""
+    for position, t in enumerate(word):
+        if t >= T:
+            return [130, 5, position], [0] * P
+    Pre, Post = weights(P, T, pre), weights(P, T, post)
+    m = list(initial)
+    for position, t in enumerate(word):
+        after = [m[p] + Post[p, t] - Pre[p, t] for p in range(P)]
+        short = [p for p in range(P) if Pre[p, t] > m[p]]
+        over = [p for p in range(P) if caps[p] != NONE and after[p] > caps[p]]
+        if short:
+            return [129, 1, position, min(short)], m
+        if over:
+            return [129, 2, position, min(over)], m
+        m = after
+    return [129, 0, len(word)], m
+
+
+def same_words(P, T, pre, post, caps, initial, new, pre2, post2, caps2, initial2):
+    for n in range(4):
+        for word in product(range(T), repeat=n):
+            one, m = replay(P, T, pre, post, caps, initial, word)
+            two, m2 = replay(new, T, pre2, post2, caps2, initial2, word)
+            assert (one[1] == 0) == (two[1] == 0) and (one[1] == 0 or one[2] == two[2]), word
+            assert m2[:P] == m, "old places agree"
+            assert m2[P:] == [caps[p] - m[p] for p in capped(caps)], "each new place holds capacity minus tokens"
+
+
+def line(case, numbers, *rooms):
+    print(*([case] + numbers + [x for room in rooms for x in ["|"] + room]))
+
+
+def ask_places(case, *net):
+    line(case, places_answer(*net))
+
+
+def ask_net(case, P, T, pre, post, caps, initial, lengths):
+    answer, rooms = net_answer(P, T, pre, post, caps, initial, lengths)
+    line(case, answer, *rooms)
+    return rooms
+
+
+# the net of 01's case, and the samples' words on it and on its complement net
+SAMPLE = 3, 3, [1, 0, 0, 0, 1, 0, 0, 0, 3], [0, 1, 0, 1, 0, 2, 0, 0, 0], [NONE, NONE, 5]
+ask_places(1, *SAMPLE)
+made = ask_net(2, *SAMPLE, [1, 0, 0], [12, 12, 4, 4])
+for case, word in [(11, [0, 1, 0, 1]), (13, [0, 1, 0, 1, 0, 1]), (15, [2]), (17, []), (19, [0, 1, 0, 1, 2]), (21, [0, 1, 0, 1, 3])]:
+    for number, net in [(case, (*SAMPLE, [1, 0, 0])), (case + 1, (4, 3, *made))]:
+        answer, room = replay(*net, word)
+        line(number, answer, room)
+
+# one place and two transitions
+for case, pre, post, cap, tokens in [
+    (31, [0, 0], [0, 1], 0, 0),
+    (32, [1, 2], [1, 0], 0, 0),
+    (33, [0, 255], [255, 0], 65534, 65534),
+    (34, [5, 4], [4, 5], 65534, 0),
+    (35, [7, 7], [7, 7], 9, 4),
+    (36, [0, 1], [1, 0], 0, 1),
+    (37, [0, 1], [1, 0], 65534, 65535),
+    (38, [0, 1], [1, 0], NONE, 0),
+]:
+    ask_net(case, 1, 2, pre, post, [cap], [tokens], [4, 4, 2, 2])
+
+# three places and two transitions
+for case, caps, initial, cells, wide in [
+    (41, [NONE, NONE, NONE], [4, 65534, 0], 6, 3),
+    (42, [NONE, 6, NONE], [4, 5, 0], 8, 4),
+    (43, [8, NONE, 300], [4, 9, 299], 10, 5),
+    (44, [8, 0, 300], [8, 0, 1], 12, 6),
+    (45, [8, NONE, 300], [4, 9, 299], 6, 3),
+    (46, [8, NONE, 300], [4, 9, 299], 12, 6),
+    (47, [8, NONE, 300], [9, 9, 299], 10, 5),
+    (48, [8, NONE, 300], [8, 65535, 301], 10, 5),
+    (49, [8, NONE, 300], [9, 9, 301], 8, 4),
+]:
+    ask_net(case, 3, 2, [3, 0, 255, 1, 2, 4], [1, 5, 0, 1, 9, 6], caps, initial, [cells, cells, wide, wide])
+
+# around 64 places, all alike
+for case, P, takes, puts, cap, arcs, cells, wide in [
+    (51, 32, 3, 5, 9, 64, 128, 64),
+    (52, 33, 3, 5, 9, 66, 132, 66),
+    (53, 32, 5, 3, 5, 64, 128, 64),
+    (54, 64, 3, 5, NONE, 128, 128, 64),
+    (55, 33, 3, 5, 4, 66, 132, 66),
+    (56, 33, 3, 5, 9, 66, 128, 64),
+    (57, 65, 3, 5, NONE, 130, 130, 65),
+]:
+    net = P, 2, [takes] * arcs, [puts] * arcs, [cap] * P
+    ask_places(case, *net)
+    ask_net(case, *net, [5] * P, [cells, cells, wide, wide])
+
+# two places, the first capped, and two transitions: other lengths of what is lent, then of the rooms
+for case, pre, post, caps, initial in [
+    (61, 4, 4, 2, 2),
+    (62, 5, 4, 2, 2),
+    (63, 4, 3, 2, 2),
+    (64, 4, 4, 3, 2),
+    (65, 4, 4, 1, 2),
+    (66, 4, 4, 2, 3),
+    (67, 4, 4, 2, 1),
+]:
+    net = 2, 2, [1] * pre, [2] * post, [9, NONE, NONE][:caps]
+    ask_places(case, *net)
+    ask_net(case, *net, [4] * initial, [6, 6, 3, 3])
+for case, *lengths in [
+    (68, 6, 6, 3, 3),
+    (69, 7, 6, 3, 3),
+    (70, 6, 5, 3, 3),
+    (71, 6, 6, 4, 3),
+    (72, 6, 6, 2, 3),
+    (73, 6, 6, 3, 4),
+    (74, 6, 6, 3, 2),
+]:
+    ask_net(case, 2, 2, [1] * 4, [2] * 4, [9, NONE], [4, 4], lengths)
+
+# only the counts are told
+for case, P, T in [(75, 0, 1), (76, 1, 0), (77, HUGE, 1), (78, 1, HUGE), (79, 2**32, 2**32), (80, 1, 1)]:
+    ask_places(case, P, T, [], [], [])
+    ask_net(case, P, T, [], [], [], [], [0, 0, 0, 0])
