@@ -1,17 +1,15 @@
 -- Laws of the entries' answers, and that the numbers of an answer tell it. Assumes nothing.
-use Prim.Native.Nat.{ℕ, _*_, _≤_, _<_}
+use Prim.Native.Nat.{ℕ}
 use mathlib.Core.Path.{_≡_, refl, sym, ap, _∙_}
 use mathlib.Core.Bool.{Bool, true, false}
 use mathlib.Core.List.{List, [], _∷_}
 use native.Mathlib.Omega.{arith}
 use lib.ListN.{length}
 use lib.Dec.{eqb}
-use borrow.Author.Tests.{eqb-true}
-use Rattle.ground.specs.Limits.{countLimit}
 use Rattle.net.specs.Net.{Net}
 use Rattle.net.specs.declared.Fault.{Fault}
 use Rattle.net.specs.declared.Fault.the-variants.{Sound}
-use Rattle.lists.specs.Whole.{count, targetFault, failureNumbers}
+use Rattle.lists.specs.Whole.{count, targetFault}
 use Rattle.lists.specs.declared.Failure.{Failure}
 use Rattle.lists.proofs.Wholes.{failures-apart, not-failure}
 use Rattle.closed.specs.declared.Closed.{Closed}
@@ -24,7 +22,6 @@ use Rattle.closed.specs.Listing.{listed}
 use Rattle.closed.specs.Given.{closedOf, numbers}
 use Rattle.closed.specs.Target.{targetOf, targetNumbers}
 use Rattle.closed.specs.Stall.{someDead, stallOf, stallNumbers}
-use Rattle.closed.specs.Ready.{Ready}
 use Rattle.closed.proofs.Refusals.{Lent, lent-of, accepted-sound}
 
 -- the list's answer is found

@@ -1,14 +1,12 @@
 -- Laws of a closed list looked through: what the code's steps give. Assumes nothing.
 use Prim.Native.Nat.{ℕ, _+_, _*_, _≤_, _<_}
 use mathlib.Core.Path.{_≡_, refl, sym, ap, _∙_}
-use mathlib.Core.Bool.{Bool, true, false, not, cond}
+use mathlib.Core.Bool.{Bool, true, false, not}
 use mathlib.Core.List.{List}
 use native.Mathlib.Omega.{arith}
 use lib.ListN.{length}
-use lib.Dec.{ltb}
 use borrow.Author.Tests.{lt-ltb, le-ltb}
 use Rattle.ground.specs.Limits.{tokenLimit, replayLimit}
-use Rattle.ground.specs.Lists.{first}
 use Rattle.ground.proofs.Scan.{Below, scan-hit, scan-next, scan-end}
 use Rattle.net.specs.Net.{Net}
 use Rattle.net.specs.Letter.{Arcs, arcsAt, passes, fired, Small, Enough, Rows}
@@ -21,7 +19,7 @@ use Rattle.lists.specs.declared.Failure.the-variants.{InitialMissing, ResultMis
 use Rattle.lists.proofs.Somes.{some-hit, some-end}
 use Rattle.closed.specs.declared.Closed.{Closed}
 use Rattle.closed.specs.declared.Closed.the-variants.{Accepted, Failed}
-use Rattle.closed.specs.Listing.{listed, absent, missing, lowestMissing, fails, firstFailing, results, looked}
+use Rattle.closed.specs.Listing.{listed, absent, missing, fails, results, looked}
 
 -- m is the marking g that was loaded
 module _ (m g : List ℕ) (e : m ≡ g) where

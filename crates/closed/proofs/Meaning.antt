@@ -1,7 +1,7 @@
 -- What the answers to a closed list say of the published relation, and that each promise fixes its answer. Assumes nothing.
-use Prim.Native.Nat.{ℕ, _+_, _*_, _≤_, _<_}
+use Prim.Native.Nat.{ℕ, _+_, _*_, _<_}
 use mathlib.Core.Path.{_≡_, refl, sym, ap, _∙_}
-use mathlib.Core.Bool.{Bool, true, false, not, cond, _&&_}
+use mathlib.Core.Bool.{Bool, true, false}
 use mathlib.Core.Logic.{_↔_}
 use mathlib.Core.List.{List}
 use native.Mathlib.Omega.{arith}
@@ -9,21 +9,20 @@ use native.Mathlib.Nat.{mul-add-mod-self-right, mod-eq-of-lt}
 use lib.ListN.{length, getD}
 use lib.Seq.{ext-getD}
 use lib.Dec.{ltb, eqb}
-use borrow.Author.Tests.{ltb-true, ltb-false, lt-ltb, le-ltb, eqb-true, not-true, not-false}
+use borrow.Author.Tests.{ltb-true, ltb-false, eqb-true, not-true, not-false}
 use Rattle.ground.specs.Limits.{tokenLimit}
 use Rattle.ground.specs.Lists.{first}
 use Rattle.ground.proofs.Tests.{never, and-true, unlike-false, like-false}
-use Rattle.ground.proofs.Scan.{first-below, first-passes, first-none}
+use Rattle.ground.proofs.Scan.{first-below, first-passes}
 use Rattle.net.specs.Net.{Net, capacity, tokens}
-use Rattle.net.specs.Firing.{Enabled, Gives, Firing, Reachable}
-use Rattle.net.specs.Letter.{arcsAt, passes, firedAt, Small}
+use Rattle.net.specs.Firing.{Enabled, Reachable}
+use Rattle.net.specs.Letter.{arcsAt, passes, firedAt}
 use Rattle.net.specs.Given.{unlike}
 use Rattle.net.specs.declared.Fault.{Fault}
-use Rattle.net.specs.declared.Fault.the-variants.{Sound, Faulty}
+use Rattle.net.specs.declared.Fault.the-variants.{Sound}
 use Rattle.net.proofs.Meaning.{gives-one, reachable-has}
 use Rattle.net.proofs.Rows.{row-at}
 use Rattle.net.proofs.Judged.{enabled-of, passes-of, gives-fired}
-use Rattle.lists.specs.Some.{some, none}
 use Rattle.lists.specs.Whole.{count, markingAt, targetFault}
 use Rattle.lists.specs.declared.Failure.the-variants.{InitialMissing, ResultMissing}
 use Rattle.lists.proofs.Somes.{some-first, some-none, some-is, is-none, none-at, none-first}
@@ -36,7 +35,7 @@ use Rattle.closed.specs.declared.ClosedStall.{ClosedStall}
 use Rattle.closed.specs.declared.ClosedStall.the-variants as stall
 use Rattle.closed.specs.Closed.{Listed, FiringAt, IsClosed, Holds, FirstMissing, AllEnable}
 use Rattle.closed.specs.Listing.{alike, listed, missing, lowestMissing, fails, firstFailing, results, looked}
-use Rattle.closed.specs.Given.{closedFault, answered, closedOf, numbers}
+use Rattle.closed.specs.Given.{closedFault, closedOf, numbers}
 use Rattle.closed.specs.Target.{targetOf, targetNumbers}
 use Rattle.closed.specs.Stall.{enables, dead, someDead, stallOf, stallNumbers}
 use Rattle.closed.specs.Ready.{Ready}

@@ -1,6 +1,6 @@
 -- Laws of a closed list's refusals: which one is given, and what holds where none is. Assumes nothing.
-use Prim.Native.Nat.{ℕ, _*_, _%_, _≤_, _<_, zero-le}
-use mathlib.Core.Path.{_≡_, refl, sym, ap, _∙_}
+use Prim.Native.Nat.{ℕ, _%_, _≤_, _<_, zero-le}
+use mathlib.Core.Path.{_≡_, refl, sym, _∙_}
 use mathlib.Core.Bool.{Bool, true, false, _&&_}
 use mathlib.Core.List.{List}
 use native.Mathlib.Omega.{arith}
@@ -9,17 +9,16 @@ use native.Mathlib.Decide.{decLt}
 use lib.ListN.{length, getD, List·getD-eq-default}
 use lib.Dec.{ltb}
 use borrow.Author.Tests.{lt-ltb, le-ltb, ltb-false}
-use Rattle.ground.specs.Limits.{countLimit, tokenLimit, listLimit}
-use Rattle.ground.specs.Lists.{first}
+use Rattle.ground.specs.Limits.{tokenLimit, listLimit}
 use Rattle.ground.proofs.Tests.{and-true, or-false}
 use Rattle.ground.proofs.Scan.{first-below}
 use Rattle.net.specs.Net.{Net}
 use Rattle.net.specs.Letter.{Small}
-use Rattle.net.specs.Given.{orElse, tokenBad, firstFault, Sized}
+use Rattle.net.specs.Given.{tokenBad, firstFault, Fine}
 use Rattle.net.specs.declared.Fault.{Fault}
 use Rattle.net.specs.declared.Fault.the-variants.{Sound, Faulty}
-use Rattle.net.proofs.Refusals.{or-sound, refuse-sound, first-sound, Fine}
-use Rattle.lists.specs.Whole.{count, whole, targetFault, sizeFault}
+use Rattle.net.proofs.Refusals.{or-sound, refuse-sound, first-sound}
+use Rattle.lists.specs.Whole.{count, whole, sizeFault}
 use Rattle.lists.specs.declared.Failure.{Failure}
 use Rattle.lists.proofs.Wholes.{whole-long, sized-list}
 use Rattle.closed.specs.declared.Closed.{Closed}

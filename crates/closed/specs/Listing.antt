@@ -12,7 +12,7 @@ use Rattle.lists.specs.Some.{some, none}
 use Rattle.lists.specs.Whole.{count, markingAt}
 use Rattle.lists.specs.declared.Failure.the-variants.{InitialMissing, ResultMissing}
 use Rattle.closed.specs.declared.Closed.{Closed}
-use Rattle.closed.specs.declared.Closed.the-variants.{Accepted, Failed, Refused}
+use Rattle.closed.specs.declared.Closed.the-variants.{Accepted, Failed}
 
 -- two markings agree at every place
 abbrev pub alike : List ℕ → List ℕ → Bool

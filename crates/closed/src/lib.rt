@@ -8,8 +8,8 @@ ghost use Prim.Native.Nat.{_*_, _<_, _≤_};
 ghost use lib.ListN.{length};
 ghost use Rattle.ground.specs.Limits.{countLimit};
 ghost use Rattle.net.specs.Net.{netOf};
-ghost use Rattle.net.specs.Letter.{Small, Rows, arcsOf, passes};
-ghost use Rattle.net.specs.Given.{Sized, unlike};
+ghost use Rattle.net.specs.Letter.{Rows, arcsOf, passes};
+ghost use Rattle.net.specs.Given.{unlike};
 ghost use Rattle.net.specs.declared.Fault.the-variants.{Sound};
 ghost use Rattle.lists.specs.Whole.{count, whole};
 ghost use Rattle.closed.specs.Listing.{alike, listed, absent, missing, results, looked};
@@ -96,7 +96,7 @@ fn is_given_listed(
     requires { ⌜ length (now room) ≡ places ⌝ }
     ensures { λ r. ⌜ r ≡ listed places count (now (list .entry)) (now (given .entry)) ⌝ }
 {
-    lists::load(given, room);
+    net::load(given, room);
     is_listed(places, count, list, room)
 }
 
@@ -129,7 +129,7 @@ fn is_absent(
     requires { ⌜ Rows (arcsOf (now takes) (now puts) (now caps)) (now listed) ⌝ }
     ensures { λ r. ⌜ r ≡ absent places count (now (list .entry)) (arcsOf (now (takes .entry)) (now (puts .entry)) (now (caps .entry))) (now (listed .entry)) ⌝ }
 {
-    lists::load(listed, room);
+    net::load(listed, room);
     if net::may_fire(takes, puts, caps, room) {
         net::fire(takes, puts, room);
         return !is_listed(places, count, list, room);
@@ -325,7 +325,7 @@ fn is_enabled(takes: &[u8], puts: &[u8], caps: &[u16], listed: &[u16], room: &mu
     requires { ⌜ Rows (arcsOf (now takes) (now puts) (now caps)) (now listed) ⌝ }
     ensures { λ r. ⌜ r ≡ passes (arcsOf (now (takes .entry)) (now (puts .entry)) (now (caps .entry))) (now (listed .entry)) ⌝ }
 {
-    lists::load(listed, room);
+    net::load(listed, room);
     net::may_fire(takes, puts, caps, room)
 }
 

@@ -1,17 +1,14 @@
 -- Laws of the entries' answers, and that the numbers of an answer tell it. Assumes nothing.
-use Prim.Native.Nat.{ℕ, _*_, _≤_, _<_}
+use Prim.Native.Nat.{ℕ}
 use mathlib.Core.Path.{_≡_, refl, sym, ap, _∙_}
 use mathlib.Core.Bool.{Bool, true, false}
 use mathlib.Core.List.{List, [], _∷_}
 use native.Mathlib.Omega.{arith}
 use lib.ListN.{length}
 use lib.Dec.{eqb}
-use borrow.Author.Tests.{eqb-true}
-use Rattle.ground.specs.Limits.{countLimit}
 use Rattle.net.specs.Net.{Net}
 use Rattle.net.specs.declared.Fault.{Fault}
-use Rattle.net.specs.declared.Fault.the-variants.{Sound}
-use Rattle.lists.specs.Whole.{count, targetFault, failureNumbers}
+use Rattle.lists.specs.Whole.{count, targetFault}
 use Rattle.lists.specs.declared.Failure.{Failure}
 use Rattle.lists.proofs.Wholes.{failures-apart, not-failure}
 use Rattle.cover.specs.declared.Cover.{Cover}
@@ -21,7 +18,6 @@ use Rattle.cover.specs.declared.CoverTarget.the-variants as target
 use Rattle.cover.specs.Looking.{covered}
 use Rattle.cover.specs.Given.{coverOf, numbers}
 use Rattle.cover.specs.Target.{targetOf, targetNumbers}
-use Rattle.cover.specs.Ready.{Ready}
 use Rattle.cover.proofs.Refusals.{Lent, lent-of, accepted-sound}
 
 -- the list's answer is found

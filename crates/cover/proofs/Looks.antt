@@ -1,14 +1,11 @@
 -- Laws of a cover list looked through: what the code's steps give. Assumes nothing.
 use Prim.Native.Nat.{ℕ, _+_, _-_, _*_, _≤_, _<_}
 use mathlib.Core.Path.{_≡_, refl, sym, ap, _∙_}
-use mathlib.Core.Bool.{Bool, true, false, not, cond}
+use mathlib.Core.Bool.{Bool, true, false, not}
 use mathlib.Core.List.{List}
-use native.Mathlib.Omega.{arith}
 use lib.ListN.{length, getD}
-use lib.Dec.{ltb}
 use borrow.Author.Tests.{lt-ltb, le-ltb, ltb-false, le-leb, lt-leb}
 use Rattle.ground.specs.Limits.{tokenLimit}
-use Rattle.ground.specs.Lists.{first}
 use Rattle.ground.proofs.Scan.{Below, scan-hit, scan-next, scan-end}
 use Rattle.ground.proofs.Fill.{Made, make-end}
 use Rattle.net.specs.Net.{Net}
@@ -22,7 +19,7 @@ use Rattle.cover.specs.Ready.{Ready}
 use Rattle.cover.specs.Covering.{lacks, able, afterAny, firedAny}
 use Rattle.cover.specs.declared.Cover.{Cover}
 use Rattle.cover.specs.declared.Cover.the-variants.{Accepted, Failed}
-use Rattle.cover.specs.Looking.{covered, uncovered, missing, lowestMissing, fails, firstFailing, results, looked}
+use Rattle.cover.specs.Looking.{covered, uncovered, missing, fails, results, looked}
 
 -- one place's tests: what the code compares
 module _ (takes puts entry : ℕ) where

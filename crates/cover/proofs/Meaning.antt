@@ -1,7 +1,7 @@
 -- What the answers to a cover list say of the published relation, and that each promise fixes its answer. Assumes nothing.
-use Prim.Native.Nat.{ℕ, _+_, _-_, _*_, _≤_, _<_}
-use mathlib.Core.Path.{_≡_, refl, sym, ap, _∙_}
-use mathlib.Core.Bool.{Bool, true, false, not, cond, _&&_}
+use Prim.Native.Nat.{ℕ, _+_, _≤_, _<_}
+use mathlib.Core.Path.{_≡_, refl, sym, _∙_}
+use mathlib.Core.Bool.{Bool, true, false, _&&_}
 use mathlib.Core.List.{List}
 use native.Mathlib.Omega.{arith}
 use native.Mathlib.Decide.{decLe}
@@ -9,7 +9,7 @@ use lib.ListN.{length, getD}
 use lib.Dec.{ltb, leb, eqb}
 use borrow.Author.Tests.{ltb-true, ltb-false, le-ltb, le-leb, lt-leb, leb-true, eqb-true, not-true, not-false}
 use Rattle.ground.specs.Limits.{tokenLimit}
-use Rattle.ground.specs.Lists.{first, table}
+use Rattle.ground.specs.Lists.{first}
 use Rattle.ground.proofs.Tests.{never, and-true}
 use Rattle.ground.proofs.Scan.{first-below, first-passes}
 use Rattle.ground.proofs.Fill.{table-length, table-at}
@@ -17,10 +17,9 @@ use Rattle.net.specs.Net.{Net, Pre, Post, tokens}
 use Rattle.net.specs.Firing.{Firing, Reachable}
 use Rattle.net.specs.Letter.{row}
 use Rattle.net.specs.declared.Fault.{Fault}
-use Rattle.net.specs.declared.Fault.the-variants.{Sound, Faulty}
+use Rattle.net.specs.declared.Fault.the-variants.{Sound}
 use Rattle.net.proofs.Meaning.{gives-plain, reachable-has}
 use Rattle.net.proofs.Rows.{row-at}
-use Rattle.lists.specs.Some.{some, none}
 use Rattle.lists.specs.Whole.{count, markingAt, targetFault}
 use Rattle.lists.specs.declared.Failure.the-variants.{InitialMissing, ResultMissing}
 use Rattle.lists.proofs.Somes.{some-first, some-none, some-is, is-none, none-at}
@@ -32,10 +31,10 @@ use Rattle.cover.specs.declared.CoverTarget.the-variants as target
 use Rattle.cover.specs.Covering.{Finite, CoversAt, beyond, covering, lacks, able, afterAny, firedAny}
 use Rattle.cover.specs.Cover.{Covers, Covered, Able, CoversResult, ResultCovered, Holds, IsCover, FirstMissing}
 use Rattle.cover.specs.Looking.{covered, missing, lowestMissing, fails, firstFailing, results, looked}
-use Rattle.cover.specs.Given.{coverFault, answered, coverOf, numbers}
+use Rattle.cover.specs.Given.{coverFault, coverOf, numbers}
 use Rattle.cover.specs.Target.{targetOf, targetNumbers}
 use Rattle.cover.specs.Ready.{Ready}
-use Rattle.cover.proofs.Refusals.{Lent, lent-of, accepted-sound, failed-sound}
+use Rattle.cover.proofs.Refusals.{lent-of, accepted-sound, failed-sound}
 use Rattle.cover.proofs.Answers.{numbers-apart, target-numbers-apart}
 
 -- one place's two tests say what is published: x is what is asked for, tokens or a weight

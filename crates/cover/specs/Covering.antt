@@ -1,12 +1,12 @@
 -- One place of a cover list's marking, where 65,535 is "any number".
-use Prim.Native.Nat.{ℕ, _+_, _-_, _≤_, _<_}
+use Prim.Native.Nat.{ℕ, _+_, _-_, _≤_}
 use mathlib.Core.Bool.{Bool, cond, _&&_}
 use mathlib.Core.List.{List}
 use lib.ListN.{length, getD}
 use lib.Dec.{ltb, leb}
 use Rattle.ground.specs.Limits.{tokenLimit}
 use Rattle.ground.specs.Lists.{table}
-use Rattle.lists.specs.Some.{some, none}
+use Rattle.lists.specs.Some.{none}
 
 -- the entry is a number, and not "any number"
 abbrev pub Finite : ℕ → Type 0

@@ -1,6 +1,6 @@
 -- The refusals of a cover list, "in number order": 1, 2, 3 and 9; and its answer in numbers.
 use Prim.Native.Nat.{ℕ}
-use mathlib.Core.Bool.{Bool, true, _&&_}
+use mathlib.Core.Bool.{Bool, _&&_}
 use mathlib.Core.List.{List, [], _∷_}
 use Rattle.net.specs.Net.{Net}
 use Rattle.net.specs.Given.{orElse, firstFault}

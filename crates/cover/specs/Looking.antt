@@ -11,7 +11,7 @@ use Rattle.lists.specs.Whole.{count, markingAt}
 use Rattle.lists.specs.declared.Failure.the-variants.{InitialMissing, ResultMissing}
 use Rattle.cover.specs.Covering.{covering, able, firedAny}
 use Rattle.cover.specs.declared.Cover.{Cover}
-use Rattle.cover.specs.declared.Cover.the-variants.{Accepted, Failed, Refused}
+use Rattle.cover.specs.declared.Cover.the-variants.{Accepted, Failed}
 
 -- one of the n markings of the list covers m
 abbrev pub covered : ℕ → ℕ → List ℕ → List ℕ → Bool

@@ -89,7 +89,7 @@ fn is_given_covered(
     requires { ⌜ length (now room) ≡ places ⌝ }
     ensures { λ r. ⌜ r ≡ covered places count (now (list .entry)) (now (given .entry)) ⌝ }
 {
-    lists::load(given, room);
+    net::load(given, room);
     is_covered(places, count, list, room)
 }
 

@@ -3,11 +3,10 @@ use Prim.Native.Nat.{ℕ, _≤_, _<_}
 use mathlib.Core.Path.{_≡_, refl, sym, _∙_}
 use mathlib.Core.Bool.{Bool, true, false}
 use native.Mathlib.Omega.{arith}
-use lib.Dec.{ltb, leb}
 use borrow.Author.Tests.{lt-ltb, le-ltb, le-leb, lt-leb, ltb-true, ltb-false, leb-true, leb-false}
 use Rattle.ground.specs.Lists.{first}
 use Rattle.ground.proofs.Tests.{never}
-use Rattle.ground.proofs.Scan.{Below, scan-hit, scan-end, first-at, first-none, first-below, first-passes, first-most}
+use Rattle.ground.proofs.Scan.{Below, scan-hit, scan-end, first-none, first-below, first-passes}
 use Rattle.lists.specs.Some.{some, none}
 
 -- where a scan stops at i, and where it ends

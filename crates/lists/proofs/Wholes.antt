@@ -1,21 +1,19 @@
 -- Laws of lists of markings: which refusal, what a list that is not refused has, and its markings. Assumes nothing.
-use Prim.Native.Nat.{ℕ, zero, suc, _+_, _*_, _/_, _%_, _≤_, _<_, zero-le}
-use mathlib.Core.Path.{_≡_, refl, sym, ap, _∙_}
-use mathlib.Core.Bool.{Bool, true, false, _&&_, _||_}
+use Prim.Native.Nat.{ℕ, _+_, _*_, _%_, _≤_, _<_, zero-le}
+use mathlib.Core.Path.{_≡_, refl, sym}
+use mathlib.Core.Bool.{true, false}
 use mathlib.Core.List.{List, [], _∷_}
 use native.Mathlib.Omega.{arith}
 use native.Mathlib.Nat.{div-add-mod'}
 use native.Mathlib.Decide.{decLt}
 use lib.ListN.{length, getD, take, drop, length-drop, List·getD-eq-default}
 use lib.Dec.{ltb, eqb}
-use borrow.Author.Tests.{lt-ltb, le-ltb, ltb-true, ltb-false, eqb-true}
+use borrow.Author.Tests.{lt-ltb, le-ltb, ltb-false, eqb-true}
 use lib.Seq.{length-take-le}
 use Rattle.ground.specs.Limits.{countLimit, tokenLimit, listLimit}
-use Rattle.ground.specs.Lists.{first}
 use Rattle.ground.proofs.Tests.{and-true, or-false}
 use Rattle.ground.proofs.Scan.{first-below}
 use Rattle.net.specs.Letter.{Small}
-use Rattle.net.specs.declared.Fault.{Fault}
 use Rattle.net.specs.declared.Fault.the-variants.{Sound, Faulty}
 use Rattle.net.proofs.Rows.{row-end, row-at}
 use Rattle.net.proofs.Refusals.{refuse-sound}

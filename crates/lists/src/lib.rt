@@ -76,23 +76,6 @@ pub fn target_fault(target: &[u16]) -> Fault
 }
 
 // A given number of tokens in 32 bits.
-fn wide(tokens: u16) -> u32
-    ensures { λ r. ⌜ r ≡ tokens ⌝ }
-{
-    tokens as u32
-}
-
-// A given marking into room for one that may hold more.
-pub fn load(given: &[u16], room: &mut [u32])
-    requires { ⌜ length (now given) ≡ length (now room) ⌝ }
-    ensures { λ r. ⌜ now (room .exit) ≡ now (given .entry) ⌝ }
-{
-    let mut p = 0;
-    while p < room.len() {
-        room[p] = wide(given[p]);
-        p += 1;
-    }
-}
 
 // Room for one marking of as many places as there may be.
 pub fn no_tokens() -> [u32; 64]

@@ -327,3 +327,21 @@ pub fn word_fault(transitions: usize, word: &[u8]) -> Fault
         Fault::Sound
     }
 }
+
+fn wide(tokens: u16) -> u32
+    ensures { λ r. ⌜ r ≡ tokens ⌝ }
+{
+    tokens as u32
+}
+
+// A given marking into room for one that may hold more.
+pub fn load(given: &[u16], room: &mut [u32])
+    requires { ⌜ length (now given) ≡ length (now room) ⌝ }
+    ensures { λ r. ⌜ now (room .exit) ≡ now (given .entry) ⌝ }
+{
+    let mut p = 0;
+    while p < room.len() {
+        room[p] = wide(given[p]);
+        p += 1;
+    }
+}

@@ -23,24 +23,6 @@ pub enum Replay {
     Refused(u8, usize),
 }
 
-fn wide(tokens: u16) -> u32
-    ensures { λ r. ⌜ r ≡ tokens ⌝ }
-{
-    tokens as u32
-}
-
-// The initial marking into the room for the result.
-fn load(initial: &[u16], room: &mut [u32])
-    requires { ⌜ length (now initial) ≡ length (now room) ⌝ }
-    ensures { λ r. ⌜ now (room .exit) ≡ now (initial .entry) ⌝ }
-{
-    let mut p = 0;
-    while p < room.len() {
-        room[p] = wide(initial[p]);
-        p += 1;
-    }
-}
-
 // A word, letter by letter, up to the first that is not enabled.
 fn play_word(
     places: usize,
@@ -119,7 +101,7 @@ fn replay_part(
     match found {
         Fault::Faulty(number, at) => Replay::Refused(number, at),
         Fault::Sound => {
-            load(initial, room);
+            net::load(initial, room);
             play_word(places, transitions, pre, post, caps, part, room)
         }
     }

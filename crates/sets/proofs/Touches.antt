@@ -9,7 +9,6 @@ use borrow.Author.Tests.{lt-ltb, le-ltb, ltb-true, ltb-false, le-leb, lt-leb, eq
 use Rattle.ground.specs.Lists.{first}
 use Rattle.ground.proofs.Scan.{Below, scan-hit, scan-end}
 use Rattle.net.specs.Net.{Net}
-use Rattle.net.specs.Letter.{row}
 use Rattle.net.specs.Given.{refuse, orElse, outside, unlike, netFault, Sized}
 use Rattle.net.specs.declared.Fault.{Fault}
 use Rattle.net.specs.declared.Fault.the-variants.{Sound, Faulty}

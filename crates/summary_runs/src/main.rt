@@ -10,9 +10,7 @@ use summary::Asked;
 use summary::Made;
 use summary::Summary;
 use summary::Summed;
-ghost use mathlib.Core.Path.{_≡_};
 ghost use Prim.Native.Nat.{_<_, _≤_};
-ghost use lib.ListN.{length};
 
 // A number with a blank before it.
 fn tell(n: u64) {

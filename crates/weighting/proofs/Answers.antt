@@ -9,10 +9,10 @@ use lib.IntN.{ℤ}
 use borrow.Author.Tests.{lt-ltb, le-ltb, le-leb, lt-leb, leb-false, eq-eqb, eqb-true}
 use Rattle.ground.specs.Parts.{up}
 use Rattle.net.specs.Net.{Net}
-use Rattle.net.specs.Given.{refuse, orElse, netFault, firstFault, Sized}
+use Rattle.net.specs.Given.{refuse, orElse, netFault, firstFault, Sized, Fine}
 use Rattle.net.specs.declared.Fault.{Fault}
 use Rattle.net.specs.declared.Fault.the-variants.{Sound, Faulty}
-use Rattle.net.proofs.Refusals.{or-sound, sound-or, refuse-sound, sound-refuse, sized-of, first-sound, sound-first, Fine}
+use Rattle.net.proofs.Refusals.{or-sound, sound-or, refuse-sound, sound-refuse, sized-of, first-sound, sound-first}
 use Rattle.weighting.specs.Weighting.{entry, weight, lowestTransition, lowestPlace, lowestEntry, allZero, weightingFault}
 use Rattle.weighting.specs.Lines.{total, held}
 use Rattle.weighting.specs.Place.{placeOf, placeNumbers}

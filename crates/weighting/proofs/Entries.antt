@@ -1,5 +1,5 @@
 -- Laws of the entries' signs: which weightings have a negative entry or are all zero, and the sum of y x marking without one. Assumes nothing.
-use Prim.Native.Nat.{ℕ, zero, suc, _+_, _*_, _≤_, _<_}
+use Prim.Native.Nat.{ℕ, zero, suc, _+_, _≤_, _<_}
 use mathlib.Core.Path.{_≡_, refl, sym, ap, _∙_}
 use mathlib.Core.Bool.{true, false, not}
 use mathlib.Core.List.{List}
@@ -14,7 +14,7 @@ use Rattle.ground.proofs.Tests.{never}
 use Rattle.ground.proofs.Scan.{first-below}
 use Rattle.ground.proofs.Parts.{parts-eq}
 use Rattle.net.specs.Net.{Net, tokens}
-use Rattle.weighting.specs.Weighting.{sum, entry, weight, isZero, isNegative, picks, lowestEntry}
+use Rattle.weighting.specs.Weighting.{entry, weight, isZero, isNegative, picks, lowestEntry}
 use Rattle.weighting.specs.Lines.{total, held}
 use Rattle.weighting.proofs.Sums.{sum-same, sum-pos}
 

@@ -4,7 +4,6 @@ use ground::down_entry;
 use ground::up_entry;
 use net::Fault;
 ghost use mathlib.Core.Path.{_≡_};
-ghost use mathlib.Core.Bool.{not};
 ghost use Prim.Native.Nat.{_+_, _*_, _≤_, _<_};
 ghost use lib.ListN.{length};
 ghost use Rattle.ground.specs.Limits.{countLimit, entryLimit};

@@ -4,17 +4,17 @@ use mathlib.Core.Path.{_≡_, _∙_}
 use mathlib.Core.List.{List}
 use Rattle.ground.proofs.Fill.{Made, makes, make-end, table-own}
 use borrow.Author.Needs.{needs}
-use Rattle.replay.proofs.load.Statement.{statement}
-use Rattle.replay.proofs.load.Tie as tie
+use Rattle.net.proofs.load.Statement.{statement}
+use Rattle.net.proofs.load.Tie as tie
 
 loaded : (l r₀ : List ℕ) (p : ℕ) (r : List ℕ) → Made 0 (λ p. getD l p 0) r₀ p r → length l ≡ length r₀ → length r ≤ p → r ≡ l
 loaded l r₀ p r m e h = make-end 0 (λ p. getD l p 0) r₀ p r m h ∙ rw (← e) (table-own 0 l)
 
 abbrev Inv-loop : tie.InvT-loop
-Inv-loop initial room₀ p₀ room p = Made 0 (λ p. getD initial p 0) room₀ p room
+Inv-loop given room₀ p₀ room p = Made 0 (λ p. getD given p 0) room₀ p room
 
 abbrev μ-loop : tie.MeasureT-loop
-μ-loop initial room₀ p₀ room p = length room₀ - p
+μ-loop given room₀ p₀ room p = length room₀ - p
 
 loop-holds : tie.Need-loop-holds Inv-loop μ-loop
 loop-holds c = search (makes, needs)
