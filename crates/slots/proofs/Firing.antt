@@ -7,7 +7,7 @@ use native.Mathlib.Omega.{arith}
 use Rattle.slots.specs.Place.{Move}
 use Rattle.slots.specs.Slots.{step}
 use Rattle.slots.proofs.Steps.{step-x, step-y, step-least}
-use Rattle.slots.proofs.Peaks.{total, peak}
+use Rattle.slots.proofs.Peaks.{peak}
 use Rattle.slots.proofs.Words.{Rising, takes, puts, rise}
 
 module _ (at : ℕ → Move) (Room : ℕ → Type 0) where

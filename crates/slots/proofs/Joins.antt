@@ -1,10 +1,10 @@
 -- Laws of joined slots: associative, the empty slot neutral, well formed. Assumes nothing.
 use Prim.Native.Nat.{ℕ, _+_, _≤_, _<_}
-use mathlib.Core.Path.{_≡_, refl, sym, ap, _∙_}
+use mathlib.Core.Path.{_≡_, sym, ap, _∙_}
 use mathlib.Core.List.{List}
 use native.Mathlib.Omega.{arith}
 use lib.ListN.{length, getD}
-use lib.IntN.{ℤ, pos, _+ℤ_, _-ℤ_, +ℤ-assoc, +ℤ-idl, +ℤ-idr}
+use lib.IntN.{ℤ, _+ℤ_, +ℤ-assoc, +ℤ-idl, +ℤ-idr}
 use lib.Seq.{ext-getD}
 use Rattle.ground.specs.Limits.{countLimit}
 use Rattle.ground.specs.Parts.{up, dn}

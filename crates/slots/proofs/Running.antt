@@ -1,5 +1,5 @@
 -- The loop that takes a word at one place letter by letter: what it has at letter i. Assumes nothing.
-use Prim.Native.Nat.{ℕ, suc, _+_, _*_, _≤_, _<_, zero-le}
+use Prim.Native.Nat.{ℕ, _+_, _*_, _≤_, _<_, zero-le}
 use mathlib.Core.Path.{_≡_, refl, sym, ap, ap₂, _∙_}
 use mathlib.Core.List.{List}
 use native.Mathlib.Omega.{arith}
@@ -15,7 +15,7 @@ use Rattle.ground.specs.Lists.{most}
 use Rattle.ground.proofs.Most.{most-none}
 use Rattle.ground.proofs.Fill.{Filled, table-length, table-at}
 use Rattle.net.specs.Net.{Net}
-use Rattle.net.specs.Given.{Sized, Letters}
+use Rattle.net.specs.Given.{Letters}
 use Rattle.slots.specs.Place.{Move, letterAt}
 use Rattle.slots.specs.Slots.{nil, step, slotOf, slotAt, slotsOf}
 use Rattle.slots.specs.declared.Slot.{Slot}

@@ -1,5 +1,5 @@
 -- Laws of need, climb and change of a word at one place, for any rise: as sums of numbers that are not signed, in two parts, and bounded. Assumes nothing.
-use Prim.Native.Nat.{ℕ, zero, suc, _+_, _-_, _*_, _≤_, _<_, zero-le}
+use Prim.Native.Nat.{ℕ, zero, suc, _+_, _-_, _*_, _≤_, _<_}
 use mathlib.Core.Path.{_≡_, refl, sym, ap, ap₂, _∙_}
 use mathlib.Core.List.{List, [], _∷_, _++_}
 use native.Mathlib.Nat.{le-antisymm, le-of-suc-le-suc}
@@ -8,11 +8,10 @@ use lib.ListN.{length, take, getD}
 use lib.IntN.{ℤ, pos, subℕ, _+ℤ_, _-ℤ_}
 use Rattle.ground.specs.Lists.{most}
 use Rattle.ground.specs.Parts.{up, dn}
-use Rattle.ground.proofs.Most.{most-none, most-at, most-least, most-same}
+use Rattle.ground.proofs.Most.{most-at, most-least, most-same}
 use Rattle.ground.proofs.Parts.{up-sub, dn-sub, minus-is, sub-sum, up-sum, pos-minus}
-use Rattle.slots.specs.Place.{Move, letterOf, change, need, climb, prefixClimb}
+use Rattle.slots.specs.Place.{Move, change, need, climb, prefixClimb}
 use Rattle.slots.specs.Slots.{nil, slotOf, joined, step, Well}
-use Rattle.slots.specs.declared.Slot.{Slot}
 use Rattle.slots.proofs.Steps.{step-is, step-diff}
 use Rattle.slots.proofs.Peaks.{total, total-append, total-more, heightAt, peak, peak-nil, peak-is, peak-append, peak-enough, peak-small}
 

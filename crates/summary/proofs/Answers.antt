@@ -1,7 +1,7 @@
 -- Laws of the answers that carry a summary: the refusal that is given, or the summary that was made. Assumes nothing.
 use Prim.Native.Nat.{ℕ, _≤_, _<_}
 use mathlib.Core.Path.{_≡_, refl, sym, ap, _∙_}
-use mathlib.Core.Bool.{Bool, true, false, _&&_, and-false}
+use mathlib.Core.Bool.{Bool, true, false, and-false}
 use mathlib.Core.List.{List}
 use native.Mathlib.Omega.{arith}
 use lib.ListN.{length}
@@ -10,7 +10,7 @@ use borrow.Author.Tests.{le-leb, lt-leb}
 use Rattle.ground.specs.Limits.{wordLimit}
 use Rattle.ground.proofs.Tests.{never}
 use Rattle.net.specs.Net.{Net}
-use Rattle.net.specs.Given.{orElse, outside, netFault, wordFault, stretch, inside, Sized, Letters}
+use Rattle.net.specs.Given.{outside, netFault, wordFault, stretch, inside, Sized, Letters}
 use Rattle.net.specs.declared.Fault.{Fault}
 use Rattle.net.specs.declared.Fault.the-variants.{Sound, Faulty}
 use Rattle.net.proofs.Refusals.{or-sound, sound-or, sized-of, sized-is, word-sound, sound-word, unfit-first}

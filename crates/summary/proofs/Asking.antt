@@ -1,26 +1,26 @@
 -- Laws of a summary asked against a marking. Assumes nothing.
 use Prim.Native.Nat.{ℕ, _+_, _≤_, _<_}
 use mathlib.Core.Path.{_≡_, refl, sym, ap, _∙_}
-use mathlib.Core.Bool.{Bool, true, false, cond, _&&_}
+use mathlib.Core.Bool.{Bool, true, false, _&&_}
 use mathlib.Core.List.{List}
 use native.Mathlib.Omega.{arith}
 use lib.ListN.{length, getD}
-use lib.Dec.{eqb, leb}
+use lib.Dec.{eqb}
 use borrow.Author.Tests.{lt-leb, le-leb, leb-true, eqb-true, eq-eqb}
 use Rattle.ground.specs.Limits.{noCapacity}
 use Rattle.ground.proofs.Tests.{and-true}
 use Rattle.ground.proofs.Scan.{first-below, first-none}
 use Rattle.net.specs.Net.{Net}
-use Rattle.net.specs.Given.{refuse, orElse, outside, firstFault, Sized, Fine}
+use Rattle.net.specs.Given.{refuse, outside, firstFault, Sized, Fine}
 use Rattle.net.specs.declared.Fault.{Fault}
 use Rattle.net.specs.declared.Fault.the-variants.{Sound, Faulty}
-use Rattle.net.proofs.Refusals.{or-sound, sound-or, refuse-sound, sound-refuse, first-sound, sound-first, inside-is}
+use Rattle.net.proofs.Refusals.{or-sound, sound-or, sound-refuse, first-sound, sound-first, inside-is}
 use Rattle.slots.specs.Asked.{noAt, lowestNo, ends}
 use Rattle.slots.specs.Slots.{nil}
 use Rattle.slots.specs.declared.Slot.{Slot}
 use Rattle.slots.proofs.Tests.{yes-at, at-yes}
 use Rattle.summary.specs.Summary.{shapeFault}
-use Rattle.summary.specs.Ask.{Reply, askFault, saysYes, judged, replied, askAnswer, numbers, Judged, Replied}
+use Rattle.summary.specs.Ask.{askFault, saysYes, askAnswer, numbers, Judged, Replied}
 use Rattle.summary.specs.declared.Summary.{Summary}
 use Rattle.summary.specs.declared.Asked.{Asked}
 use Rattle.summary.specs.declared.Asked.the-variants.{Yes, No, Refused}

@@ -1,19 +1,17 @@
 -- Whole summaries: well formed exactly as published, a word's summary, and summaries joined place by place. Assumes nothing.
-use Prim.Native.Nat.{ℕ, _+_, _-_, _*_, _≤_, _<_, zero-le}
-use mathlib.Core.Path.{_≡_, refl, sym, ap, ap₂, _∙_}
+use Prim.Native.Nat.{ℕ, _+_, _*_, _≤_, _<_, zero-le}
+use mathlib.Core.Path.{_≡_, sym, ap, ap₂, _∙_}
 use mathlib.Core.Bool.{Bool, true, false, cond}
-use mathlib.Core.List.{List, [], _∷_, _++_}
+use mathlib.Core.List.{List, _++_}
 use native.Mathlib.Nat.{add-assoc, mul-add}
 use native.Mathlib.Decide.{decLt}
 use native.Mathlib.Omega.{arith}
 use lib.ListN.{length, getD, replicate, length-append, length-replicate, getD-replicate}
 use lib.Seq.{ext-getD}
 use lib.Dec.{ltb}
-use lib.IntN.{ℤ, pos}
+use lib.IntN.{pos}
 use borrow.Author.Tests.{lt-ltb, le-ltb}
 use Rattle.ground.specs.Limits.{countLimit, weightLimit, wordLimit}
-use Rattle.ground.specs.Lists.{table}
-use Rattle.ground.specs.Parts.{up, dn}
 use Rattle.ground.proofs.Fill.{table-length, table-at}
 use Rattle.ground.proofs.Parts.{parts-eq, le-pos, neg-le}
 use Rattle.net.specs.Net.{Net}
@@ -25,7 +23,7 @@ use Rattle.slots.specs.declared.Slot.{Slot}
 use Rattle.slots.proofs.Words.{slot-append, slot-well}
 use Rattle.slots.proofs.Joins.{joined-well, nil-joined, joined-nil, all-length, all-at, all-assoc}
 use Rattle.slots.proofs.Tests.{wells-of, nil-well}
-use Rattle.summary.specs.Summary.{summaryOf, emptySummary, shapeFault, WellAt, WellFormed}
+use Rattle.summary.specs.Summary.{summaryOf, emptySummary, shapeFault, WellFormed}
 use Rattle.summary.specs.Join.{joinSummary}
 use Rattle.summary.specs.declared.Summary.{Summary}
 use Rattle.summary.proofs.Shapes.{shape-sound, sound-shape}

@@ -1,8 +1,8 @@
 -- What summaries mean: the demands of document 01, over its published definitions and the published relation. Assumes nothing.
 use Prim.Native.Nat.{ℕ, _+_, _≤_, _<_}
 use mathlib.Core.Path.{_≡_, refl, sym, ap, _∙_}
-use mathlib.Core.Bool.{Bool, true, false}
-use mathlib.Core.List.{List, [], _∷_, _++_}
+use mathlib.Core.Bool.{true, false}
+use mathlib.Core.List.{List, _++_}
 use mathlib.Core.Logic.{_↔_}
 use native.Mathlib.Decide.{decLe}
 use native.Mathlib.Omega.{arith}
@@ -11,14 +11,14 @@ use lib.Seq.{ext-getD}
 use lib.IntN.{ℤ, pos, _+ℤ_}
 use borrow.Author.Tests.{lt-ltb}
 use Rattle.ground.specs.Limits.{countLimit, wordLimit}
-use Rattle.ground.specs.Parts.{up, dn}
+use Rattle.ground.specs.Parts.{up}
 use Rattle.ground.proofs.Fill.{table-length, table-at}
 use Rattle.ground.proofs.Parts.{up-sum}
 use Rattle.net.specs.Net.{Net, capacity, Capped, tokens}
 use Rattle.net.specs.Given.{outside, stretch, inside, Sized, Letters}
 use Rattle.net.specs.Firing.{Fires, Within, Light}
-use Rattle.net.specs.declared.Fault.the-variants.{Sound, Faulty}
-use Rattle.net.proofs.Meaning.{within-stays, deterministic}
+use Rattle.net.specs.declared.Fault.the-variants.{Sound}
+use Rattle.net.proofs.Meaning.{within-stays}
 use Rattle.net.proofs.Refusals.{inside-is}
 use Rattle.replay.specs.Entry.{Replayed, Allowed}
 use Rattle.replay.specs.declared.Replay.{Replay}
@@ -39,7 +39,7 @@ use Rattle.summary.specs.declared.Summed.{Summed}
 use Rattle.summary.specs.declared.Asked.{Asked}
 use Rattle.summary.specs.declared.Asked.the-variants.{Yes, No}
 use Rattle.summary.proofs.Answers.{answers-is}
-use Rattle.summary.proofs.Shapes.{Joinable, of-joinable, over-joined}
+use Rattle.summary.proofs.Shapes.{of-joinable, over-joined}
 use Rattle.summary.proofs.Asking.{asked-apart, Askable, judged-of, Keeping, yes-means, means-yes, no-means}
 use Rattle.summary.proofs.Places.{Room, room-less, rising, at-each, from-each, ends-at}
 use Rattle.summary.proofs.Formed.{Shaped, formed-of, of-formed, word-shaped, words-joined, join-shaped, join-grouped, empty-shaped, empty-then, then-empty}

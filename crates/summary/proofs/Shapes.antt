@@ -1,24 +1,22 @@
 -- Laws of refusal 6, and of the refusals of a join. Assumes nothing.
 use Prim.Native.Nat.{ℕ, _+_, _*_, _≤_, _<_}
-use mathlib.Core.Path.{_≡_, refl, sym, ap, _∙_}
+use mathlib.Core.Path.{_≡_, sym, _∙_}
 use mathlib.Core.Bool.{Bool, true, false, cond, _||_}
-use mathlib.Core.List.{List}
 use native.Mathlib.Nat.{mul-le-mul-left}
 use native.Mathlib.Omega.{arith}
 use lib.ListN.{getD}
-use lib.Dec.{ltb, eqb}
+use lib.Dec.{ltb}
 use mir.Syntax.{w32}
 use mir.Val.{Fits}
 use borrow.Author.Tests.{lt-ltb, le-ltb, ltb-false, eq-eqb, ne-eqb}
 use Rattle.ground.specs.Limits.{countLimit, weightLimit, wordLimit}
 use Rattle.ground.proofs.Tests.{or-false, both-false, unlike-false, like-false}
-use Rattle.net.specs.Given.{refuse, orElse, outside, unlike}
+use Rattle.net.specs.Given.{refuse, outside, unlike}
 use Rattle.net.specs.declared.Fault.{Fault}
 use Rattle.net.specs.declared.Fault.the-variants.{Sound, Faulty}
 use Rattle.net.proofs.Refusals.{or-sound, sound-or, refuse-sound, sound-refuse}
-use Rattle.slots.specs.Slots.{nil, slotLimit, badSlot, Well, Wells}
-use Rattle.slots.specs.declared.Slot.{Slot}
-use Rattle.slots.proofs.Tests.{wells-of, of-wells, wells}
+use Rattle.slots.specs.Slots.{nil, slotLimit, Well, Wells}
+use Rattle.slots.proofs.Tests.{of-wells, wells}
 use Rattle.summary.specs.Summary.{badOf, shapeFault}
 use Rattle.summary.specs.Join.{laterFault, joinFault}
 use Rattle.summary.specs.declared.Summary.{Summary}

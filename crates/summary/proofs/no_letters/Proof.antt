@@ -1,8 +1,4 @@
 use mathlib.Core.Path.{_≡_}
-use mathlib.Core.List.{List}
-use Prim.Native.Nat.{ℕ}
-use Rattle.slots.specs.declared.Slot.{Slot}
-use Rattle.summary.specs.declared.Summary.{Summary}
 use borrow.Author.Needs.{needs}
 use Rattle.summary.proofs.no_letters.Statement.{statement}
 use Rattle.summary.proofs.no_letters.Tie as tie

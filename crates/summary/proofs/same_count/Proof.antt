@@ -1,4 +1,4 @@
-use Rattle.summary.proofs.Asking.{same-yes, same-no}
+use Rattle.summary.proofs.Asking.{same-yes}
 use borrow.Author.Needs.{needs}
 use Rattle.summary.proofs.same_count.Statement.{statement}
 use Rattle.summary.proofs.same_count.Tie as tie
