@@ -171,7 +171,7 @@ lineOf s d caps = cond (eqb (judgeOf s d caps) 0) (Next (advanced s d)) (Refused
 unfoldable pub roomsOf : Reading → List ℕ → Rooms → Rooms
 roomsOf s d x = cond (eqb (judgeOf s d (x .caps)) 0) (stored s d x) x
 
--- a state that goes on is good
+-- a state that goes on is good, and a refusal has a number
 abbrev pub GoodTook : Took → Type 0
 GoodTook (Next s) = Good s
-GoodTook (Refused n l) = Unit
+GoodTook (Refused n l) = 1 ≤ n

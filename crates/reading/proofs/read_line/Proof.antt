@@ -1,3 +1,4 @@
+use native.Mathlib.Omega.{arith}
 use mathlib.Core.Path.{sym, _∙_}
 use borrow.Author.Tests.{eq-eqb, ne-eqb}
 use Rattle.reading.specs.Read.{lineOf, roomsOf}
@@ -17,7 +18,7 @@ same-length c = search needs
 
 returns : tie.Need-returns
 unfolding lineOf roomsOf
-returns c = (simp (← c .before .before .judge .ensures, ne-eqb _ _ (c .before .if1 .taken)), (simp (← c .before .before .judge .ensures, ne-eqb _ _ (c .before .if1 .taken)), tt))
+returns c = (simp (← c .before .before .judge .ensures, ne-eqb _ _ (c .before .if1 .taken)), (simp (← c .before .before .judge .ensures, ne-eqb _ _ (c .before .if1 .taken)), omega arith))
 
 store-requires : tie.Need-store-requires
 store-requires c κs = (c .before .before .before .before .before .before .before .before .before .before .before .before .before .before .pre .0, accepted _ _ _ (sym (c .before .before .before .before .before .before .judge .ensures) ∙ c .before .before .before .before .before .if1 .left), c .before .before .before .before .before .before .before .before .before .before .before .before .before .before .pre .1)
