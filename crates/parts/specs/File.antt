@@ -1,0 +1,84 @@
+-- A case file as a run of bytes: a fold, so that any cutting into parts comes to the same.
+use Prim.Native.Nat.{ℕ, zero, suc, _+_, _≤_, _<_}
+use mathlib.Core.Path.{_≡_}
+use mathlib.Core.Bool.{Bool, true, false, cond}
+use mathlib.Core.List.{List, [], _∷_, _++_}
+use lib.ListN.{length, take, drop}
+use lib.Dec.{ltb, leb, eqb}
+use Rattle.frames.specs.Frame.{lineLimit, lineFeed}
+use Rattle.reading.specs.declared.Reading.{Reading}
+use Rattle.reading.specs.declared.Took.{Took}
+use Rattle.reading.specs.declared.Took.the-variants as took
+use Rattle.reading.specs.Read.{Good, Rooms, lineOf, roomsOf, fresh}
+use Rattle.parts.specs.declared.Held.{Held}
+use Rattle.parts.specs.declared.Case.{Case}
+use Rattle.parts.specs.declared.Case.the-variants.{Whole, Refused}
+use Rattle.parts.specs.declared.Lines.{Lines}
+use Rattle.parts.specs.declared.Lines.the-variants.{Rest, Broken}
+
+-- a reading goes on, with the bytes of the line so far; or it stopped, with a refusal's number and line
+pub data Run : Type 0 where
+  going : Reading → List ℕ → Run
+  stopped : ℕ → ℕ → Run
+
+pub record Both : Type 0 where
+  pub run : Run
+  pub rooms : Rooms
+
+abbrev pub both : Run → Rooms → Both
+both r x = record { run = r; rooms = x }
+
+-- after a line
+abbrev pub ended : Took → Run
+ended (took.Next t) = going t []
+ended (took.Refused n l) = stopped n l
+
+-- one byte: a line feed ends the line, "at most 260 digits" are held, and "the earliest faulty line decides"
+unfoldable pub fedTo : Run → Rooms → ℕ → Both
+fedTo (going s d) x b =
+    cond (eqb b lineFeed) (both (ended (lineOf s d (x .caps))) (roomsOf s d x))
+    (cond (ltb (length d) lineLimit) (both (going s (d ++ (b ∷ []))) x) (both (stopped 11 (s .line + 1)) x))
+fedTo (stopped n l) x b = both (stopped n l) x
+
+abbrev pub feedOf : Both → ℕ → Both
+feedOf z b = fedTo (z .run) (z .rooms) b
+
+unfoldable pub feedAll : Both → List ℕ → Both
+feedAll z [] = z
+feedAll z (b ∷ bs) = feedAll (feedOf z b) bs
+
+-- "frames missing at the end" are 12; "Missing frames count as the line after the last"
+unfoldable pub finishOf : Reading → Case
+finishOf s = cond (eqb (s .phase) 5) (Whole s) (Refused 12 (s .line + 1))
+
+-- the end of the file: a line that "lacks its line feed" is 11
+unfoldable pub caseOf : Run → Case
+caseOf (going s []) = finishOf s
+caseOf (going s (b ∷ d)) = Refused 11 (s .line + 1)
+caseOf (stopped n l) = Refused n l
+
+-- what a held line stands for, and what holds of it
+abbrev pub abs : Held → Run
+abs h = cond (eqb (h .refusal) 0) (going (h .reading) (take (h .len) (h .line))) (stopped (h .refusal) (h .at))
+
+pub record Sound (h : Held) : Type 0 where
+  pub good : Good (h .reading)
+  pub len : h .len ≤ lineLimit
+  pub line : length (h .line) ≡ lineLimit
+
+-- how many bytes stand before the first line feed
+unfoldable pub lineLen : List ℕ → ℕ
+lineLen [] = 0
+lineLen (b ∷ bs) = cond (eqb b lineFeed) 0 (suc (lineLen bs))
+
+abbrev pub NoFeed : List ℕ → Type 0
+NoFeed d = lineLen d ≡ length d
+
+-- a piece of a line, with no line feed, after the bytes d
+unfoldable pub holdOf : Reading → List ℕ → List ℕ → Run
+holdOf s d piece = cond (leb (length d + length piece) lineLimit) (going s (d ++ piece)) (stopped 11 (s .line + 1))
+
+-- what the whole lines of the part f, from `at` on, come to, from z, with the rooms y after them
+abbrev pub Went : List ℕ → Both → ℕ → Lines → Rooms → Type 0
+Went f z at (Rest t e) y = (Good t) × (e ≤ length f) × (NoFeed (drop e f)) × (feedAll z (drop at f) ≡ feedAll (both (going t []) y) (drop e f))
+Went f z at (Broken n l) y = (1 ≤ n) × (feedAll z (drop at f) ≡ both (stopped n l) y)

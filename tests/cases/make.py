@@ -1,0 +1,226 @@
+#!/usr/bin/env python3
+"""Case files and the line that each must answer, from document 01's "Case file lines" and readings R11 and R12.
+
+  tests/cases/make.py          writes NAME.case and NAME.line beside itself
+  tests/cases/make.py --check  says nothing where the files are those that it would write
+
+This is an implementation of its own: it splits a file at its line feeds, judges each line, replays, and writes the answer.
+"""
+import random
+import sys
+from pathlib import Path
+
+HERE = Path(__file__).resolve().parent
+NONE = 65535
+
+
+class Refused(Exception):
+    pass
+
+
+def judge(data):
+    """The net, marking and word of a file, or Refused(number, line)."""
+    pieces = data.split(b"\n")
+    tail = pieces.pop()
+    want, net, line = "01", {"pre": [], "post": [], "word": []}, 0
+    for piece in pieces:
+        line += 1
+        want = frame(want, net, piece, line)
+    if tail:
+        raise Refused(11, line + 1)
+    if want != "05":
+        raise Refused(12, line + 1)
+    return net
+
+
+def frame(want, net, piece, line):
+    if not 2 <= len(piece) <= 260 or len(piece) % 2 or any(c not in b"0123456789ABCDEF" for c in piece):
+        raise Refused(11, line)
+    body = bytes.fromhex(piece.decode("ascii"))
+    kind, rest = "%02X" % body[0], body[1:]
+    if kind != want:
+        raise Refused(12, line)
+    if kind == "01":
+        if len(rest) != 2:
+            raise Refused(12, line)
+        if not (1 <= rest[0] <= 64 and 1 <= rest[1] <= 64):
+            raise Refused(1, line)
+        net["P"], net["T"] = rest
+        return "02"
+    places = net["P"]
+    if kind in ("02", "03"):
+        if len(rest) != 2 * places:
+            raise Refused(12, line)
+        numbers = [int.from_bytes(rest[k:k + 2], "big") for k in range(0, len(rest), 2)]
+        if kind == "02":
+            net["caps"] = numbers
+            return "03"
+        if any(n == 65535 or n > c for n, c in zip(numbers, net["caps"])):
+            raise Refused(3, line)
+        net["initial"] = numbers
+        return "04"
+    if kind == "04":
+        if len(rest) != 1 + 2 * places or rest[0] != len(net["pre"]):
+            raise Refused(12, line)
+        net["pre"].append(rest[1:1 + places])
+        net["post"].append(rest[1 + places:])
+        return "05" if len(net["pre"]) == net["T"] else "04"
+    if not 1 <= len(rest) <= 64 or len(net["word"]) % 64:
+        raise Refused(12, line)
+    if len(net["word"]) + len(rest) > 65535:
+        raise Refused(4, line)
+    if any(letter >= net["T"] for letter in rest):
+        raise Refused(5, line)
+    net["word"] += rest
+    return "05"
+
+
+def answer(data):
+    """The verdict line of a file."""
+    try:
+        net = judge(data)
+    except Refused as refusal:
+        number, line = refusal.args
+        return "82%02X%08X\n" % (number, line)
+    marking = list(net["initial"])
+    for at, letter in enumerate(net["word"]):
+        pre, post = net["pre"][letter], net["post"][letter]
+        short = [p for p in range(net["P"]) if marking[p] < pre[p]]
+        if short:
+            return "8101%08X%02X\n" % (at, short[0])
+        after = [m - a + b for m, a, b in zip(marking, pre, post)]
+        over = [p for p in range(net["P"]) if net["caps"][p] != NONE and after[p] > net["caps"][p]]
+        if over:
+            return "8102%08X%02X\n" % (at, over[0])
+        marking = after
+    return "8100%08X%s\n" % (len(net["word"]), "".join("%08X" % m for m in marking))
+
+
+def lines_of(places, transitions, caps, initial, pre, post, word):
+    out = ["01%02X%02X" % (places, transitions), "02" + "".join("%04X" % c for c in caps), "03" + "".join("%04X" % m for m in initial)]
+    for t in range(transitions):
+        out.append("04%02X" % t + "".join("%02X" % b for b in list(pre[t]) + list(post[t])))
+    for k in range(0, len(word), 64):
+        out.append("05" + "".join("%02X" % b for b in word[k:k + 64]))
+    return out
+
+
+def text(lines):
+    return "".join(line + "\n" for line in lines).encode("ascii")
+
+
+WHOLE = ["010303", "02FFFFFFFF0005", "03000100000000", "0400010000000100", "0401000100010002", "0402000003000000", "050001000102"]
+
+
+def word_case(word):
+    return text(WHOLE[:6] + ["05" + "".join("%02X" % b for b in word[k:k + 64]) for k in range(0, len(word), 64)])
+
+
+def big(places, transitions, letters, rng):
+    pre = [[0] * places for _ in range(transitions)]
+    post = [[0] * places for _ in range(transitions)]
+    for t in range(transitions):
+        pre[t][t % places], post[t][(t + 1) % places] = 1, 1
+    word = [t % transitions for t in range(letters)]
+    return text(lines_of(places, transitions, [NONE] * places, [1] + [0] * (places - 1), pre, post, word))
+
+
+def cases():
+    yield "whole", text(WHOLE)
+    # the readings R12
+    yield "r12-no-feed", b"010303"
+    yield "r12-empty", b""
+    yield "r12-lone-feed", b"\n"
+    yield "r12-last-byte", text(WHOLE)[:-1]
+    yield "r12-five-lines", text(WHOLE[:5])
+    # every number of lines, whole and cut
+    for n in range(1, 8):
+        yield "first-%d" % n, text(WHOLE[:n])
+        yield "cut-%d" % n, text(WHOLE[:n])[:-1]
+    # a fault of each kind on each line
+    for k in range(7):
+        line = WHOLE[k]
+        for name, new in (("lower", line[:-2] + "0a"), ("return", line + "\r"), ("blank", line + "  "), ("odd", line + "0"), ("empty", ""),
+                          ("nul", line[:-2] + "\0\0"), ("long", line + "00"), ("short", line[:-2]), ("kind", "06" + line[2:]), ("zero", "00" + line[2:]), ("colon", line[:-1] + ":"), ("at", line[:-1] + "@"), ("g", line[:-1] + "G"), ("slash", line[:-1] + "/")):
+            yield "line%d-%s" % (k + 1, name), text(WHOLE[:k] + [new] + WHOLE[k + 1:])
+        yield "line%d-twice" % (k + 1), text(WHOLE[:k] + [line, line] + WHOLE[k + 1:])
+        yield "line%d-missing" % (k + 1), text(WHOLE[:k] + WHOLE[k + 1:])
+    for k in range(6):
+        yield "swapped-%d" % (k + 1), text(WHOLE[:k] + [WHOLE[k + 1], WHOLE[k]] + WHOLE[k + 2:])
+    for k in range(1, 6):
+        yield "after-the-end-%d" % k, text(WHOLE + [WHOLE[k - 1]])
+    # counts
+    for name, counts in (("none", "010003"), ("no-transition", "010300"), ("p65", "014103"), ("t65", "010341"), ("both", "014141"), ("p255", "01FF01")):
+        yield "counts-" + name, text([counts] + WHOLE[1:])
+    yield "counts-length-first", text(["01000300"] + WHOLE[1:])
+    # tokens
+    for name, tokens in (("full", "03000100000005"), ("over", "03000100000006"), ("most", "03FFFEFFFE0005"), ("none", "03FFFF00000000"), ("last", "0300010000FFFF")):
+        yield "tokens-" + name, text(WHOLE[:2] + [tokens] + WHOLE[3:])
+    yield "tokens-before-later-fault", text(WHOLE[:2] + ["03000100000006", "XX"] + WHOLE[4:])
+    yield "cap-zero", text([WHOLE[0], "02FFFFFFFF0000"] + WHOLE[2:])
+    # index of a transition
+    for name, row in (("wrong", "0401010000000100"), ("skip", "0402010000000100"), ("again", "0400000100010002")):
+        yield "index-" + name, text(WHOLE[:4] + [row] + WHOLE[5:])
+    # words
+    for name, word in (("empty", []), ("sample-1", [0, 1, 0, 1]), ("sample-2", [0, 1, 0, 1, 0, 1]), ("sample-3", [2]), ("letter-3", [0, 3]), ("letter-255", [255]),
+                       ("63", [0, 1, 0, 1, 2] * 12 + [0, 1, 0]), ("64", [0, 1, 0, 1, 2] * 12 + [0, 1, 0, 1]), ("65", [0, 1, 0, 1, 2] * 13), ("128", ([0, 1, 0, 1, 2] * 26)[:128]), ("129", ([0, 1, 0, 1, 2] * 26)[:129])):
+        yield "word-" + name, word_case(word)
+    yield "word-no-letter", text(WHOLE[:6] + ["05"])
+    yield "word-65-on-a-line", text(WHOLE[:6] + ["05" + "00" * 65])
+    yield "word-short-middle", text(WHOLE[:6] + ["05" + "00" * 63, "0500"])
+    yield "word-short-then-bad", text(WHOLE[:6] + ["05" + "00" * 63, "0507"])
+    yield "word-bad-in-first", text(WHOLE[:6] + ["05" + "00" * 63 + "03", "0500"])
+    yield "word-bad-in-second", text(WHOLE[:6] + ["05" + "00" * 64, "0503"])
+    rng = random.Random(7)
+    one = ["010101", "02FFFF", "030000", "04000001"]
+    full = ["05" + "00" * 64] * 1023
+    yield "letters-65535", text(one + full + ["05" + "00" * 63])
+    yield "letters-65536", text(one + full + ["05" + "00" * 64])
+    yield "letters-65535-and-one", text(one + full + ["05" + "00" * 63, "0500"])
+    yield "letters-65536-bad-letter", text(one + full + ["05" + "00" * 63 + "09"])
+    yield "letters-65472", text(one + full)
+    yield "places-64", big(64, 64, 200, rng)
+    yield "places-64-whole", big(64, 64, 65535, rng)
+    yield "places-1", big(1, 1, 3, rng)
+    # the length of a line
+    yield "digits-260", text(["01" + "00" * 129])
+    yield "digits-262", text(["01" + "00" * 130])
+    yield "digits-261", text(["01" + "00" * 129 + "0"])
+    yield "digits-260-row", big(64, 1, 5, rng)
+    yield "digits-262-row", big(64, 1, 5, rng).replace(b"\n05", b"00\n05")
+    yield "megabyte", b"0" * 1000000
+    yield "megabyte-after-whole", text(WHOLE) + b"0" * 1000000
+    yield "nul-bytes", b"\0" * 64
+    yield "carriage-returns", text(WHOLE).replace(b"\n", b"\r\n")
+    yield "feeds", b"\n" * 5
+    yield "high-bytes", b"\xff\xfe\n"
+    # blocks short and over on believable nets, by chance
+    for k in range(30):
+        p, t = rng.randint(1, 9), rng.randint(1, 6)
+        caps = [rng.choice([NONE, NONE, rng.randint(0, 9), 65534]) for _ in range(p)]
+        initial = [rng.randint(0, min(c, 12)) for c in caps]
+        pre = [[rng.choice([0, 0, 1, 2]) for _ in range(p)] for _ in range(t)]
+        post = [[rng.choice([0, 0, 1, 2, rng.choice([0, 255])]) for _ in range(p)] for _ in range(t)]
+        word = [rng.randrange(t) for _ in range(rng.choice([0, 1, 5, 64, 100, 300]))]
+        data = text(lines_of(p, t, caps, initial, pre, post, word))
+        yield "chance-%02d" % k, data
+        if k % 3 == 0:
+            at = rng.randrange(len(data))
+            yield "damaged-%02d" % k, data[:at] + bytes([rng.randrange(256)]) + data[at + 1:]
+
+
+def main():
+    check = "--check" in sys.argv[1:]
+    made = dict(cases())
+    for name, data in made.items():
+        for path, want in ((HERE / (name + ".case"), data), (HERE / (name + ".line"), answer(data).encode("ascii"))):
+            if not check:
+                path.write_bytes(want)
+            elif not path.exists() or path.read_bytes() != want:
+                print("%s is not what make.py writes" % path.name)
+    assert answer(made["whole"]) == "810000000005000000010000000000000001\n"
+    if not check:
+        print("%d case files" % len(made))
+
+
+main()
