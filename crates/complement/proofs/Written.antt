@@ -2,14 +2,15 @@
 use Prim.Native.Nat.{ℕ, suc, _+_, _-_, _*_, _≤_, _<_, zero-le}
 use mathlib.Core.Path.{_≡_, refl, sym, ap, _∙_}
 use mathlib.Core.Bool.{Bool, true, false}
-use mathlib.Core.List.{List, [], _∷_, _++_, map, append-nil}
+use mathlib.Core.List.{List, [], _∷_, _++_, map}
 use native.Mathlib.Omega.{arith}
 use native.Mathlib.Numerals.{add-one}
 use native.Mathlib.Nat.{suc-mul}
 use lib.ListN.{length, getD, set, take, drop, length-set, length-append, length-map, length-drop, drop-of-length-le}
-use lib.Seq.{sets, sets-eq, length-sets, length-take-le, drop-cons}
+use lib.Seq.{sets, length-sets, length-take-le, drop-cons}
 use lib.Dec.{ltb}
 use Rattle.ground.specs.Limits.{noCapacity}
+use Rattle.ground.proofs.Stores.{sets-both, sets-whole}
 use Rattle.net.specs.Letter.{row}
 use Rattle.net.specs.Given.{Fine}
 use Rattle.complement.specs.Complement.{cappedFrom, atCapped, joined, newRow, newRows}
@@ -110,18 +111,8 @@ fine-at caps m p f h = f .within p h
 
 pub ruleset adds = (add-start, add-no, add-yes, add-room, add-end)
 
--- one list after another, and over a whole room
-sets-both : (xs ys l : List ℕ) (i : ℕ) → sets (sets l i xs) (i + length xs) ys ≡ sets l i (xs ++ ys)
-sets-both [] ys l i = let q : i + 0 ≡ i = omega arith in rw q
-sets-both (x ∷ xs) ys l i = let q : i + suc (length xs) ≡ suc i + length xs = omega arith in rw q (sets-both xs ys (set l i x) (suc i))
-
 pub sets-then : (xs ys l l₁ l₂ : List ℕ) (to at : ℕ) → l₁ ≡ sets l to xs → at ≡ to + length xs → l₂ ≡ sets l₁ at ys → l₂ ≡ sets l to (xs ++ ys)
 sets-then xs ys l l₁ l₂ to at e q k = k ∙ rw (e, q) (sets-both xs ys l to)
-
-pub sets-whole : (vs l : List ℕ) → length vs ≡ length l → sets l 0 vs ≡ vs
-sets-whole vs l h =
-    let q : 0 + length vs ≡ length vs = omega arith in
-    sets-eq vs l 0 (omega arith) ∙ rw (q, drop-of-length-le l {i = length vs} (omega arith)) (append-nil vs)
 
 -- the initial marking, from its two parts
 module _ (caps m l l₁ : List ℕ) (h : length m + length (cappedFrom 0 caps) ≡ length l) (e : l₁ ≡ sets l 0 m) where

@@ -51,16 +51,6 @@ parts-eq (negsuc m) (negsuc n) p q = ap negsuc (less q)
     less : {m n : ℕ} → suc m ≡ suc n → m ≡ n
     less h = omega arith
 
--- ... and by one equation, each side a sum of numbers
-pub diff-eq : (a b : ℤ) → up a + dn b ≡ up b + dn a → a ≡ b
-diff-eq a b h = go (flat a) (flat b)
-  where
-    go : (up a ≡ 0) ⊎ (dn a ≡ 0) → (up b ≡ 0) ⊎ (dn b ≡ 0) → a ≡ b
-    go (inl p) (inl q) = parts-eq a b (omega arith) (omega arith)
-    go (inl p) (inr q) = parts-eq a b (omega arith) (omega arith)
-    go (inr p) (inl q) = parts-eq a b (omega arith) (omega arith)
-    go (inr p) (inr q) = parts-eq a b (omega arith) (omega arith)
-
 pub is-sub : (z : ℤ) → subℕ (up z) (dn z) ≡ z
 is-sub z = go (flat z)
   where

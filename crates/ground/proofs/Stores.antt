@@ -1,19 +1,16 @@
--- A run of stores, `sets` of the kit's lib.Seq: its turns in a loop, and what stands where afterwards. Assumes nothing.
-use Prim.Native.Nat.{ℕ, _+_, _≤_}
-use mathlib.Core.Path.{_≡_, refl}
-use mathlib.Core.List.{List, _∷_, _++_, append-assoc}
+-- Runs of stores, `sets` of the kit's lib.Seq: one after another, and over a whole list. Assumes nothing.
+use Prim.Native.Nat.{ℕ, suc, _+_}
+use mathlib.Core.Path.{_≡_, _∙_}
+use mathlib.Core.List.{List, [], _∷_, _++_, append-nil}
 use native.Mathlib.Omega.{arith}
-use native.Mathlib.Numerals.{add-one}
-use lib.ListN.{length, set, take, drop}
-use lib.Seq.{sets, sets-eq, length-take-le, take-at, drop-at}
+use lib.ListN.{length, set, drop-of-length-le}
+use lib.Seq.{sets, sets-eq}
 
-module _ {A : Type 0} where
-  -- one store, and the rest from the next place on
-  pub sets-next : (l : List A) (i : ℕ) (v : A) (vs : List A) → sets (set l i v) (i + 1) vs ≡ sets l i (v ∷ vs)
-  sets-next l i v vs = rw (add-one i)
+pub sets-both : {A : Type 0} (xs ys l : List A) (i : ℕ) → sets (sets l i xs) (i + length xs) ys ≡ sets l i (xs ++ ys)
+sets-both [] ys l i = let q : i + 0 ≡ i = omega arith in rw q
+sets-both (x ∷ xs) ys l i = let q : i + suc (length xs) ≡ suc i + length xs = omega arith in rw q (sets-both xs ys (set l i x) (suc i))
 
-  -- the stores made, from i on
-  pub sets-here : (vs l : List A) (i : ℕ) → i + length vs ≤ length l → take (length vs) (drop i (sets l i vs)) ≡ vs
-  sets-here vs l i h =
-      rw (sets-eq vs l i h, append-assoc, drop-at (take i l) (vs ++ drop (i + length vs) l) i (length-take-le i l (omega arith)))
-      (take-at vs (drop (i + length vs) l) (length vs) refl)
+pub sets-whole : {A : Type 0} (vs l : List A) → length vs ≡ length l → sets l 0 vs ≡ vs
+sets-whole vs l h =
+    let q : 0 + length vs ≡ length vs = omega arith in
+    sets-eq vs l 0 (omega arith) ∙ rw (q, drop-of-length-le l {i = length vs} (omega arith)) (append-nil vs)

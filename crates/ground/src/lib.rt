@@ -25,6 +25,9 @@ pub const WORD_LIMIT: usize = 65535;
 // The most markings of a list.
 pub const LIST_LIMIT: usize = 4096;
 
+// Entries of a weighting are lent as i16, which holds exactly what 01 allows, so that no code tests
+// them; their size without the sign is `entryLimit` in the definitions.
+
 // x where it is not negative, else 0.
 pub fn up_part(x: i32) -> u32
     ensures { λ r. ⌜ r ≡ up x ⌝ }

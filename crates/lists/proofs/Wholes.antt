@@ -10,9 +10,8 @@ use lib.ListN.{length, getD, take, drop, length-drop, List·getD-eq-default}
 use lib.Dec.{ltb, eqb}
 use borrow.Author.Tests.{lt-ltb, le-ltb, ltb-false, eqb-true}
 use lib.Seq.{length-take-le}
-use Rattle.ground.specs.Limits.{countLimit, tokenLimit, listLimit}
+use Rattle.ground.specs.Limits.{countLimit, listLimit}
 use Rattle.ground.proofs.Tests.{and-true, or-false}
-use Rattle.ground.proofs.Scan.{first-below}
 use Rattle.net.specs.Letter.{Small}
 use Rattle.net.specs.declared.Fault.the-variants.{Sound, Faulty}
 use Rattle.net.proofs.Rows.{row-end, row-at}
@@ -71,17 +70,6 @@ module _ (target : List ℕ) (p : ℕ) (e : p ≡ lowestAny target) where
   target-fine h = rw (← e, le-ltb p (length target) h)
 
 pub ruleset targets = (target-any, target-fine)
-
--- a target that is not refused has no 65,535
-pub target-few : (target : List ℕ) → targetFault target ≡ Sound → Small tokenLimit target
-unfolding targetFault
-target-few target e =
-    let x = ltb-false (lowestAny target) (length target) (refuse-sound _ 3 (lowestAny target) e) in
-    record { at = λ p. go p (decLt p (length target)) x }
-  where
-    go : (p : ℕ) → Dec (p < length target) → length target ≤ lowestAny target → getD target p 0 ≤ tokenLimit
-    go p (yes h) x = ltb-false tokenLimit (getD target p 0) (first-below (λ p. ltb tokenLimit (getD target p 0)) (length target) p (omega arith))
-    go p (no n) x = rw (List·getD-eq-default target 0 {n = p} (omega arith)) zero-le
 
 -- the numbers tell any two failures apart
 pub failures-apart : (a b : Failure) → failureNumbers a ≡ failureNumbers b → a ≡ b

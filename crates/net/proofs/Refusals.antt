@@ -30,10 +30,6 @@ or-sound (Faulty n at) g e = let z : _≡_ {A = ℕ} 0 1 = cc in absurd (omega a
 pub sound-or : (f g : Fault) → f ≡ Sound → g ≡ Sound → orElse f g ≡ Sound
 sound-or f g p q = rw (p, q)
 
--- a chain stops at its first fault
-pub or-faulty : (f g : Fault) (n at : ℕ) → f ≡ Faulty n at → Faulty n at ≡ orElse f g
-or-faulty f g n at e = rw e
-
 pub refuse-sound : (b : Bool) (n at : ℕ) → refuse b n at ≡ Sound → b ≡ false
 refuse-sound true n at e = let z : _≡_ {A = ℕ} 0 1 = cc in absurd (omega arith)
 refuse-sound false n at e = refl

@@ -16,7 +16,6 @@ use Rattle.reading.specs.declared.Took.{Took}
 use Rattle.reading.specs.Read.{Good, Rooms, rooms, lineOf, roomsOf, judgeOf, judgeKind, ruleOf, advanced, Large, GoodTook}
 use Rattle.reading.proofs.Turns.{rule-says, judge-rule}
 use Rattle.reading.proofs.Accept.{cond-then}
-use Rattle.parts.specs.declared.Lines.{Lines}
 use Rattle.parts.specs.declared.Case.the-variants.{Whole, Refused}
 use Rattle.parts.specs.File.{finishOf, going, stopped, Both, both, ended, fedTo, feedOf, feedAll, lineLen, NoFeed, holdOf}
 use Rattle.reading.specs.declared.Took.the-variants as took

@@ -1,7 +1,7 @@
 -- A case file as a run of bytes: a fold, so that any cutting into parts comes to the same.
-use Prim.Native.Nat.{ℕ, zero, suc, _+_, _≤_, _<_}
+use Prim.Native.Nat.{ℕ, suc, _+_, _≤_}
 use mathlib.Core.Path.{_≡_}
-use mathlib.Core.Bool.{Bool, true, false, cond}
+use mathlib.Core.Bool.{cond}
 use mathlib.Core.List.{List, [], _∷_, _++_}
 use lib.ListN.{length, take, drop}
 use lib.Dec.{ltb, leb, eqb}
@@ -9,7 +9,7 @@ use Rattle.frames.specs.Frame.{lineLimit, lineFeed}
 use Rattle.reading.specs.declared.Reading.{Reading}
 use Rattle.reading.specs.declared.Took.{Took}
 use Rattle.reading.specs.declared.Took.the-variants as took
-use Rattle.reading.specs.Read.{Good, Rooms, lineOf, roomsOf, fresh}
+use Rattle.reading.specs.Read.{Good, Rooms, lineOf, roomsOf}
 use Rattle.parts.specs.declared.Held.{Held}
 use Rattle.parts.specs.declared.Case.{Case}
 use Rattle.parts.specs.declared.Case.the-variants.{Whole, Refused}

@@ -12,9 +12,9 @@ ghost use Prim.Native.Nat.{_+_, _*_, _<_, _≤_};
 ghost use lib.ListN.{length};
 ghost use lib.Seq.{sets};
 ghost use Rattle.ground.specs.Limits.{countLimit, wordLimit};
-ghost use Rattle.frames.specs.Frame.{byteAt, bytesFrom, wordsFrom};
+ghost use Rattle.frames.specs.Frame.{bytesFrom};
 ghost use Rattle.reading.specs.Read.{cellLimit, Good, ruleOf, countsOf, capsOf, tokensOf, rowOf, lettersOf, fitTokens, fitLetters, judgeOf};
-ghost use Rattle.reading.specs.Read.{Rooms, rooms, stored, advanced, lineOf, roomsOf, Accepted, Large, GoodTook, fresh};
+ghost use Rattle.reading.specs.Read.{rooms, stored, advanced, lineOf, roomsOf, Accepted, Large, GoodTook, fresh};
 
 pub struct Reading {
     // the kind that must come next: 1 to 4, and 5 for letters or the end

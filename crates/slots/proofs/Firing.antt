@@ -1,6 +1,5 @@
 -- A word fires at one place: letters of three numbers, for any rise and any kind of room. Assumes nothing.
 use Prim.Native.Nat.{ℕ, _+_, _-_, _≤_, zero-le}
-use mathlib.Core.Path.{_≡_}
 use mathlib.Core.List.{List, [], _∷_}
 use native.Mathlib.Decide.{decLe}
 use native.Mathlib.Omega.{arith}

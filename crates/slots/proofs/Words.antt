@@ -11,9 +11,9 @@ use Rattle.ground.specs.Parts.{up, dn}
 use Rattle.ground.proofs.Most.{most-at, most-least, most-same}
 use Rattle.ground.proofs.Parts.{up-sub, dn-sub, minus-is, sub-sum, up-sum, pos-minus}
 use Rattle.slots.specs.Place.{Move, change, need, climb, prefixClimb}
-use Rattle.slots.specs.Slots.{nil, slotOf, joined, step, Well}
+use Rattle.slots.specs.Slots.{slotOf, joined, step, Well}
 use Rattle.slots.proofs.Steps.{step-is, step-diff}
-use Rattle.slots.proofs.Peaks.{total, total-append, total-more, heightAt, peak, peak-nil, peak-is, peak-append, peak-enough, peak-small}
+use Rattle.slots.proofs.Peaks.{total, total-append, total-more, heightAt, peak, peak-is, peak-append, peak-enough, peak-small}
 
 -- a letter puts no more than it takes and rises
 pub record Rising (at : ℕ → Move) : Type 0 where
@@ -67,10 +67,6 @@ module _ (at : ℕ → Move) where
 
     pub climb-peak : (w : List ℕ) → climb at w ≡ peak rise puts takes w
     climb-peak w = climb-most w ∙ peak-is rise puts takes (λ t. omega (arith, rising .kept t)) w
-
-    pub slot-nil : slotOf at [] ≡ nil
-    unfolding slotOf change
-    slot-nil = λ i. record { need = (need-peak [] ∙ peak-nil takes takes puts) i; climb = (climb-peak [] ∙ peak-nil rise puts takes) i; change = pos 0 }
 
     -- the slot of a word in two parts is the join of theirs
     pub slot-append : (u w : List ℕ) → slotOf at (u ++ w) ≡ joined (slotOf at u) (slotOf at w)

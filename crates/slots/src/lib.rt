@@ -6,7 +6,6 @@ ghost use mathlib.Core.Path.{_≡_};
 ghost use Prim.Native.Nat.{_+_, _-_, _*_, _^_, _<_, _≤_};
 ghost use lib.ListN.{length, getD, replicate};
 ghost use Rattle.ground.specs.Limits.{countLimit, weightLimit, wordLimit};
-ghost use Rattle.ground.specs.Parts.{up, dn};
 ghost use Rattle.net.specs.Net.{netOf};
 ghost use Rattle.net.specs.Given.{Sized, Letters};
 ghost use Rattle.slots.specs.Place.{letterAt};

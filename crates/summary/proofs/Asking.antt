@@ -40,9 +40,6 @@ asked-apart (Refused n at) (Refused k p) e = let x : n ≡ k = cc in let y : at 
 pub same-yes : (a b : Bool) → a ≡ true → b ≡ (a && b)
 same-yes a b e = rw e
 
-pub same-no : (a b : Bool) → a ≡ false → false ≡ (a && b)
-same-no a b e = rw e
-
 -- which refusal: x is the test of the summary's place count
 module _ (net : Net) (m : List ℕ) (s : Summary) (roomy : Bool) (x : Bool) (ex : x ≡ outside (s .places)) where
   pub ask-count : x ≡ true → Faulty 1 0 ≡ askFault net m s roomy

@@ -8,7 +8,7 @@ use native.Mathlib.Decide.{decLe}
 use native.Mathlib.Omega.{arith}
 use lib.ListN.{length, getD}
 use lib.Seq.{ext-getD}
-use lib.IntN.{ℤ, pos, _+ℤ_}
+use lib.IntN.{pos, _+ℤ_}
 use borrow.Author.Tests.{lt-ltb}
 use Rattle.ground.specs.Limits.{countLimit, wordLimit}
 use Rattle.ground.specs.Parts.{up}

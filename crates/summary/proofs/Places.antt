@@ -10,7 +10,7 @@ use Rattle.ground.proofs.Parts.{moved-le}
 use Rattle.net.specs.Net.{Net, Pre, Post, Change, capacity, Capped, tokens}
 use Rattle.net.specs.Given.{Letters}
 use Rattle.net.specs.Letter.{firedAt}
-use Rattle.net.specs.Firing.{Enabled, Gives, Firing, Fires, nothing, letter, Within}
+use Rattle.net.specs.Firing.{Enabled, Gives, Fires, nothing, letter, Within}
 use Rattle.net.proofs.Meaning.{gives-plain, firing-within}
 use Rattle.net.proofs.Judged.{gives-fired}
 use Rattle.slots.specs.Place.{letterAt, change}

@@ -1,21 +1,15 @@
 -- Laws of bytes put one after another. Assumes nothing.
 use mathlib.Core.Path.{_≡_, refl, sym, _∙_, ap}
-use mathlib.Core.List.{List, [], _∷_, _++_, append-nil}
+use mathlib.Core.List.{List, [], _∷_, _++_}
 use Prim.Native.Nat.{ℕ, zero, suc, _+_, _*_, _/_, _%_, _≤_, _<_}
 use native.Mathlib.Omega.{arith}
 use native.Mathlib.Numerals.{add-one}
 use native.Mathlib.Nat.{not-suc-le-zero}
-use lib.ListN.{length, getD, drop, set, length-append, length-set}
+use lib.ListN.{length, getD, drop, set, length-append}
 use lib.Seq.{sets, drop-cons, length-sets}
+use Rattle.ground.proofs.Stores.{sets-both}
 use Rattle.frames.specs.Frame.{digitOf, digitsOf, lineFeed}
 use Rattle.verdict.specs.Verdict.{four, fours, Put, WrittenBytes}
-
--- stores one after another are one run of stores
-pub sets-then : (l a b : List ℕ) (i : ℕ) → sets (sets l i a) (i + length a) b ≡ sets l i (a ++ b)
-sets-then l [] b i = let e : i + 0 ≡ i = omega arith in rw e
-sets-then l (x ∷ a) b i =
-    let e : i + suc (length a) ≡ suc i + length a = omega arith in
-    rw e (sets-then (set l i x) a b (suc i))
 
 pub digits-then : (a b : List ℕ) → digitsOf (a ++ b) ≡ digitsOf a ++ digitsOf b
 unfolding digitsOf
@@ -27,15 +21,11 @@ unfolding digitsOf
 digits-long [] = refl
 digits-long (x ∷ a) = let e = digits-long a in omega (arith, e)
 
-pub put-none : (l : List ℕ) (at : ℕ) → Put l at [] at l
-unfolding digitsOf
-put-none l at = record { made = refl; next = omega arith }
-
 pub put-then : (l : List ℕ) (at : ℕ) (a b : List ℕ) (r s : ℕ) (m n : List ℕ) → Put l at a r m → Put m r b s n → Put l at (a ++ b) s n
 put-then l at a b r s m n p q =
     let e : r ≡ at + length (digitsOf a) = p .next ∙ rw (digits-long a) in
     record {
-      made = q .made ∙ rw (p .made, e) (sets-then l (digitsOf a) (digitsOf b) at ∙ ap (sets l at) (sym (digits-then a b)));
+      made = q .made ∙ rw (p .made, e) (sets-both (digitsOf a) (digitsOf b) l at ∙ ap (sets l at) (sym (digits-then a b)));
       next = omega (arith, p .next, q .next, length-append a b);
     }
 
@@ -77,7 +67,7 @@ module _ (l : List ℕ) (at : ℕ) (m : List ℕ) (i r : ℕ) (o : List ℕ) (p 
         inside = omega arith;
         long = put-long o r (four n) s o′ q ∙ p .long;
         next = omega (arith, p .next, q .next, four-long n);
-        same = rw (q .made, k) (sets-then o (digitsOf (four n)) (digitsOf (fours (drop (i + 1) m))) r
+        same = rw (q .made, k) (sets-both (digitsOf (four n)) (digitsOf (fours (drop (i + 1) m))) o r
             ∙ ap (sets o r) (sym (digits-then (four n) (fours (drop (i + 1) m)))) ∙ rw (e, add-one i) (ap (λ (z : List ℕ). sets o r (digitsOf (fours z))) (sym (drop-cons m i 0 h)) ∙ p .same));
       }
 
@@ -104,6 +94,6 @@ pub fed : (l a : List ℕ) (r s : ℕ) (m n : List ℕ) → Put l 0 a r m → n 
 fed l a r s m n p e f =
     let k : r ≡ 0 + length (digitsOf a) = p .next ∙ rw (digits-long a) in
     record {
-      made = e ∙ rw (p .made, k) (sets-then l (digitsOf a) (lineFeed ∷ []) 0);
+      made = e ∙ rw (p .made, k) (sets-both (digitsOf a) (lineFeed ∷ []) l 0);
       long = let z = length-append (digitsOf a) (lineFeed ∷ []) in omega (arith, k);
     }

@@ -1,4 +1,3 @@
-use mathlib.Core.Path.{_≡_}
 use Rattle.parts.proofs.Buffer.{after-good, after-some, after-next, after-refused}
 use borrow.Author.Needs.{needs}
 use Rattle.parts.proofs.after.Statement.{statement}

@@ -1,5 +1,3 @@
-use mathlib.Core.Path.{_≡_, sym}
-use borrow.Author.Tests.{eq-eqb, ne-eqb}
 use Rattle.parts.proofs.Line.{finishes}
 use borrow.Author.Needs.{needs}
 use Rattle.parts.proofs.finish.Statement.{statement}

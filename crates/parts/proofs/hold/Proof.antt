@@ -1,5 +1,4 @@
 use denote.Ref.{now}
-use mathlib.Core.Path.{_≡_, refl}
 use native.Mathlib.Omega.{arith}
 use Rattle.parts.proofs.Buffer.{hold-long, hold-fine, hold-sound}
 use borrow.Author.Needs.{needs}

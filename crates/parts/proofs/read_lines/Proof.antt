@@ -1,11 +1,11 @@
 use native.Mathlib.Omega.{arith}
-use Prim.Native.Nat.{ℕ, _-_}
+use Prim.Native.Nat.{_-_}
 use mathlib.Core.Path.{refl, _∙_}
 use mathlib.Core.List.{[]}
 use lib.ListN.{length, drop}
 use Rattle.reading.specs.Read.{rooms}
 use Rattle.parts.specs.File.{going, both, feedAll}
-use Rattle.parts.proofs.Line.{Same, large, Reads, bounds, reads-end, reads-cut, reads-next, reads-broken}
+use Rattle.parts.proofs.Line.{large, Reads, bounds, reads-end, reads-cut, reads-next, reads-broken}
 use borrow.Author.Needs.{needs}
 use Rattle.parts.proofs.read_lines.Statement.{statement}
 use Rattle.parts.proofs.read_lines.Tie as tie

@@ -2,7 +2,7 @@ use denote.Ref.{now}
 use Rattle.reading.specs.Read.{rooms}
 use native.Mathlib.Omega.{arith}
 use mathlib.Core.Path.{_∙_}
-use Rattle.parts.proofs.Line.{Same, large}
+use Rattle.parts.proofs.Line.{large}
 use Rattle.parts.proofs.Buffer.{on-refused, on-rest}
 use borrow.Author.Needs.{needs}
 use Rattle.parts.proofs.read_on.Statement.{statement}

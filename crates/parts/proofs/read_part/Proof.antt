@@ -1,7 +1,6 @@
 use denote.Ref.{now}
 use native.Mathlib.Omega.{arith}
 use mathlib.Core.Path.{_≡_, sym}
-use Prim.Native.Nat.{ℕ}
 use Rattle.reading.specs.Read.{rooms}
 use lib.Seq.{length-take-le}
 use Rattle.parts.proofs.Buffer.{part-stopped, piece-inside, part-cut, part-long, part-on}

@@ -1,4 +1,3 @@
-use mathlib.Core.Path.{_≡_}
 use borrow.Author.Needs.{needs}
 use Rattle.summary.proofs.no_letters.Statement.{statement}
 use Rattle.summary.proofs.no_letters.Tie as tie

@@ -1,5 +1,5 @@
 use native.Mathlib.Omega.{arith}
-use Prim.Native.Nat.{ℕ, _-_}
+use Prim.Native.Nat.{_-_}
 use lib.ListN.{length}
 use Rattle.verdict.proofs.Puts.{Putting, puttings}
 use borrow.Author.Needs.{needs}
