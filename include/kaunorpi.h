@@ -1,0 +1,225 @@
+/* Kaunorpi for C: could this order of machine events have happened at all?
+ *
+ * Every function below may be called with anything, and ends with an answer. The library holds no memory of
+ * its own, keeps nothing between calls, and may be called from several threads at once.
+ *
+ * What is lent. Each list is handed over as a pointer and then its number of entries (not bytes). A list that
+ * is `const` is only read, another is a room that the answer is written to; both are used during the call and
+ * never after it. A pointer may be null where its length is 0. A room must not overlap anything else that is
+ * lent in the same call. The lengths are compared with the counts: a wrong one is refusal 2, and is not used.
+ *
+ * The net comes first in every question, always whole and in this order:
+ *   places, transitions   how many there are, 1 to 64 each
+ *   pre, post             places * transitions weights of a byte each: what transition t takes from place p, and
+ *                         puts there, stands at t * places + p; 0 is no arc
+ *   caps                  places capacities, 0 to 65,534; 65,535 is none
+ * A marking is a list of places token counts, 0 to 65,534. A word is a list of transition numbers, its letters,
+ * at most 65,535 of them; the first letter is number 0, and so are the first place and the first transition.
+ *
+ * How to read an answer. `kind` is 0x81 for an answer and 0x82 for a refusal; `number` then says which. A field
+ * that a comment below does not name for an answer is 0.
+ *
+ * A refusal (kind 0x82) means that the question itself is faulty. Nothing was written to any room. `number`:
+ *    1  a place or transition count outside 1..64
+ *    2  a list or room whose length disagrees with the counts; two summaries of different place counts; a stretch
+ *       that ends before its start or past its word
+ *    3  65,535 tokens where not allowed, or more tokens than the capacity. position: the place; in a list of
+ *       markings, marking number * places + place
+ *    4  a word over 65,535 letters
+ *    5  a letter that names no transition. position: the letter
+ *    6  a summary that no word has. position: 0 if it is too long, else the lowest place or slot
+ *    7  summaries that together have over 65,535 letters
+ *    8  a set without places, a weighting all zero
+ *    9  a list of no marking, or of more than 4,096
+ *   10  a complement net of more than 64 places
+ *   11  a line of a case file breaks the digit rules or lacks its line feed. position: the line, from 1
+ *   12  a frame of unknown kind, in the wrong order, of wrong length or index, or missing. position: the line
+ *   13  a place number that is not below the place count
+ * position is 0 where nothing else is said, but in a case file it is always the line. Of several refusals the
+ * lowest number is given, and of one number the lowest position, the initial marking before a list before a
+ * target.
+ */
+#ifndef KAUNORPI_H
+#define KAUNORPI_H
+
+#include <stddef.h>
+#include <stdint.h>
+
+#ifdef __cplusplus
+extern "C" {
+#endif
+
+#define KAUNORPI_ANSWERED 0x81
+#define KAUNORPI_REFUSED 0x82
+
+/* the lengths of a summary's three lists, and the largest counts */
+#define KAUNORPI_MOST_PLACES 64
+#define KAUNORPI_MOST_TRANSITIONS 64
+#define KAUNORPI_MOST_CELLS 4096
+#define KAUNORPI_MOST_LETTERS 65535
+/* as a capacity: none; in a cover list: any number */
+#define KAUNORPI_NONE 65535
+#define KAUNORPI_ANY 65535
+
+/* The net, the way each function is lent it. */
+#define KAUNORPI_NET \
+    size_t places, size_t transitions, const uint8_t *pre, size_t pre_len, const uint8_t *post, size_t post_len, \
+    const uint16_t *caps, size_t caps_len
+
+typedef struct kaunorpi_answer {
+    uint8_t kind;
+    uint8_t number;
+    size_t position;
+} kaunorpi_answer;
+
+typedef struct kaunorpi_replay {
+    uint8_t kind;
+    uint8_t number;
+    size_t position;
+    size_t place;
+} kaunorpi_replay;
+
+typedef struct kaunorpi_summary {
+    uint8_t kind;
+    uint8_t number;
+    size_t position;
+    size_t places;
+    uint32_t letters;
+} kaunorpi_summary;
+
+typedef struct kaunorpi_bound {
+    uint8_t kind;
+    uint8_t number;
+    size_t position;
+    uint64_t bound;
+} kaunorpi_bound;
+
+typedef struct kaunorpi_list {
+    uint8_t kind;
+    uint8_t number;
+    size_t position;
+    size_t transition;
+} kaunorpi_list;
+
+typedef struct kaunorpi_places {
+    uint8_t kind;
+    uint8_t number;
+    size_t position;
+    size_t places;
+} kaunorpi_places;
+
+typedef struct kaunorpi_case {
+    uint8_t kind;
+    uint8_t number;
+    size_t position;
+    size_t places;
+    size_t transitions;
+    size_t letters;
+} kaunorpi_case;
+
+/* ---- Replay: can the letters of the word happen in this order? Refusals 1 2 3 4 5.
+ * 0x81 0: all of them. position: how many. room: the tokens of each place afterwards.
+ * 0x81 1: letter `position` cannot happen, since `place` has fewer tokens than it takes; no lower place has.
+ * 0x81 2: letter `position` cannot happen: no place is short, but `place` would hold more than its capacity; no
+ *         lower place would.
+ * In the last two cases room holds the tokens after the letters before that one. room: places entries. */
+kaunorpi_replay kaunorpi_replay_word(KAUNORPI_NET, const uint16_t *initial, size_t initial_len, const uint8_t *word,
+                                     size_t word_len, uint32_t *room, size_t room_len);
+/* The same for the letters from number start up to, and without, number end. Positions count from start, and the
+ * rest of the word is not looked at. */
+kaunorpi_replay kaunorpi_replay_stretch(KAUNORPI_NET, const uint16_t *initial, size_t initial_len, const uint8_t *word,
+                                        size_t word_len, size_t start, size_t end, uint32_t *room, size_t room_len);
+
+/* ---- Summaries: what a word needs, how far it climbs, and what it changes, at each place.
+ * A summary is a place count, a number of letters and three lists of exactly 64 entries, need, climb and change, with
+ * zeros past the place count. Another length of any of them is refusal 2.
+ * 0x81 0: made. places, letters: the summary's own. need, climb, change: its lists, all 64 entries written. */
+
+/* The summary of no letters. Refusals 1 2. */
+kaunorpi_summary kaunorpi_empty_summary(size_t places, uint32_t *need, size_t need_len, uint32_t *climb,
+                                        size_t climb_len, int32_t *change, size_t change_len);
+/* The summary of a word, or of a stretch of it (see kaunorpi_replay_stretch). Refusals 1 2 4 5. */
+kaunorpi_summary kaunorpi_summary_word(KAUNORPI_NET, const uint8_t *word, size_t word_len, uint32_t *need,
+                                       size_t need_len, uint32_t *climb, size_t climb_len, int32_t *change,
+                                       size_t change_len);
+kaunorpi_summary kaunorpi_summary_stretch(KAUNORPI_NET, const uint8_t *word, size_t word_len, size_t start, size_t end,
+                                          uint32_t *need, size_t need_len, uint32_t *climb, size_t climb_len,
+                                          int32_t *change, size_t change_len);
+/* The summary of the first word followed by the second, from their summaries. Refusals 1 2 6 7. */
+kaunorpi_summary kaunorpi_join_summaries(size_t first_places, uint32_t first_letters, const uint32_t *first_need,
+                                         size_t first_need_len, const uint32_t *first_climb, size_t first_climb_len,
+                                         const int32_t *first_change, size_t first_change_len, size_t second_places,
+                                         uint32_t second_letters, const uint32_t *second_need, size_t second_need_len,
+                                         const uint32_t *second_climb, size_t second_climb_len,
+                                         const int32_t *second_change, size_t second_change_len, uint32_t *need,
+                                         size_t need_len, uint32_t *climb, size_t climb_len, int32_t *change,
+                                         size_t change_len);
+/* Does the word of this summary fire from this marking? Refusals 1 2 3 6. room: places entries.
+ * 0x81 0: yes, and room holds the tokens of each place afterwards. 0x81 1: no, and room is as it was. */
+kaunorpi_answer kaunorpi_ask_summary(KAUNORPI_NET, const uint16_t *marking, size_t marking_len, size_t summary_places,
+                                     uint32_t summary_letters, const uint32_t *need, size_t need_len,
+                                     const uint32_t *climb, size_t climb_len, const int32_t *change, size_t change_len,
+                                     uint32_t *room, size_t room_len);
+
+/* ---- Weightings. Refusals 1 2 8.
+ * y: places entries. 0x81 0: invariant: every firing keeps the sum of y x tokens. 0x81 1: not invariant; position: the
+ * lowest transition that changes the sum. */
+kaunorpi_answer kaunorpi_place_weighting(KAUNORPI_NET, const int16_t *y, size_t y_len);
+/* x: transitions entries. 0x81 0: invariant, with a negative entry. 0x81 1: not invariant; position: the lowest place
+ * that would change. 0x81 2: invariant and proper, no entry is negative: firing each t x(t) times changes nothing. */
+kaunorpi_answer kaunorpi_transition_weighting(KAUNORPI_NET, const int16_t *x, size_t x_len);
+/* What y bounds the tokens of `place` by. Refusals 1 2 3 8 13.
+ * 0x81 0: bound: the place never holds more. 0x81 1: no bound, since position: 1 y is not invariant, 2 it has a negative
+ * entry, 3 y(place) is not positive. */
+kaunorpi_bound kaunorpi_place_bound(KAUNORPI_NET, const uint16_t *initial, size_t initial_len, const int16_t *y,
+                                    size_t y_len, size_t place);
+
+/* ---- Sets of places. set: places bytes, 0 for out. Refusals 1 2 8.
+ * Siphon: every transition that puts into the set takes from it; empty, it stays empty. Trap: every one that takes from
+ * it puts into it; marked, it stays marked. 0x81 0: yes. 0x81 1: no; position: the lowest transition that breaks it. */
+kaunorpi_answer kaunorpi_siphon_set(KAUNORPI_NET, const uint8_t *set, size_t set_len);
+kaunorpi_answer kaunorpi_trap_set(KAUNORPI_NET, const uint8_t *set, size_t set_len);
+
+/* ---- Marking lists. list: the markings one after another, places entries each. Refusals 1 2 3 9.
+ * 0x81 1: the list is not accepted: the initial marking is missing from it (or not covered).
+ * 0x81 2: the list is not accepted: the result of firing `transition` at listed marking number `position` is missing
+ *         from it (or not covered). It is the first such marking, and in it the lowest such transition. */
+
+/* Closed: 0x81 0: accepted: whatever can be reached from the initial marking is listed. */
+kaunorpi_list kaunorpi_closed_list(KAUNORPI_NET, const uint16_t *initial, size_t initial_len, const uint16_t *list,
+                                   size_t list_len);
+/* 0x81 0: the target is never reached. 0x81 3: not shown: it is listed, and a list may hold more than can be reached. */
+kaunorpi_list kaunorpi_closed_target(KAUNORPI_NET, const uint16_t *initial, size_t initial_len, const uint16_t *list,
+                                     size_t list_len, const uint16_t *target, size_t target_len);
+/* 0x81 0: the line never stalls: every listed marking enables something. 0x81 3: not shown. */
+kaunorpi_list kaunorpi_closed_stall(KAUNORPI_NET, const uint16_t *initial, size_t initial_len, const uint16_t *list,
+                                    size_t list_len);
+/* Cover: an entry of 65,535 is "any number". Capacities are not used. 0x81 0: accepted: whatever can be reached is
+ * covered by a listed marking. */
+kaunorpi_list kaunorpi_cover_list(KAUNORPI_NET, const uint16_t *initial, size_t initial_len, const uint16_t *list,
+                                  size_t list_len);
+/* 0x81 0: nothing that can be reached covers the target. 0x81 3: not shown. */
+kaunorpi_list kaunorpi_cover_target(KAUNORPI_NET, const uint16_t *initial, size_t initial_len, const uint16_t *list,
+                                    size_t list_len, const uint16_t *target, size_t target_len);
+
+/* ---- The complement net: the same net without capacities, which fires the very same words.
+ * 0x81 0: places: how many places it has. Refusals 1 2 10. */
+kaunorpi_places kaunorpi_complement_places(KAUNORPI_NET);
+/* 0x81 0: the rooms hold it: transitions * n weights in pre2 and in post2, n capacities and n tokens, where n is what
+ * kaunorpi_complement_places answers. Refusals 1 2 3 10. */
+kaunorpi_answer kaunorpi_complement_net(KAUNORPI_NET, const uint16_t *initial, size_t initial_len, uint8_t *pre2,
+                                        size_t pre2_len, uint8_t *post2, size_t post2_len, uint16_t *caps2,
+                                        size_t caps2_len, uint16_t *initial2, size_t initial2_len);
+
+/* ---- A case file: its bytes, into a net, a marking and a word. Refusals 2 11 12 1 3 4 5; but for 2 position is the line.
+ * The rooms have the largest sizes, exactly: 64, 64, 4,096, 4,096 and 65,535 entries; another length is refusal 2.
+ * 0x81 0: places, transitions, letters: the file's. Its capacities, tokens, weights and letters stand at the front of the
+ * rooms; what lies behind them is as it was. */
+kaunorpi_case kaunorpi_read_case(const uint8_t *file, size_t file_len, uint16_t *caps, size_t caps_len,
+                                 uint16_t *initial, size_t initial_len, uint8_t *pre, size_t pre_len, uint8_t *post,
+                                 size_t post_len, uint8_t *word, size_t word_len);
+
+#ifdef __cplusplus
+}
+#endif
+#endif
