@@ -4,93 +4,47 @@
     python3 tests/expected/closed.py > crates/closed_runs/stdout
 
 Written from document 01 alone, without the program's code: markings are tuples of unbounded numbers, a list is a set of them
-with its order beside it, and every rule is spelled out as 01 words it. A line a case: its number, then 129 0 (accepted, never
-reached, never stalls), 129 1 (initial missing), 129 2 marking transition, 129 3 (not shown), or 130 refusal position.
+with its order beside it, and every rule is spelled out as 01 words it (refusals and the search in shared/lists.py). A line a case:
+its number, then 129 0 (accepted, never reached, never stalls), 129 1 (initial missing), 129 2 marking transition, 129 3 (not
+shown), or 130 refusal position.
 """
 
-NONE = 65535  # "65,535 means none"
+from shared.lists import NONE, SAMPLE, START, counted_net, failure, markings_of, one_place, refusal, tell
 
 
-class Net:
-    def __init__(self, P, T, pre, post, caps):
-        self.P, self.T, self.pre, self.post, self.caps = P, T, pre, post, caps
-
-    def fired(self, m, t):
-        """The marking after t at m, or None where t is not enabled."""
-        takes = self.pre[t * self.P : (t + 1) * self.P]
-        puts = self.post[t * self.P : (t + 1) * self.P]
-        after = tuple(m[p] + puts[p] - takes[p] for p in range(self.P))
-        for p in range(self.P):
-            if takes[p] > m[p] or (self.caps[p] != NONE and after[p] > self.caps[p]):
-                return None
-        return after
-
-
-def refusal(net, initial, flat, target):
-    """The first refusal in number order as (number, position), or None."""
-    P, T = net.P, net.T
-    if not (1 <= P <= 64 and 1 <= T <= 64):
-        return 1, 0
-    if [len(net.pre), len(net.post), len(net.caps), len(initial)] != [P * T, P * T, P, P] or len(flat) % P:
-        return 2, 0
-    if target is not None and len(target) != P:
-        return 2, 0
-    for given in (initial, flat):  # the initial marking, then the list, "marking number x P + place"
-        for at, tokens in enumerate(given):
-            cap = net.caps[at % P]
-            if tokens == 65535 or (cap != NONE and tokens > cap):
-                return 3, at
-    for p, tokens in enumerate(target or ()):
-        if tokens == 65535:
-            return 3, p
-    if not 1 <= len(flat) // P <= 4096:
-        return 9, 0
-    return None
-
-
-def failure(net, initial, flat):
-    """A failure's numbers, or None for an accepted list."""
-    markings = [tuple(flat[k : k + net.P]) for k in range(0, len(flat), net.P)]
-    held = set(markings)
-    if tuple(initial) not in held:
-        return [1]
-    for k, m in enumerate(markings):
-        for t in range(net.T):
-            after = net.fired(m, t)
-            if after is not None and after not in held:
-                return [2, k, t]
-    return None
+def fired(net, m, t):
+    """The marking after t at m, or None where t is not enabled."""
+    takes, puts = net.arcs(t)
+    after = tuple(m[p] + puts[p] - takes[p] for p in range(net.P))
+    for p in range(net.P):
+        if takes[p] > m[p] or (net.caps[p] != NONE and after[p] > net.caps[p]):
+            return None
+    return after
 
 
 def line(case, net, initial, flat, target=None, stall=False):
-    refused = refusal(net, initial, flat, target)
-    if refused is not None:
-        print(case, 130, *refused)
-        return
-    failed = failure(net, initial, flat)
-    if failed is not None:
-        print(case, 129, *failed)
-        return
-    markings = [tuple(flat[k : k + net.P]) for k in range(0, len(flat), net.P)]
-    shown = True
-    if target is not None:
-        shown = tuple(target) not in markings
-    if stall:
-        shown = all(any(net.fired(m, t) is not None for t in range(net.T)) for m in markings)
-    print(case, 129, 0 if shown else 3)
+    def failed():
+        held = set(markings_of(net, flat))
+        return failure(net, initial, markings_of(net, flat), fired, lambda m: m in held)
+
+    def shown():
+        markings = markings_of(net, flat)
+        if stall:
+            return all(any(fired(net, m, t) is not None for t in range(net.T)) for m in markings)
+        return target is None or tuple(target) not in markings
+
+    tell(case, refusal(net, initial, flat, target, (initial, flat)), failed, shown)
 
 
-SAMPLE = Net(3, 3, [1, 0, 0, 0, 1, 0, 0, 0, 3], [0, 1, 0, 1, 0, 2, 0, 0, 0], [NONE, NONE, 5])
-START = [1, 0, 0]
 ALL = [x for a, b in ((1, 0), (0, 1)) for c in range(6) for x in (a, b, c)]
 
 
 def one(case, takes, puts, cap, tokens, flat, stall=False):
-    line(case, Net(1, 1, [takes], [puts], [cap]), [tokens], flat, stall=stall)
+    line(case, one_place(takes, puts, cap), [tokens], flat, stall=stall)
 
 
 def counted(case, P, T, arcs, flat):
-    line(case, Net(P, T, [0] * arcs, [0] * arcs, [9]), [0], flat)
+    line(case, counted_net(P, T, arcs), [0], flat)
 
 
 # whole lists

@@ -4,26 +4,21 @@
     python3 tests/expected/cover.py > crates/cover_runs/stdout
 
 Written from document 01 alone, without the program's code: markings are tuples of unbounded numbers, any number is a thing of
-its own, and every rule is spelled out as 01 words it. A line a case: its number, then 129 0 (accepted, or never covered), 129 1 (initial missing), 129 2 marking transition, 129 3 (not shown), or 130 refusal position.
+its own, and every rule is spelled out as 01 words it (refusals and the search in shared/lists.py). A line a case: its number, then
+129 0 (accepted, or never covered), 129 1 (initial missing), 129 2 marking transition, 129 3 (not shown), or 130 refusal position.
 """
 
-NONE = 65535  # "65,535 means none"
-
+from shared.lists import NONE, SAMPLE, START, counted_net, failure, markings_of, one_place, refusal, tell
 
 ANY = None  # "65,535 for any number", in a list only
 
 
-class Net:
-    def __init__(self, P, T, pre, post, caps):
-        self.P, self.T, self.pre, self.post, self.caps = P, T, pre, post, caps
-
-    def fired(self, m, t):
-        """The result of t at the listed marking m, capacities ignored, or None where t is not enabled."""
-        takes = self.pre[t * self.P : (t + 1) * self.P]
-        puts = self.post[t * self.P : (t + 1) * self.P]
-        if any(m[p] is not ANY and takes[p] > m[p] for p in range(self.P)):
-            return None
-        return tuple(ANY if m[p] is ANY else m[p] + puts[p] - takes[p] for p in range(self.P))
+def fired(net, m, t):
+    """The result of t at the listed marking m, capacities ignored, or None where t is not enabled."""
+    takes, puts = net.arcs(t)
+    if any(m[p] is not ANY and takes[p] > m[p] for p in range(net.P)):
+        return None
+    return tuple(ANY if m[p] is ANY else m[p] + puts[p] - takes[p] for p in range(net.P))
 
 
 def covers(c, m):
@@ -31,68 +26,29 @@ def covers(c, m):
     return all(a is ANY or (b is not ANY and b <= a) for a, b in zip(c, m))
 
 
-def markings_of(net, flat):
-    entries = [ANY if x == 65535 else x for x in flat]
-    return [tuple(entries[k : k + net.P]) for k in range(0, len(flat), net.P)]
-
-
-def refusal(net, initial, flat, target):
-    """The first refusal in number order as (number, position), or None."""
-    P, T = net.P, net.T
-    if not (1 <= P <= 64 and 1 <= T <= 64):
-        return 1, 0
-    if [len(net.pre), len(net.post), len(net.caps), len(initial)] != [P * T, P * T, P, P] or len(flat) % P:
-        return 2, 0
-    if target is not None and len(target) != P:
-        return 2, 0
-    for p, tokens in enumerate(initial):
-        if tokens == 65535 or (net.caps[p] != NONE and tokens > net.caps[p]):
-            return 3, p
-    for p, tokens in enumerate(target or ()):
-        if tokens == 65535:
-            return 3, p
-    if not 1 <= len(flat) // P <= 4096:
-        return 9, 0
-    return None
-
-
-def failure(net, initial, flat):
-    """A failure's numbers, or None for an accepted list."""
-    markings = markings_of(net, flat)
-    if not any(covers(c, initial) for c in markings):
-        return [1]
-    for k, m in enumerate(markings):
-        for t in range(net.T):
-            after = net.fired(m, t)
-            if after is not None and not any(covers(c, after) for c in markings):
-                return [2, k, t]
-    return None
-
-
 def line(case, net, initial, flat, target=None):
-    refused = refusal(net, initial, flat, target)
-    if refused is not None:
-        print(case, 130, *refused)
-        return
-    failed = failure(net, initial, flat)
-    if failed is not None:
-        print(case, 129, *failed)
-        return
-    shown = target is None or not any(covers(c, target) for c in markings_of(net, flat))
-    print(case, 129, 0 if shown else 3)
+    listed = markings_of(net, [ANY if x == 65535 else x for x in flat]) if net.P else []
+
+    def held(m):
+        return any(covers(c, m) for c in listed)
+
+    tell(
+        case,
+        refusal(net, initial, flat, target, (initial,)),
+        lambda: failure(net, initial, listed, fired, held),
+        lambda: target is None or not held(target),
+    )
 
 
-SAMPLE = Net(3, 3, [1, 0, 0, 0, 1, 0, 0, 0, 3], [0, 1, 0, 1, 0, 2, 0, 0, 0], [NONE, NONE, 5])
-START = [1, 0, 0]
 COVER = [1, 0, 65535, 0, 1, 65535]
 
 
 def one(case, takes, puts, cap, tokens, flat):
-    line(case, Net(1, 1, [takes], [puts], [cap]), [tokens], flat)
+    line(case, one_place(takes, puts, cap), [tokens], flat)
 
 
 def counted(case, P, T, arcs, flat):
-    line(case, Net(P, T, [0] * arcs, [0] * arcs, [9]), [0], flat)
+    line(case, counted_net(P, T, arcs), [0], flat)
 
 
 # sample 12, and what makes a list fail

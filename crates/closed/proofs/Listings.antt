@@ -1,25 +1,19 @@
 -- Laws of a closed list looked through: what the code's steps give. Assumes nothing.
-use Prim.Native.Nat.{ℕ, _+_, _*_, _≤_, _<_}
-use mathlib.Core.Path.{_≡_, refl, sym, ap, _∙_}
+use Prim.Native.Nat.{ℕ, _<_}
+use mathlib.Core.Path.{_≡_, sym, ap, _∙_}
 use mathlib.Core.Bool.{Bool, true, false, not}
 use mathlib.Core.List.{List}
 use native.Mathlib.Omega.{arith}
 use lib.ListN.{length}
-use borrow.Author.Tests.{lt-ltb, le-ltb}
 use Rattle.ground.specs.Limits.{tokenLimit, replayLimit}
-use Rattle.ground.proofs.Scan.{Below, scan-hit, scan-next, scan-end}
 use Rattle.net.specs.Net.{Net}
 use Rattle.net.specs.Letter.{Arcs, arcsAt, passes, fired, Small, Enough, Rows}
 use Rattle.net.proofs.Letters.{enough-of}
 use Rattle.net.proofs.Rows.{rows-of}
-use Rattle.lists.specs.Whole.{count, markingAt}
-use Rattle.lists.proofs.Wholes.{marking-end, marking-long, marking-small}
+use Rattle.lists.specs.Whole.{markingAt}
+use Rattle.lists.proofs.Wholes.{marking-long, marking-small}
 use Rattle.closed.specs.Ready.{Ready}
-use Rattle.lists.specs.declared.Failure.the-variants.{InitialMissing, ResultMissing}
-use Rattle.lists.proofs.Somes.{some-hit, some-end}
-use Rattle.closed.specs.declared.Closed.{Closed}
-use Rattle.closed.specs.declared.Closed.the-variants.{Accepted, Failed}
-use Rattle.closed.specs.Listing.{listed, absent, missing, fails, results, looked}
+use Rattle.closed.specs.Listing.{listed, absent}
 
 -- m is the marking g that was loaded
 module _ (m g : List ℕ) (e : m ≡ g) where
@@ -52,44 +46,7 @@ pub ruleset absents = (absent-fires, absent-none)
 
 -- the pair of marking number k and transition t
 module _ (net : Net) (n : ℕ) (list : List ℕ) (k t : ℕ) (ready : Ready net n list) (hk : k < n) where
-  pub pair-end : k * net .places + net .places ≤ length list
-  pair-end = marking-end (net .places) n list k (ready .long) hk
-
-  pub pair-long : length (markingAt (net .places) list k) ≡ net .places
-  pair-long = marking-long (net .places) n list k (ready .long) hk
-
   pub pair-rows : t < net .transitions → Rows (arcsAt net t) (markingAt (net .places) list k)
   pair-rows ht =
       let s = marking-small (net .places) n list k (ready .long) hk tokenLimit (ready .few) in
-      rows-of net (markingAt (net .places) list k) t (ready .sized) ht pair-long (record { at = λ p. omega (arith, s .at p) })
-
--- the turns of the two loops over the pairs
-module _ (net : Net) (n : ℕ) (list : List ℕ) (k : ℕ) (lo : Below (fails net n list) k) where
-  module _ (t : ℕ) (low : Below (missing net n list k) t) where
-    pub results-found : (r : Bool) → r ≡ missing net n list k t → r ≡ true → k < n → t < net .transitions → Failed (ResultMissing k t) ≡ results net n list
-    unfolding results
-    results-found r e q hk ht =
-        let i = scan-hit (fails net n list) n k true lo (some-hit (missing net n list k) (net .transitions) t low r e q ht) refl hk in
-        rw (← i, lt-ltb k n hk, ← scan-hit (missing net n list k) (net .transitions) t r low e q ht)
-
-    pub marking-passes : t ≤ net .transitions → net .transitions ≤ t → Below (fails net n list) (k + 1)
-    marking-passes h l = scan-next (fails net n list) k false lo (some-end (missing net n list k) (net .transitions) t low h l) refl
-
-  pub results-none : k ≤ n → n ≤ k → Accepted ≡ results net n list
-  unfolding results
-  results-none h l =
-      rw (← scan-end (fails net n list) n k lo h l, le-ltb k n l)
-
-pub ruleset pairs = (results-found, marking-passes, results-none)
-
--- the initial marking, then the results
-module _ (net : Net) (initial list : List ℕ) (b : Bool) (e : b ≡ listed (net .places) (count (net .places) list) list initial) where
-  pub looked-holds : (r : Closed) → b ≡ true → r ≡ results net (count (net .places) list) list → r ≡ looked net initial list
-  unfolding looked
-  looked-holds r q k = rw (sym e ∙ q) k
-
-  pub looked-missing : b ≡ false → Failed InitialMissing ≡ looked net initial list
-  unfolding looked
-  looked-missing q = rw (sym e ∙ q)
-
-pub ruleset looks = (looked-holds, looked-missing)
+      rows-of net (markingAt (net .places) list k) t (ready .sized) ht (marking-long (net .places) n list k (ready .long) hk) (record { at = λ p. omega (arith, s .at p) })

@@ -27,16 +27,6 @@ use Rattle.closed.specs.Listing.{looked}
 use Rattle.closed.specs.Given.{badEntry, entryFault, listFault, closedFault, answered, closedOf}
 use Rattle.closed.specs.Ready.{Ready}
 
--- both lengths agree: b is the answer for the list
-module _ (P : ℕ) (list : List ℕ) (fits b : Bool) (e : b ≡ whole P list) where
-  pub fitting-whole : b ≡ true → fits ≡ (whole P list && fits)
-  fitting-whole q = rw (sym e ∙ q)
-
-  pub fitting-none : b ≡ false → false ≡ (whole P list && fits)
-  fitting-none q = rw (sym e ∙ q)
-
-pub ruleset fittings = (fitting-whole, fitting-none)
-
 pub place-below : (P k n : ℕ) → 1 ≤ P → n ≡ P → k % P < n
 place-below P k n h e = omega (arith, mod-lt k h)
 

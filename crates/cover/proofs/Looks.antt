@@ -1,25 +1,19 @@
 -- Laws of a cover list looked through: what the code's steps give. Assumes nothing.
-use Prim.Native.Nat.{ℕ, _+_, _-_, _*_, _≤_, _<_}
-use mathlib.Core.Path.{_≡_, refl, sym, ap, _∙_}
+use Prim.Native.Nat.{ℕ, _+_, _-_, _≤_, _<_}
+use mathlib.Core.Path.{_≡_, sym, ap, _∙_}
 use mathlib.Core.Bool.{Bool, true, false, not}
 use mathlib.Core.List.{List}
 use lib.ListN.{length, getD}
-use borrow.Author.Tests.{lt-ltb, le-ltb, ltb-false, le-leb, lt-leb}
+use borrow.Author.Tests.{ltb-false, le-leb, lt-leb}
 use Rattle.ground.specs.Limits.{tokenLimit}
-use Rattle.ground.proofs.Scan.{Below, scan-hit, scan-next, scan-end}
 use Rattle.ground.proofs.Fill.{Made, make-end}
 use Rattle.net.specs.Net.{Net}
 use Rattle.net.specs.Letter.{row}
 use Rattle.net.specs.Given.{Sized}
-use Rattle.lists.specs.Whole.{count, markingAt}
-use Rattle.lists.proofs.Wholes.{marking-end, marking-long}
-use Rattle.lists.specs.declared.Failure.the-variants.{InitialMissing, ResultMissing}
-use Rattle.lists.proofs.Somes.{some-hit, some-end, none-at}
-use Rattle.cover.specs.Ready.{Ready}
+use Rattle.lists.proofs.Wholes.{marking-long}
+use Rattle.lists.proofs.Somes.{none-at}
 use Rattle.cover.specs.Covering.{lacks, able, afterAny, firedAny}
-use Rattle.cover.specs.declared.Cover.{Cover}
-use Rattle.cover.specs.declared.Cover.the-variants.{Accepted, Failed}
-use Rattle.cover.specs.Looking.{covered, uncovered, missing, fails, results, looked}
+use Rattle.cover.specs.Looking.{covered, uncovered}
 
 -- one place's tests: what the code compares
 module _ (takes puts entry : ℕ) where
@@ -57,47 +51,9 @@ module _ (takes puts l : List ℕ) (r : Bool) (e : r ≡ able takes l) where
 
 pub ruleset uncovereds = (uncovered-fires, uncovered-none)
 
--- the pair of marking number k and transition t
-module _ (net : Net) (n : ℕ) (list : List ℕ) (k : ℕ) (ready : Ready net n list) (hk : k < n) where
-  pub pair-end : k * net .places + net .places ≤ length list
-  pair-end = marking-end (net .places) n list k (ready .long) hk
-
-  pub pair-long : length (markingAt (net .places) list k) ≡ net .places
-  pair-long = marking-long (net .places) n list k (ready .long) hk
-
+-- what a transition takes and puts has a number for each place
 pub rows-long : (net : Net) (t : ℕ) → Sized net → t < net .transitions → (length (row (net .places) t (net .pre)) ≡ net .places) × (length (row (net .places) t (net .post)) ≡ net .places)
 rows-long net t s h = (
   marking-long (net .places) (net .transitions) (net .pre) t (s .pres) h,
   marking-long (net .places) (net .transitions) (net .post) t (s .posts) h,
 )
-
--- the turns of the two loops over the pairs
-module _ (net : Net) (n : ℕ) (list : List ℕ) (k : ℕ) (lo : Below (fails net n list) k) where
-  module _ (t : ℕ) (low : Below (missing net n list k) t) where
-    pub results-found : (r : Bool) → r ≡ missing net n list k t → r ≡ true → k < n → t < net .transitions → Failed (ResultMissing k t) ≡ results net n list
-    unfolding results
-    results-found r e q hk ht =
-        let i = scan-hit (fails net n list) n k true lo (some-hit (missing net n list k) (net .transitions) t low r e q ht) refl hk in
-        rw (← i, lt-ltb k n hk, ← scan-hit (missing net n list k) (net .transitions) t r low e q ht)
-
-    pub marking-passes : t ≤ net .transitions → net .transitions ≤ t → Below (fails net n list) (k + 1)
-    marking-passes h l = scan-next (fails net n list) k false lo (some-end (missing net n list k) (net .transitions) t low h l) refl
-
-  pub results-none : k ≤ n → n ≤ k → Accepted ≡ results net n list
-  unfolding results
-  results-none h l =
-      rw (← scan-end (fails net n list) n k lo h l, le-ltb k n l)
-
-pub ruleset pairs = (results-found, marking-passes, results-none)
-
--- the initial marking, then the results
-module _ (net : Net) (initial list : List ℕ) (b : Bool) (e : b ≡ covered (net .places) (count (net .places) list) list initial) where
-  pub looked-holds : (r : Cover) → b ≡ true → r ≡ results net (count (net .places) list) list → r ≡ looked net initial list
-  unfolding looked
-  looked-holds r q k = rw (sym e ∙ q) k
-
-  pub looked-missing : b ≡ false → Failed InitialMissing ≡ looked net initial list
-  unfolding looked
-  looked-missing q = rw (sym e ∙ q)
-
-pub ruleset looks = (looked-holds, looked-missing)

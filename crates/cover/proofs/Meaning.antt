@@ -7,11 +7,10 @@ use native.Mathlib.Omega.{arith}
 use native.Mathlib.Decide.{decLe}
 use lib.ListN.{length, getD}
 use lib.Dec.{ltb, leb, eqb}
-use borrow.Author.Tests.{ltb-true, ltb-false, le-ltb, le-leb, lt-leb, leb-true, eqb-true, not-true, not-false}
+use borrow.Author.Tests.{ltb-false, le-ltb, le-leb, lt-leb, leb-true, eqb-true, not-true, not-false}
 use Rattle.ground.specs.Limits.{tokenLimit}
 use Rattle.ground.specs.Lists.{first}
 use Rattle.ground.proofs.Tests.{never, and-true}
-use Rattle.ground.proofs.Scan.{first-below, first-passes}
 use Rattle.ground.proofs.Fill.{table-length, table-at}
 use Rattle.net.specs.Net.{Net, Pre, Post, tokens}
 use Rattle.net.specs.Firing.{Firing, Reachable}
@@ -22,7 +21,8 @@ use Rattle.net.proofs.Meaning.{gives-plain, reachable-has}
 use Rattle.net.proofs.Rows.{row-at}
 use Rattle.lists.specs.Whole.{count, markingAt, targetFault}
 use Rattle.lists.specs.declared.Failure.the-variants.{InitialMissing, ResultMissing}
-use Rattle.lists.proofs.Somes.{some-first, some-none, some-is, is-none, none-at}
+use Rattle.lists.proofs.Somes.{some-first, some-is, is-none, none-at}
+use Rattle.lists.proofs.Pairs.{Tells, accepted-looked, looked-accepted, looked-initial, looked-result}
 use Rattle.lists.proofs.Wholes.{marking-long}
 use Rattle.cover.specs.declared.Cover.{Cover}
 use Rattle.cover.specs.declared.Cover.the-variants as list
@@ -30,7 +30,7 @@ use Rattle.cover.specs.declared.CoverTarget.{CoverTarget}
 use Rattle.cover.specs.declared.CoverTarget.the-variants as target
 use Rattle.cover.specs.Covering.{Finite, CoversAt, beyond, covering, lacks, able, afterAny, firedAny}
 use Rattle.cover.specs.Cover.{Covers, Covered, Able, CoversResult, ResultCovered, Holds, IsCover, FirstMissing}
-use Rattle.cover.specs.Looking.{covered, missing, lowestMissing, fails, firstFailing, results, looked}
+use Rattle.cover.specs.Looking.{covered, missing}
 use Rattle.cover.specs.Given.{coverFault, coverOf, numbers}
 use Rattle.cover.specs.Target.{targetOf, targetNumbers}
 use Rattle.cover.specs.Ready.{Ready}
@@ -154,125 +154,43 @@ module _ (net : Net) (l : List ℕ) (ready : Ready net (count (net .places) l) l
       go true e = let m = missing-of ht e in absurd (m .1 (q (m .0)))
       go false e = e
 
--- the answer about the results, taken apart: n markings
-module _ (net : Net) (n : ℕ) (l : List ℕ) where
-  results-accepted : results net n l ≡ list.Accepted → (k t : ℕ) → k < n → t < net .transitions → missing net n l k t ≡ false
-  unfolding results
-  results-accepted q k t hk ht = go (ltb (firstFailing net n l) n) refl
-    where
-      go : (b : Bool) → ltb (firstFailing net n l) n ≡ b → missing net n l k t ≡ false
-      go true e = let z : _≡_ {A = ℕ} 0 1 = cc (rw e at q) in absurd (omega arith)
-      go false e =
-          let x = ltb-false (firstFailing net n l) n e in
-          some-none (missing net n l k) (net .transitions) (first-below (fails net n l) n k (omega arith)) t ht
-
-  accepted-results : ((k t : ℕ) → k < n → t < net .transitions → missing net n l k t ≡ false) → results net n l ≡ list.Accepted
-  unfolding results
-  accepted-results lo = go (ltb (firstFailing net n l) n) refl
-    where
-      go : (b : Bool) → ltb (firstFailing net n l) n ≡ b → results net n l ≡ list.Accepted
-      go true e =
-          let x = ltb-true (firstFailing net n l) n e in
-          let f = some-first (missing net n l (firstFailing net n l)) (net .transitions) (first-passes (fails net n l) n x) in
-          never (sym (f .1) ∙ lo (firstFailing net n l) (lowestMissing net n l (firstFailing net n l)) x (f .0))
-      go false e = rw e
-
-  results-initial : results net n l ≡ list.Failed InitialMissing → ⊥
-  unfolding results
-  results-initial q = go (ltb (firstFailing net n l) n) refl
-    where
-      go : (b : Bool) → ltb (firstFailing net n l) n ≡ b → ⊥
-      go true e = let z : _≡_ {A = ℕ} 0 1 = cc (rw e at q) in omega arith
-      go false e = let z : _≡_ {A = ℕ} 0 1 = cc (rw e at q) in omega arith
-
-  record Found (k t : ℕ) : Type 0 where
-    inside : k < n
-    named : t < net .transitions
-    missed : missing net n l k t ≡ true
-    lower : (u : ℕ) → u < t → missing net n l k u ≡ false
-    earlier : (j u : ℕ) → j < k → u < net .transitions → missing net n l j u ≡ false
-
-  results-failed : (k t : ℕ) → results net n l ≡ list.Failed (ResultMissing k t) → Found k t
-  unfolding results
-  results-failed k t q = go (ltb (firstFailing net n l) n) refl
-    where
-      go : (b : Bool) → ltb (firstFailing net n l) n ≡ b → Found k t
-      go true e =
-          let x = ltb-true (firstFailing net n l) n e in
-          let f = some-first (missing net n l (firstFailing net n l)) (net .transitions) (first-passes (fails net n l) n x) in
-          let a : firstFailing net n l ≡ k = cc (rw e at q) in
-          let b : lowestMissing net n l (firstFailing net n l) ≡ t = cc (rw e at q) in
-          rw (← b, ← a)
-          (record {
-            inside = x;
-            named = f .0;
-            missed = f .1;
-            lower = λ u h. first-below (missing net n l (firstFailing net n l)) (net .transitions) u h;
-            earlier = λ j u h hu. some-none (missing net n l j) (net .transitions) (first-below (fails net n l) n j h) u hu;
-          })
-      go false e = let z : _≡_ {A = ℕ} 0 1 = cc (rw e at q) in absurd (omega arith)
+-- the answer tells the failures apart
+tells : Tells list.Failed list.Accepted
+tells = record { other = λ why e. let z : _≡_ {A = ℕ} 0 1 = cc in omega arith; same = λ a b e. cc }
 
 module _ (net : Net) (initial l : List ℕ) where
-  looked-accepted : looked net initial l ≡ list.Accepted → (covered (net .places) (count (net .places) l) l initial ≡ true) × (results net (count (net .places) l) l ≡ list.Accepted)
-  unfolding looked
-  looked-accepted q = go (covered (net .places) (count (net .places) l) l initial) refl
-    where
-      go : (b : Bool) → covered (net .places) (count (net .places) l) l initial ≡ b → (covered (net .places) (count (net .places) l) l initial ≡ true) × (results net (count (net .places) l) l ≡ list.Accepted)
-      go true e = (e, rw e at q)
-      go false e = let z : _≡_ {A = ℕ} 0 1 = cc (rw e at q) in absurd (omega arith)
-
-  accepted-looked : covered (net .places) (count (net .places) l) l initial ≡ true → results net (count (net .places) l) l ≡ list.Accepted → looked net initial l ≡ list.Accepted
-  unfolding looked
-  accepted-looked e q = rw e q
-
-  looked-initial : looked net initial l ≡ list.Failed InitialMissing → covered (net .places) (count (net .places) l) l initial ≡ false
-  unfolding looked
-  looked-initial q = go (covered (net .places) (count (net .places) l) l initial) refl
-    where
-      go : (b : Bool) → covered (net .places) (count (net .places) l) l initial ≡ b → covered (net .places) (count (net .places) l) l initial ≡ false
-      go true e = absurd (results-initial net (count (net .places) l) l (rw e at q))
-      go false e = e
-
-  looked-result : (k t : ℕ) → looked net initial l ≡ list.Failed (ResultMissing k t) → (covered (net .places) (count (net .places) l) l initial ≡ true) × (results net (count (net .places) l) l ≡ list.Failed (ResultMissing k t))
-  unfolding looked
-  looked-result k t q = go (covered (net .places) (count (net .places) l) l initial) refl
-    where
-      go : (b : Bool) → covered (net .places) (count (net .places) l) l initial ≡ b → (covered (net .places) (count (net .places) l) l initial ≡ true) × (results net (count (net .places) l) l ≡ list.Failed (ResultMissing k t))
-      go true e = (e, rw e at q)
-      go false e = let z : _≡_ {A = ℕ} 0 1 = cc (rw e at q) in absurd (omega arith)
-
   module _ (fits : Bool) (next : Fault) where
     -- a list that is not refused is accepted exactly if it is a cover list
     pub accepted-cover : coverOf net initial l fits next ≡ list.Accepted → IsCover net initial l
     accepted-cover q =
         let a = accepted-sound net initial l fits next q in
         let g = lent-of net initial l fits next (a .0) in
-        let k = looked-accepted (a .1) in
+        let k = looked-accepted _ _ _ _ _ tells _ (a .1) in
         record {
           starts = covered-of (net .places) l initial (g .start) (k .0);
-          holds = λ j t h x. holds-of net l (g .ready) j h t (results-accepted net (count (net .places) l) l (k .1) j t h (x .named)) x;
+          holds = λ j t h x. holds-of net l (g .ready) j h t (k .1 j t h (x .named)) x;
         }
 
     pub cover-accepted : coverFault net initial l fits next ≡ Sound → IsCover net initial l → coverOf net initial l fits next ≡ list.Accepted
     cover-accepted q c =
         let g = lent-of net initial l fits next q in
         rw q
-        (accepted-looked (of-covered (net .places) l initial (g .start) (c .starts))
-        (accepted-results net (count (net .places) l) l (λ k t hk ht. of-holds net l (g .ready) k hk t (c .holds k t hk) ht)))
+        (accepted-looked _ _ _ _ _ _ (of-covered (net .places) l initial (g .start) (c .starts))
+        (λ k t hk ht. of-holds net l (g .ready) k hk t (c .holds k t hk) ht))
 
     -- else its failure is: initial missing
     pub initial-missing : coverOf net initial l fits next ≡ list.Failed InitialMissing → Covered (net .places) l initial → ⊥
     initial-missing q =
         let a = failed-sound net initial l fits next InitialMissing q in
-        uncovered-of (net .places) l initial (lent-of net initial l fits next (a .0) .start) (looked-initial (a .1))
+        uncovered-of (net .places) l initial (lent-of net initial l fits next (a .0) .start) (looked-initial _ _ _ _ _ tells _ (a .1))
 
     -- or the first listed marking, and in it the lowest transition, whose result is not covered
     pub result-missing : (k t : ℕ) → coverOf net initial l fits next ≡ list.Failed (ResultMissing k t) → Covered (net .places) l initial × FirstMissing net l k t
     result-missing k t q =
         let a = failed-sound net initial l fits next (ResultMissing k t) q in
         let g = lent-of net initial l fits next (a .0) in
-        let b = looked-result k t (a .1) in
-        let f = results-failed net (count (net .places) l) l k t (b .1) in
+        let b = looked-result _ _ _ _ _ tells _ k t (a .1) in
+        let f = b .1 in
         let m = missing-of net l (g .ready) k (f .inside) t (f .named) (f .missed) in (
           covered-of (net .places) l initial (g .start) (b .0),
           record {

@@ -1,7 +1,7 @@
 -- Laws of a cover list's refusals: which one is given, and what holds where none is. Assumes nothing.
 use Prim.Native.Nat.{ℕ, _≤_}
 use mathlib.Core.Path.{_≡_, refl, sym, _∙_}
-use mathlib.Core.Bool.{Bool, true, false, _&&_}
+use mathlib.Core.Bool.{Bool, true, _&&_}
 use mathlib.Core.List.{List}
 use native.Mathlib.Omega.{arith}
 use lib.ListN.{length}
@@ -20,16 +20,6 @@ use Rattle.cover.specs.declared.Cover.the-variants.{Accepted, Failed, Re
 use Rattle.cover.specs.Looking.{looked}
 use Rattle.cover.specs.Given.{listFault, coverFault, answered, coverOf}
 use Rattle.cover.specs.Ready.{Ready}
-
--- both lengths agree: b is the answer for the list
-module _ (P : ℕ) (list : List ℕ) (fits b : Bool) (e : b ≡ whole P list) where
-  pub fitting-whole : b ≡ true → fits ≡ (whole P list && fits)
-  fitting-whole q = rw (sym e ∙ q)
-
-  pub fitting-none : b ≡ false → false ≡ (whole P list && fits)
-  fitting-none q = rw (sym e ∙ q)
-
-pub ruleset fittings = (fitting-whole, fitting-none)
 
 -- which refusal of a list
 module _ (P : ℕ) (list : List ℕ) (next : Fault) where

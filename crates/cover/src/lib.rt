@@ -4,13 +4,13 @@ use ground::TOKEN_LIMIT;
 use lists::Failure;
 use net::Fault;
 ghost use mathlib.Core.Path.{_≡_};
-ghost use mathlib.Core.Bool.{true, false, _&&_};
+ghost use mathlib.Core.Bool.{true, false};
 ghost use Prim.Native.Nat.{_*_, _<_, _≤_};
 ghost use lib.ListN.{length};
 ghost use Rattle.ground.specs.Limits.{countLimit};
 ghost use Rattle.net.specs.Net.{netOf};
 ghost use Rattle.net.specs.declared.Fault.the-variants.{Sound};
-ghost use Rattle.lists.specs.Whole.{count, whole};
+ghost use Rattle.lists.specs.Whole.{count};
 ghost use Rattle.cover.specs.Covering.{beyond, covering, lacks, able, afterAny, firedAny};
 ghost use Rattle.cover.specs.Looking.{covered, uncovered, missing, results, looked};
 ghost use Rattle.cover.specs.Given.{listFault, coverFault, coverOf, numbers};
@@ -273,16 +273,6 @@ fn list_fault(places: usize, list: &[u16], next: Fault) -> Fault
     }
 }
 
-// Whether the list's length and that of what is lent after it agree with the counts.
-fn is_fitting(places: usize, list: &[u16], fits: bool) -> bool
-    ensures { λ r. ⌜ r ≡ (whole places (now (list .entry)) && fits) ⌝ }
-{
-    if lists::is_whole(places, list) {
-        return fits;
-    }
-    false
-}
-
 // Refusals 1, 2, 3 and 9. `fits` tells whether the length of what is lent after the list agrees.
 fn find_fault(
     places: usize,
@@ -297,7 +287,7 @@ fn find_fault(
 ) -> Fault
     ensures { λ r. ⌜ r ≡ coverFault (netOf places transitions (now (pre .entry)) (now (post .entry)) (now (caps .entry))) (now (initial .entry)) (now (list .entry)) fits next ⌝ }
 {
-    let agree = is_fitting(places, list, fits);
+    let agree = lists::is_fitting(places, list, fits);
     let found = net::first_fault(places, transitions, pre, post, caps, initial, agree);
     match found {
         Fault::Faulty(number, at) => Fault::Faulty(number, at),

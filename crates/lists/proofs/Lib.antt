@@ -1,2 +1,3 @@
 pub mod Somes
 pub mod Wholes
+pub mod Pairs

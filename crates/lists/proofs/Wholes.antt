@@ -1,7 +1,7 @@
 -- Laws of lists of markings: which refusal, what a list that is not refused has, and its markings. Assumes nothing.
 use Prim.Native.Nat.{ℕ, _+_, _*_, _%_, _≤_, _<_, zero-le}
-use mathlib.Core.Path.{_≡_, refl, sym}
-use mathlib.Core.Bool.{true, false}
+use mathlib.Core.Path.{_≡_, refl, sym, _∙_}
+use mathlib.Core.Bool.{Bool, true, false, _&&_}
 use mathlib.Core.List.{List, [], _∷_}
 use native.Mathlib.Omega.{arith}
 use native.Mathlib.Nat.{div-add-mod'}
@@ -35,6 +35,16 @@ module _ (P : ℕ) (list : List ℕ) where
       omega (arith, div-add-mod' (length list) P)
 
 pub ruleset wholes = (whole-some, whole-none)
+
+-- both lengths agree: b is the answer for the list
+module _ (P : ℕ) (list : List ℕ) (fits b : Bool) (e : b ≡ whole P list) where
+  pub fitting-whole : b ≡ true → fits ≡ (whole P list && fits)
+  fitting-whole q = rw (sym e ∙ q)
+
+  pub fitting-none : b ≡ false → false ≡ (whole P list && fits)
+  fitting-none q = rw (sym e ∙ q)
+
+pub ruleset fittings = (fitting-whole, fitting-none)
 
 -- which refusal 9
 module _ (P : ℕ) (list : List ℕ) (n : ℕ) (e : n ≡ count P list) where

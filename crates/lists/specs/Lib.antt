@@ -1,2 +1,3 @@
 pub mod Some
 pub mod Whole
+pub mod Pairs

@@ -4,6 +4,7 @@ use ground::LIST_LIMIT;
 use ground::TOKEN_LIMIT;
 use net::Fault;
 ghost use mathlib.Core.Path.{_≡_};
+ghost use mathlib.Core.Bool.{_&&_};
 ghost use Prim.Native.Nat.{_≤_};
 ghost use lib.Dec.{ltb};
 ghost use lib.ListN.{length};
@@ -18,11 +19,21 @@ pub enum Failure {
 }
 
 // Whether the list is made of whole markings.
-pub fn is_whole(places: usize, list: &[u16]) -> bool
+fn is_whole(places: usize, list: &[u16]) -> bool
     ensures { λ r. ⌜ r ≡ whole places (now (list .entry)) ⌝ }
 {
     if 0 < places {
         return list.len() % places == 0;
+    }
+    false
+}
+
+// Whether the list's length and that of what is lent after it agree with the counts.
+pub fn is_fitting(places: usize, list: &[u16], fits: bool) -> bool
+    ensures { λ r. ⌜ r ≡ (whole places (now (list .entry)) && fits) ⌝ }
+{
+    if is_whole(places, list) {
+        return fits;
     }
     false
 }
@@ -74,8 +85,6 @@ pub fn target_fault(target: &[u16]) -> Fault
         Fault::Sound
     }
 }
-
-// A given number of tokens in 32 bits.
 
 // Room for one marking of as many places as there may be.
 pub fn no_tokens() -> [u32; 64]

@@ -7,13 +7,14 @@ use Rattle.net.specs.Given.{netFault, markingFault, firstFault}
 use Rattle.net.specs.declared.Fault.the-variants.{Sound}
 use Rattle.lists.specs.Some.{some, none}
 use Rattle.lists.specs.Whole.{sizeFault}
+use Rattle.lists.specs.Pairs.{resultsOf, lookedOf}
 use Rattle.lists.specs.declared.Failure.the-variants.{ResultMissing}
-use Rattle.closed.specs.Listing.{missing, results, looked}
+use Rattle.closed.specs.Listing.{missing}
 use Rattle.closed.specs.Given.{entryFault, listFault, closedFault, closedOf}
 use Rattle.closed.specs.declared.Closed.the-variants.{Accepted, Failed}
 use Rattle.samples.specs.Samples.{net, initial}
 use Rattle.samples.specs.Edges.{allTwelve, struckOut}
 
 pub edges : (closedOf net initial allTwelve true Sound ≡ Accepted) × (closedOf net initial struckOut true Sound ≡ Failed (ResultMissing 5 0))
-unfolding first tally mapAt netFault markingFault firstFault some none sizeFault missing results looked entryFault listFault closedFault
+unfolding first tally mapAt netFault markingFault firstFault some none sizeFault resultsOf lookedOf missing entryFault listFault closedFault
 edges = (refl, refl)

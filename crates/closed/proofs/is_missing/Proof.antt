@@ -5,9 +5,9 @@ use lib.ListN.{length}
 use denote.Ref.{now}
 use Rattle.net.specs.Net.{Net, netOf}
 use Rattle.net.proofs.Rows.{pre-end, post-end}
-use Rattle.lists.proofs.Wholes.{fronts}
+use Rattle.lists.proofs.Wholes.{fronts, marking-end, marking-long}
 use Rattle.closed.specs.Listing.{missing}
-use Rattle.closed.proofs.Listings.{pair-end, pair-long, pair-rows}
+use Rattle.closed.proofs.Listings.{pair-rows}
 use borrow.Author.Needs.{needs}
 use Rattle.closed.proofs.is_missing.Statement.{statement}
 use Rattle.closed.proofs.is_missing.Tie as tie
@@ -17,8 +17,7 @@ at : tie.Start → Net
 at s = netOf (s .args .places) (s .args .transitions) (now (s .args .pre)) (now (s .args .post)) (now (s .args .caps))
 
 list-ends : (s : tie.Start) → s .args .k * s .args .places + s .args .places ≤ length (now (s .args .list))
-unfolding at
-list-ends s = pair-end (at s) (s .args .count) (now (s .args .list)) (s .args .k) 0 (s .pre .0) (s .pre .1 .0)
+list-ends s = marking-end (s .args .places) (s .args .count) (now (s .args .list)) (s .args .k) (s .pre .0 .long) (s .pre .1 .0)
 
 pre-ends : (s : tie.Start) → s .args .t * s .args .places + s .args .places ≤ length (now (s .args .pre))
 unfolding at
@@ -83,7 +82,7 @@ is-absent-requires : tie.Need-is-absent-requires
 unfolding at
 is-absent-requires c κs =
     let s : tie.Start = search needs in
-    let l = pair-long (at s) (s .args .count) (now (s .args .list)) (s .args .k) (s .args .t) (s .pre .0) (s .pre .1 .0) in
+    let l = marking-long (s .args .places) (s .args .count) (now (s .args .list)) (s .args .k) (s .pre .0 .long) (s .pre .1 .0) in
     let r = pair-rows (at s) (s .args .count) (now (s .args .list)) (s .args .k) (s .args .t) (s .pre .0) (s .pre .1 .0) (s .pre .1 .1) in
     simp add-sub-cancel-left (search needs, (l, (search (fronts, needs), r)))
 

@@ -1,4 +1,4 @@
-use Rattle.closed.proofs.Listings.{looks}
+use Rattle.lists.proofs.Pairs.{looks}
 use borrow.Author.Needs.{needs}
 use Rattle.closed.proofs.look_through.Statement.{statement}
 use Rattle.closed.proofs.look_through.Tie as tie

@@ -4,8 +4,10 @@ use denote.Ref.{now}
 use Prim.Native.Nat.{_≤_, _-_}
 use Rattle.net.specs.Net.{Net, netOf}
 use Rattle.ground.proofs.Scan.{Below, scans}
-use Rattle.cover.specs.Looking.{missing, fails}
-use Rattle.cover.proofs.Looks.{results-found, marking-passes, results-none}
+use Rattle.lists.specs.Pairs.{fails}
+use Rattle.lists.proofs.Pairs.{results-found, marking-passes, results-none}
+use Rattle.cover.specs.Looking.{missing}
+use Rattle.cover.specs.declared.Cover.the-variants.{Accepted, Failed}
 use borrow.Author.Needs.{needs}
 use Rattle.cover.proofs.first_missing.Statement.{statement}
 use Rattle.cover.proofs.first_missing.Tie as tie
@@ -17,7 +19,7 @@ abbrev μ-loop : tie.MeasureT-loop
 μ-loop places transitions pre post caps list count k t₀ t = transitions - t
 
 abbrev Inv-markings : tie.InvT-markings
-Inv-markings places transitions pre post caps list count k₀ t₀ k t = (k ≤ count) × Below (fails (netOf places transitions pre post caps) count list) k
+Inv-markings places transitions pre post caps list count k₀ t₀ k t = (k ≤ count) × Below (fails (missing (netOf places transitions pre post caps) count list) transitions) k
 
 abbrev μ-markings : tie.MeasureT-markings
 μ-markings places transitions pre post caps list count k₀ t₀ k t = count - k
@@ -56,7 +58,7 @@ markings-again c =
     let s : tie.Start Inv-loop μ-loop Inv-markings μ-markings = search needs in
     let m = c .before .before .before .markings in
     let l = c .before .loop in
-    (search needs, marking-passes (at s) (s .args .count) (now (s .args .list)) (m .k) (m .inv .1) (l .t) (l .inv .1) (l .inv .0) (c .loop-test .left))
+    (search needs, marking-passes (missing (at s) (s .args .count) (now (s .args .list))) (s .args .transitions) (m .k) (m .inv .1) (l .t) (l .inv .1) (l .inv .0) (c .loop-test .left))
 
 returns : tie.Need-returns Inv-loop μ-loop Inv-markings μ-markings
 unfolding at
@@ -65,7 +67,7 @@ returns c =
     let m = c .before .before .markings in
     ⊎-elim
     (λ w. absurd (omega (arith, w .0 .left, c .if2 .taken)))
-    (λ w. rw (w .5) (results-found (at s) (s .args .count) (now (s .args .list)) (m .k) (m .inv .1) (w .1 .t) (w .1 .inv .1) _ (w .3 .ensures) (w .4 .taken) (c .if2 .taken) (w .2 .taken)))
+    (λ w. rw (w .5) (results-found (missing (at s) (s .args .count) (now (s .args .list))) (s .args .transitions) (m .k) (m .inv .1) Failed Accepted (s .args .count) (w .1 .t) (w .1 .inv .1) _ (w .3 .ensures) (w .4 .taken) (c .if2 .taken) (w .2 .taken)))
     (c .before .markings-test .came)
 
 returns-2 : tie.Need-returns-2 Inv-loop μ-loop Inv-markings μ-markings

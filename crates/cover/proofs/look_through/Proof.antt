@@ -1,4 +1,4 @@
-use Rattle.cover.proofs.Looks.{looks}
+use Rattle.lists.proofs.Pairs.{looks}
 use borrow.Author.Needs.{needs}
 use Rattle.cover.proofs.look_through.Statement.{statement}
 use Rattle.cover.proofs.look_through.Tie as tie

@@ -1,7 +1,7 @@
-use Rattle.closed.proofs.Refusals.{fittings}
+use Rattle.lists.proofs.Wholes.{fittings}
 use borrow.Author.Needs.{needs}
-use Rattle.closed.proofs.is_fitting.Statement.{statement}
-use Rattle.closed.proofs.is_fitting.Tie as tie
+use Rattle.lists.proofs.is_fitting.Statement.{statement}
+use Rattle.lists.proofs.is_fitting.Tie as tie
 
 is-whole-requires : tie.Need-is-whole-requires
 is-whole-requires c κs = search needs
