@@ -1,2 +1,3 @@
-// Document 01's twelve samples, as one statement over a list of them (specs/Samples.antt, proved in
-// proofs/Meaning.antt). There is no code here: samples_runs asks the same questions of the code.
+// Document 01's twelve samples as one statement over a list of them (specs/Samples.antt): of the
+// definitions (proofs/Meaning.antt), and of whatever the entries' contracts allow
+// (proofs/Promises.antt). There is no code here: samples_runs asks the entries the same questions.
