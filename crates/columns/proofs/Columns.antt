@@ -23,11 +23,11 @@ pub slots-end : (f : ℕ → Slot) (l₀ : List Slot) (p : ℕ) (l : List Slot) 
 slots-end f l₀ p l m e h = let x : length l₀ ≡ countLimit = rw e in made-end nil f l₀ p l m x (omega (arith, m .filled .long))
 
 -- what a test of the lengths says
-pub fit-long : (a b c : ℕ) (r : Bool) → r ≡ lengthsFit a b c → r ≡ true → (a ≡ countLimit) × (b ≡ countLimit) × (c ≡ countLimit)
+pub fit-long : (a b c : ℕ) (r : Bool) → r ≡ lengthsFit a b c → r ≡ true → (a ≡ countLimit) × ((b ≡ countLimit) × (c ≡ countLimit))
 fit-long a b c r e q =
     let x = and-true _ _ (sym e ∙ q) in
     let y = and-true _ _ (x .1) in
-    (eqb-true _ _ (x .0), eqb-true _ _ (y .0), eqb-true _ _ (y .1))
+    (eqb-true _ _ (x .0), (eqb-true _ _ (y .0), eqb-true _ _ (y .1)))
 
 -- the slots of the lists that slots were written as are these slots
 pub read-written : (slots : List Slot) → length slots ≡ countLimit → slotsFrom (columnsFrom slots) ≡ slots
