@@ -1,6 +1,6 @@
 -- Laws of lists laid to the front of a room, and of rooms of the largest sizes. Assumes nothing.
 use mathlib.Core.Path.{_≡_, refl, sym, _∙_, ap}
-use mathlib.Core.Bool.{Bool, true, false, cond}
+use mathlib.Core.Bool.{true, false}
 use mathlib.Core.List.{List, [], _∷_}
 use Prim.Native.Nat.{ℕ, _+_, _*_, _≤_, _<_}
 use native.Mathlib.Omega.{arith}
@@ -10,10 +10,11 @@ use lib.Seq.{sets, length-take-le}
 use lib.Dec.{eqb}
 use borrow.Author.Tests.{eq-eqb, ne-eqb, eqb-true}
 use Rattle.ground.specs.Limits.{countLimit, wordLimit}
+use Rattle.ground.proofs.Tests.{and-true}
 use Rattle.reading.specs.declared.Reading.{Reading}
 use Rattle.reading.specs.Read.{cellLimit, Good, Rooms, rooms, Large}
 use Rattle.parts.proofs.Buffer.{Filling, filling-start, filling-next, filling-end}
-use Rattle.casefile.specs.Entry.{largestOf, largest}
+use Rattle.casefile.specs.Entry.{largestOf, largest, Largest}
 
 -- a list is laid to the front of a room up to entry i: a piece of a line stored from number 0 on
 pub record Laying (room₀ list : List ℕ) (i : ℕ) (room : List ℕ) : Type 0 where
@@ -77,3 +78,19 @@ module _ (a b c d e : ℕ) where
         lengths-word s = simp (eq-eqb _ _ p, eq-eqb _ _ q, eq-eqb _ _ r, eq-eqb _ _ s)
 
 pub ruleset lengths = (lengths-caps, lengths-initial, lengths-pre, lengths-post, lengths-word)
+
+-- the test says what it should
+pub largest-of : (x : Rooms) → largest x ≡ true → Largest x
+unfolding largestOf
+largest-of x e =
+    let a = and-true _ (eqb (length (x .word)) wordLimit) e in
+    let b = and-true _ (eqb (length (x .post)) cellLimit) (a .0) in
+    let c = and-true _ (eqb (length (x .pre)) cellLimit) (b .0) in
+    let d = and-true _ (eqb (length (x .initial)) countLimit) (c .0) in
+    record { caps = eqb-true _ _ (d .0); initial = eqb-true _ _ (d .1); pre = eqb-true _ _ (c .1); post = eqb-true _ _ (b .1); word = eqb-true _ _ (a .1) }
+
+pub of-largest : (x : Rooms) → Largest x → largest x ≡ true
+of-largest x l = sym (lengths-word _ _ _ _ _ (l .caps) (l .initial) (l .pre) (l .post)) ∙ eq-eqb _ _ (l .word)
+
+pub largest-large : (x : Rooms) → Largest x → Large x
+largest-large x l = record { caps = omega (arith, l .caps); initial = omega (arith, l .initial); pre = omega (arith, l .pre); post = omega (arith, l .post); word = omega (arith, l .word) }

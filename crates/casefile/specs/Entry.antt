@@ -1,7 +1,7 @@
 -- A whole case file into lent rooms of the largest sizes ("Case file lines"; "Refusal numbers").
 use Prim.Native.Nat.{ℕ, _+_, _*_}
 use mathlib.Core.Path.{_≡_}
-use mathlib.Core.Bool.{Bool, true, false, cond}
+use mathlib.Core.Bool.{Bool, cond, _&&_}
 use mathlib.Core.List.{List, [], _∷_}
 use lib.ListN.{length, take, replicate}
 use lib.Seq.{sets}
@@ -26,10 +26,17 @@ came r x = record { answer = r; left = x }
 -- "places P, transitions T: 1 to 64 each", "letters in a word: 0 to 65,535": rooms for the largest net and word
 unfoldable pub largestOf : ℕ → ℕ → ℕ → ℕ → ℕ → Bool
 largestOf caps initial pre post word =
-    cond (eqb caps countLimit) (cond (eqb initial countLimit) (cond (eqb pre cellLimit) (cond (eqb post cellLimit) (eqb word wordLimit) false) false) false) false
+    eqb caps countLimit && eqb initial countLimit && eqb pre cellLimit && eqb post cellLimit && eqb word wordLimit
 
 abbrev pub largest : Rooms → Bool
 largest x = largestOf (length (x .caps)) (length (x .initial)) (length (x .pre)) (length (x .post)) (length (x .word))
+
+pub record Largest (x : Rooms) : Type 0 where
+  pub caps : length (x .caps) ≡ countLimit
+  pub initial : length (x .initial) ≡ countLimit
+  pub pre : length (x .pre) ≡ cellLimit
+  pub post : length (x .post) ≡ cellLimit
+  pub word : length (x .word) ≡ wordLimit
 
 -- such rooms with nothing in them
 abbrev pub blank : Rooms

@@ -215,13 +215,7 @@ pub fn read_case(
     ensures { λ r. ⌜ CaseRead (now (file .entry)) (rooms (now (caps .entry)) (now (initial .entry)) (now (pre .entry)) (now (post .entry)) (now (word .entry))) r
         (rooms (now (caps .exit)) (now (initial .exit)) (now (pre .exit)) (now (post .exit)) (now (word .exit))) ⌝ }
 {
-    let fits = is_largest(
-        caps.len(),
-        initial.len(),
-        pre.len(),
-        post.len(),
-        word.len(),
-    );
+    let fits = is_largest(caps.len(), initial.len(), pre.len(), post.len(), word.len());
     if !fits {
         return CaseFile::Refused(2, 0);
     }

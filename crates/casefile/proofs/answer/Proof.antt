@@ -1,49 +1,41 @@
+use Rattle.casefile.proofs.Ends.{whole-good, whole-answered, refused-answered}
 use borrow.Author.Needs.{needs}
 use Rattle.casefile.proofs.answer.Statement.{statement}
 use Rattle.casefile.proofs.answer.Tie as tie
-use Rattle.casefile.proofs.answer.Reads as reads
-use Rattle.casefile.proofs.answer.Lts as lts
-use Rattle.casefile.proofs.lay_out.Reads as lay-out-reads
 
--- src/lib.rt:174:21
 enum-known-case : tie.Need-enum-known-case
 enum-known-case c = search needs
 
--- src/lib.rt:175:13
 lay-out-requires : tie.Need-lay-out-requires
-lay-out-requires c κs = search needs
+lay-out-requires c κs =
+    let s = c .before .before .before .before .before .before .before .before .before .before .before .before .before .before .before .before .before .before in
+    (whole-good _ _ (c .before .before .before .before .before .before .case .given .1) (s .pre .0), s .pre .1, s .pre .2)
 
--- src/lib.rt:178:23
 enum-known-case-2 : tie.Need-enum-known-case-2
 enum-known-case-2 c = search needs
 
--- src/lib.rt:155:1
 same-length : tie.Need-same-length
 same-length c = search needs
 
--- src/lib.rt:155:1
 same-length-2 : tie.Need-same-length-2
 same-length-2 c = search needs
 
--- src/lib.rt:155:1
 same-length-3 : tie.Need-same-length-3
 same-length-3 c = search needs
 
--- src/lib.rt:155:1
 same-length-4 : tie.Need-same-length-4
 same-length-4 c = search needs
 
--- src/lib.rt:155:1
 same-length-5 : tie.Need-same-length-5
 same-length-5 c = search needs
 
--- src/lib.rt:155:1
 returns : tie.Need-returns
-returns c = search needs
+returns c =
+    let l = c .before .before .before .before .before .before .before .before .before .before in
+    whole-answered _ _ _ _ _ (l .before .before .before .before .before .before .before .case .given .1) (l .lay-out .ensures)
 
--- src/lib.rt:155:1
 returns-2 : tie.Need-returns-2
-returns-2 c = search needs
+returns-2 c = refused-answered _ _ _ _ _ (c .before .case2 .given .1)
 
 pub answer-spec : {M : Type 1} → statement M
 answer-spec =
