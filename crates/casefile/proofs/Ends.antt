@@ -47,7 +47,7 @@ hold-is : (t : Reading) (d : List ℕ) → holdOf t [] d ≡ cond (leb (length {
 unfolding holdOf
 hold-is t d = refl
 
-left-over : (t : Reading) (d : List ℕ) → caseOf (holdOf t [] d) ≡ endOf t (length d)
+pub left-over : (t : Reading) (d : List ℕ) → caseOf (holdOf t [] d) ≡ endOf t (length d)
 unfolding caseOf endOf
 left-over t [] = ap caseOf (hold-is t [])
 left-over t (b ∷ d) = ap caseOf (hold-is t (b ∷ d)) ∙ go (leb (length {A = ℕ} [] + length (b ∷ d)) lineLimit) ∙ end-cut t (length (b ∷ d)) (λ e. omega arith)
