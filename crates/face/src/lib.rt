@@ -128,17 +128,17 @@ fn of_block(at: usize, why: Cause) -> ReplayAnswer
     ensures { λ r. ⌜ r ≡ handedReplay (0x81 ∷ replay.causeNumber why ∷ at ∷ replay.causePlace why ∷ []) ⌝ }
 {
     match why {
-        Cause::Short(p) => ReplayAnswer {
+        Cause::Short(short) => ReplayAnswer {
             kind: ANSWERED,
             number: 1,
             position: at,
-            place: p,
+            place: short,
         },
-        Cause::Over(p) => ReplayAnswer {
+        Cause::Over(over) => ReplayAnswer {
             kind: ANSWERED,
             number: 2,
             position: at,
-            place: p,
+            place: over,
         },
     }
 }
