@@ -115,7 +115,8 @@ fn write_cause(out: &mut [u8], i: usize, why: Cause) -> usize
 // The verdict line of an answer, with the marking left, at the front of the room; answers its length.
 pub fn write_verdict(out: &mut [u8], answer: Replay, marking: &[u32]) -> usize
     requires { ⌜ (answerLimit ≤ length (now out)) × (length (now marking) ≤ countLimit) × (Placed answer) ⌝ }
-    ensures { λ r. ⌜ WrittenBytes (now (out .entry)) (bytesOf answer (now (marking .entry))) r (now (out .exit)) ⌝ }
+    ensures line { λ r. ⌜ WrittenBytes (now (out .entry)) (bytesOf answer (now (marking .entry))) r (now (out .exit)) ⌝ }
+    ensures few { λ r. ⌜ r ≤ answerLimit ⌝ }
 {
     match answer {
         Replay::Fired(n) => write_fired(out, n, marking),

@@ -1,6 +1,6 @@
 use native.Mathlib.Omega.{arith}
 use denote.Ref.{now}
-use Rattle.verdict.proofs.Answers.{line-of, placed-of}
+use Rattle.verdict.proofs.Answers.{line-of, line-few, placed-of}
 use borrow.Author.Needs.{needs}
 use Rattle.verdict.proofs.write_verdict.Statement.{statement}
 use Rattle.verdict.proofs.write_verdict.Tie as tie
@@ -31,7 +31,8 @@ same-length c = search needs
 returns : tie.Need-returns
 returns c =
     let s : tie.Start = search needs in
-    line-of (s .args .answer) _ _ (now (s .args .marking)) _ _ (c .before .before .before .before .before .answer .given .1) (c .before .before .write-fired .ensures)
+    let w = line-of (s .args .answer) _ _ (now (s .args .marking)) _ _ (c .before .before .before .before .before .answer .given .1) (c .before .before .write-fired .ensures) in
+    (w, omega (arith, w .long, line-few (s .args .answer) (now (s .args .marking)) (s .pre .1)))
 
 same-length-2 : tie.Need-same-length-2
 same-length-2 c = search needs
@@ -39,7 +40,8 @@ same-length-2 c = search needs
 returns-2 : tie.Need-returns-2
 returns-2 c =
     let s : tie.Start = search needs in
-    line-of (s .args .answer) _ _ (now (s .args .marking)) _ _ (c .before .before .before .before .before .answer2 .given .1) (c .before .before .write-cause .ensures)
+    let w = line-of (s .args .answer) _ _ (now (s .args .marking)) _ _ (c .before .before .before .before .before .answer2 .given .1) (c .before .before .write-cause .ensures) in
+    (w, omega (arith, w .long, line-few (s .args .answer) (now (s .args .marking)) (s .pre .1)))
 
 same-length-3 : tie.Need-same-length-3
 same-length-3 c = search needs
@@ -47,7 +49,8 @@ same-length-3 c = search needs
 returns-3 : tie.Need-returns-3
 returns-3 c =
     let s : tie.Start = search needs in
-    line-of (s .args .answer) _ _ (now (s .args .marking)) _ _ (c .before .before .before .before .before .answer3 .given .1) (c .before .before .write-refused .ensures)
+    let w = line-of (s .args .answer) _ _ (now (s .args .marking)) _ _ (c .before .before .before .before .before .answer3 .given .1) (c .before .before .write-refused .ensures) in
+    (w, omega (arith, w .long, line-few (s .args .answer) (now (s .args .marking)) (s .pre .1)))
 
 pub write-verdict-spec : {M : Type 1} → statement M
 write-verdict-spec =
