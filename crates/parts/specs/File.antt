@@ -57,6 +57,11 @@ caseOf (going s []) = finishOf s
 caseOf (going s (b ∷ d)) = Refused 11 (s .line + 1)
 caseOf (stopped n l) = Refused n l
 
+-- the state of a whole file is good, and has all its frames
+abbrev pub GoodCase : Case → Type 0
+GoodCase (Whole s) = (Good s) × (s .phase ≡ 5)
+GoodCase (Refused n l) = Unit {0}
+
 -- what a held line stands for, and what holds of it
 abbrev pub abs : Held → Run
 abs h = cond (eqb (h .refusal) 0) (going (h .reading) (take (h .len) (h .line))) (stopped (h .refusal) (h .at))

@@ -10,7 +10,7 @@ ghost use lib.ListN.{length, take, drop};
 ghost use lib.Seq.{sets};
 ghost use Rattle.frames.specs.Frame.{lineFeed};
 ghost use Rattle.reading.specs.Read.{Good, rooms, Large, GoodTook};
-ghost use Rattle.parts.specs.File.{going, stopped, both, ended, feedOf, feedAll, finishOf, caseOf, abs, Sound, lineLen, holdOf, Went};
+ghost use Rattle.parts.specs.File.{going, stopped, both, ended, feedOf, feedAll, finishOf, caseOf, GoodCase, abs, Sound, lineLen, holdOf, Went};
 
 // What the whole lines of a part come to: the state after them and where the rest starts, or a refusal.
 pub enum Lines {
@@ -88,7 +88,8 @@ pub fn read_lines(
 // The end of a file, after whole lines.
 pub fn finish(s: Reading) -> Case
     requires { ⌜ Good s ⌝ }
-    ensures { λ r. ⌜ r ≡ finishOf s ⌝ }
+    ensures value { λ r. ⌜ r ≡ finishOf s ⌝ }
+    ensures good { λ r. ⌜ GoodCase r ⌝ }
 {
     if s.phase != 5 {
         return Case::Refused(12, s.line + 1);
@@ -273,7 +274,8 @@ pub fn read_part(
 // The end of a file.
 pub fn finish_held(h: Held) -> Case
     requires { ⌜ Sound h ⌝ }
-    ensures { λ r. ⌜ r ≡ caseOf (abs h) ⌝ }
+    ensures value { λ r. ⌜ r ≡ caseOf (abs h) ⌝ }
+    ensures good { λ r. ⌜ GoodCase r ⌝ }
 {
     if h.refusal != 0 {
         return Case::Refused(h.refusal, h.at);

@@ -1,9 +1,10 @@
 -- The verdict line ("Output, one such line with its line feed").
-use Prim.Native.Nat.{ℕ, _+_, _*_, _/_, _%_}
+use Prim.Native.Nat.{ℕ, _+_, _*_, _/_, _%_, _<_}
 use mathlib.Core.Path.{_≡_}
 use mathlib.Core.List.{List, [], _∷_, _++_}
 use lib.ListN.{length}
 use lib.Seq.{sets}
+use Rattle.ground.specs.Limits.{countLimit}
 use Rattle.frames.specs.Frame.{digitsOf, lineFeed}
 use Rattle.replay.specs.Entry.{causeNumber, causePlace}
 use Rattle.replay.specs.declared.Replay.{Replay}
@@ -32,6 +33,17 @@ lineText bytes = digitsOf bytes ++ (lineFeed ∷ [])
 -- the verdict line of an answer, with the marking left
 abbrev pub verdict : Replay → List ℕ → List ℕ
 verdict r marking = lineText (bytesOf r marking)
+
+-- the most bytes of a verdict line: 81 00 and the letters fired are 12 digits, each place has 8 more, and the line feed ends it;
+-- a block's 14 digits and a refusal's 12 are fewer
+abbrev pub answerLimit : ℕ
+answerLimit = 13 + 8 * countLimit
+
+-- a place that an answer names is one of at most 64, so that it is one byte
+abbrev pub Placed : Replay → Type 0
+Placed (Fired n) = Unit {0}
+Placed (Blocked i why) = causePlace why < countLimit
+Placed (Refused n at) = Unit {0}
 
 -- bytes were put into the room at number at, as digits; r is the number after them
 pub record Put (room : List ℕ) (at : ℕ) (bytes : List ℕ) (r : ℕ) (room′ : List ℕ) : Type 0 where

@@ -1,11 +1,19 @@
 // Inner: the verdict line that the program writes, made into a lent room.
+use ground::COUNT_LIMIT;
+use net::Cause;
+use replay::Replay;
 ghost use mathlib.Core.Path.{_≡_};
 ghost use mathlib.Core.List.{[], _∷_, _++_};
 ghost use Prim.Native.Nat.{_+_, _*_, _≤_};
 ghost use lib.ListN.{length};
 ghost use lib.Seq.{sets};
+ghost use Rattle.ground.specs.Limits.{countLimit};
 ghost use Rattle.frames.specs.Frame.{lineFeed};
-ghost use Rattle.verdict.specs.Verdict.{four, fours, Put, WrittenBytes};
+ghost use Rattle.verdict.specs.Verdict.{four, fours, bytesOf, answerLimit, Placed, Put, WrittenBytes};
+
+// The most bytes of a verdict line: 81 00 and the letters fired are 12 digits, each of at most 64
+// places has 8 more, and the line feed ends it.
+pub const ANSWER_LIMIT: usize = 13 + 8 * COUNT_LIMIT;
 
 // A byte, as its two digits; answers the number after them.
 fn put_byte(out: &mut [u8], at: usize, b: u8) -> usize
@@ -91,4 +99,28 @@ pub fn write_refused(out: &mut [u8], number: u8, line: usize) -> usize
     let b = put_byte(out, a, number);
     let c = put_four(out, b, line);
     put_feed(out, c)
+}
+
+// A block's line, by its cause.
+fn write_cause(out: &mut [u8], i: usize, why: Cause) -> usize
+    requires { ⌜ (15 ≤ length (now out)) × (Placed (Replay.Blocked i why)) ⌝ }
+    ensures { λ r. ⌜ WrittenBytes (now (out .entry)) (bytesOf (Replay.Blocked i why) []) r (now (out .exit)) ⌝ }
+{
+    match why {
+        Cause::Short(place) => write_blocked(out, i, 1, place as u8),
+        Cause::Over(place) => write_blocked(out, i, 2, place as u8),
+    }
+}
+
+// The verdict line of an answer, with the marking left, at the front of the room; answers its length.
+pub fn write_verdict(out: &mut [u8], answer: Replay, marking: &[u32]) -> usize
+    requires { ⌜ (answerLimit ≤ length (now out)) × (length (now marking) ≤ countLimit) × (Placed answer) ⌝ }
+    ensures line { λ r. ⌜ WrittenBytes (now (out .entry)) (bytesOf answer (now (marking .entry))) r (now (out .exit)) ⌝ }
+    ensures few { λ r. ⌜ r ≤ answerLimit ⌝ }
+{
+    match answer {
+        Replay::Fired(n) => write_fired(out, n, marking),
+        Replay::Blocked(i, why) => write_cause(out, i, why),
+        Replay::Refused(number, at) => write_refused(out, number, at),
+    }
 }

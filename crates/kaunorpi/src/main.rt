@@ -1,0 +1,174 @@
+// The program: a case file on standard input, read in parts; one verdict line on standard output.
+// Reading stops at the file's end, at the first refusal, since nothing after it can change the
+// answer, or at a read that fails: then the file has no end that is known, so no line is written,
+// and the failure is told on standard error.
+use ground::COUNT_LIMIT;
+use ground::WORD_LIMIT;
+use libc::STDIN_FILENO;
+use libc::STDOUT_FILENO;
+use parts::Held;
+use reading::Reading;
+use verdict::ANSWER_LIMIT;
+ghost use Prim.Native.Nat.{_≤_};
+ghost use lib.ListN.{length};
+ghost use Rattle.reading.specs.Read.{rooms, Large};
+ghost use Rattle.parts.specs.File.{Sound};
+ghost use Rattle.verdict.specs.Verdict.{answerLimit};
+
+// The most entries of Pre, and of Post.
+const CELL_LIMIT: usize = COUNT_LIMIT * COUNT_LIMIT;
+
+// Whether there is more to read.
+enum Input {
+    More,
+    Over,
+    Failed,
+}
+
+// What was read so far.
+struct Fed {
+    held: Held,
+    input: Input,
+}
+
+// A read that a signal interrupted is made again; any other failure is one.
+fn after_failure() -> Input {
+    if os::errno() == libc::EINTR {
+        Input::More
+    } else {
+        Input::Failed
+    }
+}
+
+// After a refusal nothing more is read.
+fn after_part(refusal: u8) -> Input {
+    if refusal == 0 {
+        Input::More
+    } else {
+        Input::Over
+    }
+}
+
+// One read, fed to the reader.
+fn read_some(
+    h: Held,
+    caps: &mut [u16],
+    initial: &mut [u16],
+    pre: &mut [u8],
+    post: &mut [u8],
+    word: &mut [u8],
+) -> Fed
+    requires { ⌜ (Sound h) × (Large (rooms (now caps) (now initial) (now pre) (now post) (now word))) ⌝ }
+    ensures { λ r. ⌜ Sound (r .held) ⌝ }
+{
+    let mut buf = io::large_buffer();
+    let got = libc::read(STDIN_FILENO, &mut buf);
+    if got < 0 {
+        return Fed {
+            held: h,
+            input: after_failure(),
+        };
+    }
+    if got == 0 {
+        return Fed {
+            held: h,
+            input: Input::Over,
+        };
+    }
+    let n = io::count(got, &buf);
+    let r = parts::read_part(h, &buf[..n], caps, initial, pre, post, word);
+    Fed {
+        held: r,
+        input: after_part(r.refusal),
+    }
+}
+
+// Every part of standard input. The loop counts its turns down from a number that no run uses up,
+// since nothing says that an input ends.
+fn read_all(
+    h: Held,
+    caps: &mut [u16],
+    initial: &mut [u16],
+    pre: &mut [u8],
+    post: &mut [u8],
+    word: &mut [u8],
+) -> Fed
+    requires { ⌜ (Sound h) × (Large (rooms (now caps) (now initial) (now pre) (now post) (now word))) ⌝ }
+    ensures { λ r. ⌜ Sound (r .held) ⌝ }
+{
+    let mut r = h;
+    let mut turns = u64::MAX;
+    while 0 < turns {
+        let f = read_some(r, caps, initial, pre, post, word);
+        let input = f.input;
+        match input {
+            Input::More => {
+                r = f.held;
+                turns = turns - 1;
+            }
+            _ => {
+                return f;
+            }
+        }
+    }
+    Fed {
+        held: r,
+        input: Input::Failed,
+    }
+}
+
+// The line is made in the room out, and written.
+fn show(
+    h: Held,
+    caps: &[u16],
+    initial: &[u16],
+    pre: &[u8],
+    post: &[u8],
+    word: &[u8],
+    out: &mut [u8],
+)
+    requires { ⌜ (Sound h) × (Large (rooms (now caps) (now initial) (now pre) (now post) (now word))) × (answerLimit ≤ length (now out)) ⌝ }
+{
+    let n = answering::answer_line(h, caps, initial, pre, post, word, out);
+    if !io::write_all(STDOUT_FILENO, &out[..n]) {
+        os::fail(b"kaunorpi: standard output");
+    }
+}
+
+// The whole program, over rooms that are large enough for any file and for any line.
+fn answer(
+    caps: &mut [u16],
+    initial: &mut [u16],
+    pre: &mut [u8],
+    post: &mut [u8],
+    word: &mut [u8],
+    out: &mut [u8],
+)
+    requires { ⌜ (Large (rooms (now caps) (now initial) (now pre) (now post) (now word))) × (answerLimit ≤ length (now out)) ⌝ }
+{
+    let s = Reading::new();
+    let h = parts::cleared(s);
+    let f = read_all(h, caps, initial, pre, post, word);
+    let input = f.input;
+    match input {
+        Input::Failed => os::fail(b"kaunorpi: standard input"),
+        _ => show(f.held, caps, initial, pre, post, word, out),
+    }
+}
+
+fn main() {
+    let mut caps = [0u16; COUNT_LIMIT];
+    let mut initial = [0u16; COUNT_LIMIT];
+    let mut pre = [0u8; CELL_LIMIT];
+    let mut post = [0u8; CELL_LIMIT];
+    let mut word = [0u8; WORD_LIMIT];
+    let mut out = [0u8; ANSWER_LIMIT];
+    answer(
+        &mut caps,
+        &mut initial,
+        &mut pre,
+        &mut post,
+        &mut word,
+        &mut out,
+    );
+}
