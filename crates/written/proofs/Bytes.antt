@@ -6,10 +6,10 @@ use Prim.Native.Nat.{ℕ, zero, suc, _+_, _*_, _/_, _%_, _≤_, _<_, zero-le}
 use native.Mathlib.Omega.{arith}
 use native.Mathlib.Nat.{not-suc-le-zero, zero-add, suc-add}
 use native.Mathlib.Decide.{decLt}
-use lib.Dec.{leb, ltb, eqb}
+use lib.Dec.{leb, eqb}
 use lib.ListN.{length, take, drop, getD, List·getD-eq-default}
 use borrow.Author.Tests.{le-ltb, ne-eqb, leb-true, leb-false}
-use Rattle.frames.specs.Frame.{lineLimit, lineFeed, valueOf, isDigit, allDigits, digitOf, digitsOf, byteAt, bytesFrom, wordsFrom}
+use Rattle.frames.specs.Frame.{lineLimit, lineFeed, valueOf, isDigit, allDigits, digitOf, digitsOf, byteAt, wordAt, bytesFrom, wordsFrom}
 use Rattle.frames.proofs.Frames.{low, num, mid, letter, high}
 use Rattle.frames.proofs.Round.{Below, none, more, value-digit, byte-shift, bytes-shift, byte-first, digits-long}
 use Rattle.reading.specs.Read.{ruleOf}
@@ -83,15 +83,6 @@ rule-digits f w h k =
     )
     (digits-all f w)
 
-pub rule-all : (d : List ℕ) → ruleOf d ≡ true → allDigits d ≡ true
-unfolding ruleOf
-rule-all d h = go (ltb (length d) 2) (ltb lineLimit (length d)) (eqb (length d % 2) 1) (allDigits d) h where
-  go : (a b c t : Bool) → cond a false (cond b false (cond c false t)) ≡ true → t ≡ true
-  go true b c t e = absurd (false≢true e)
-  go false true c t e = absurd (false≢true e)
-  go false false true t e = absurd (false≢true e)
-  go false false false t e = e
-
 -- a frame's bytes, as many as asked for, and in two pieces
 pub bytes-long : (d : List ℕ) (i n : ℕ) → length (bytesFrom d i n) ≡ n
 unfolding bytesFrom
@@ -111,6 +102,19 @@ pub words-long : (d : List ℕ) (i n : ℕ) → length (wordsFrom d i n) ≡ n
 unfolding wordsFrom
 words-long d i zero = refl
 words-long d i (suc n) = ap suc (words-long d (i + 2) n)
+
+-- entry k of them
+pub bytes-at : (d : List ℕ) (i n k : ℕ) → k < n → getD (bytesFrom d i n) k 0 ≡ byteAt d (i + k)
+unfolding bytesFrom
+bytes-at d i zero k h = absurd (not-suc-le-zero h)
+bytes-at d i (suc n) zero h = let e : i + 0 ≡ i = omega arith in rw e
+bytes-at d i (suc n) (suc k) h = let e : i + suc k ≡ i + 1 + k = omega arith in rw e (bytes-at d (i + 1) n k (omega arith))
+
+pub words-at : (d : List ℕ) (i n k : ℕ) → k < n → getD (wordsFrom d i n) k 0 ≡ wordAt d (i + 2 * k)
+unfolding wordsFrom
+words-at d i zero k h = absurd (not-suc-le-zero h)
+words-at d i (suc n) zero h = let e : i + 2 * 0 ≡ i = omega arith in rw e
+words-at d i (suc n) (suc k) h = let e : i + 2 * suc k ≡ i + 2 + 2 * k = omega arith in rw e (words-at d (i + 2) n k (omega arith))
 
 -- a byte that is read is one
 value-small : (x : ℕ) → valueOf x ≤ 15

@@ -18,15 +18,14 @@ use Rattle.net.specs.Letter.{row}
 use Rattle.net.specs.Given.{Fine}
 use Rattle.net.proofs.Rows.{row-end}
 use Rattle.reading.specs.declared.Reading.{Reading}
-use Rattle.reading.specs.declared.Took.{Took}
 use Rattle.reading.specs.declared.Took.the-variants as took
-use Rattle.reading.specs.Read.{Rooms, rooms, fresh, Large, judgeOf, lettersIn, advanced, advancedKind, stored, storedKind, lineOf, roomsOf}
-use Rattle.parts.specs.File.{going, stopped, Both, both, ended, feedOf, feedAll}
-use Rattle.parts.proofs.Line.{feed-push, feed-long, feed-line, stays}
+use Rattle.reading.specs.Read.{Rooms, rooms, fresh, Large, judgeOf, lettersIn, advanced, advancedKind, stored, storedKind}
+use Rattle.parts.specs.File.{going, Both, both, feedOf, feedAll}
+use Rattle.parts.proofs.Line.{feed-push, feed-long, never-goes, line-taken, line-stopped}
 use Rattle.written.specs.Text.{countsLine, capsLine, tokensLine, rowLine, lettersLine, lettersLines, joined, fileOf, endOf, filled}
 use Rattle.written.proofs.Bytes.{below-of, below-most, below-append, bytes-long, bytes-small, words-long, words-small}
 use Rattle.written.proofs.Fronts.{getD-sets}
-use Rattle.written.proofs.Lines.{state, line-next, line-kept, fit-tokens, kind-next, counts-of, caps-of, tokens-of, row-of, letters-of}
+use Rattle.written.proofs.Lines.{state, kind-next, counts-of, caps-of, tokens-of, tokens-fine, row-of, letters-of}
 
 -- a net with its first n rows, and a marking, within the limits
 pub record Rowed (net : Net) (n : ℕ) (initial : List ℕ) : Type 0 where
@@ -108,9 +107,8 @@ module _ (x : Rooms) (big : Large x) (d : List ℕ) where
           let m : List ℕ = wordsFrom d 1 P in
           let n : length m ≡ P = words-long d 1 P in
           let fits : (k : ℕ) → k < P → (getD m k 0 ≤ tokenLimit) × (getD m k 0 ≤ getD caps k 0) = λ k l.
-          let z : 0 + k ≡ k = omega arith in
           let q = getD-sets caps (x .caps) k (omega (arith, big .caps)) (omega arith) in
-          rw (z, q) at (fit-tokens d (sets (x .caps) 0 caps) 0 1 P k (t .1) l) in
+          rw q at (tokens-fine (state 3 P T 0 0 2) d (sets (x .caps) 0 caps) j refl k l) in
           let few : Below (suc tokenLimit) m = below-of (suc tokenLimit) m (λ k l. let z = fits k (omega arith) .0 in omega arith) in
           rowed (netOf P T [] [] caps) 0 m
           (record {
@@ -127,7 +125,7 @@ module _ (x : Rooms) (big : Large x) (d : List ℕ) where
             takes = none;
             puts = none;
           })
-          f (rw e) (rw e) (ap (λ (l : List ℕ). countsLine P T ++ capsLine caps ++ (l ++ (lineFeed ∷ []))) (t .0) ∙ sym (append-nil _))
+          f (rw e) (rw e) (ap (λ (l : List ℕ). countsLine P T ++ capsLine caps ++ (l ++ (lineFeed ∷ []))) t ∙ sym (append-nil _))
 
   module _ (net : Net) (n : ℕ) (initial : List ℕ) (r : Rowed net n initial) (h : n < net .transitions) where
     step-rowed : judgeOf (state 4 (net .places) (net .transitions) n 0 (3 + n)) d (filled x net initial [] .caps) ≡ 0
@@ -246,17 +244,6 @@ module _ (x : Rooms) (big : Large x) (d : List ℕ) where
   step s y p (rowed net n initial r h es ey ep) j = rw (es, ey, ep) (step-rowed net n initial r h (rw (es, ey) at j))
   step s y p (lettered net initial w l es ey ep) j = rw (es, ey, ep) (step-lettered net initial w l (rw (es, ey) at j))
 
-line-refused : (s : Reading) (d caps : List ℕ) → eqb (judgeOf s d caps) 0 ≡ false → lineOf s d caps ≡ took.Refused (judgeOf s d caps) (s .line + 1)
-unfolding lineOf
-line-refused s d caps e = simp e
-
--- after a refusal nothing goes on
-never-goes : (n l : ℕ) (y z : Rooms) (bs : List ℕ) (t : Reading) → feedAll (both (stopped n l) y) bs ≡ both (going t []) z → ⊥
-never-goes n l y z bs t e =
-    let r : stopped n l ≡ going t [] = ap (λ (u : Both). u .run) (sym (stays n l y bs) ∙ e) in
-    let q : _≡_ {A = ℕ} 0 1 = cc in
-    omega arith
-
 -- what was read, byte by byte, up to the end of a line
 module _ (x : Rooms) (big : Large x) (t : Reading) (z : Rooms) where
   pub reads : (bs : List ℕ) (s : Reading) (y : Rooms) (q l : List ℕ) → Stage x s y q → feedAll (both (going s l) y) bs ≡ both (going t []) z → Stage x t z (q ++ (l ++ bs))
@@ -274,14 +261,12 @@ module _ (x : Rooms) (big : Large x) (t : Reading) (z : Rooms) where
     line : b ≡ lineFeed → (a : Bool) → eqb (judgeOf s l (y .caps)) 0 ≡ a → Rec → Stage x t z (q ++ (l ++ b ∷ bs))
     line h true j rec =
         let o : judgeOf s l (y .caps) ≡ 0 = eqb-true _ _ j in
-        let f : feedOf (both (going s l) y) lineFeed ≡ both (going (advanced s l) []) (stored s l y)
-        = feed-line s l y ∙ ap (λ (k : Took). both (ended k) (roomsOf s l y)) (sym (line-next s l y o)) ∙ ap (both (going (advanced s l) [])) (line-kept s l y o) in
-        let k = rec (advanced s l) (stored s l y) (q ++ (l ++ (lineFeed ∷ []))) [] (step x big l s y q g o) (ap (λ (u : Both). feedAll u bs) (sym f) ∙ ap (λ (c : ℕ). feedAll (feedOf (both (going s l) y) c) bs) (sym h) ∙ e) in
+        let k = rec (advanced s l) (stored s l y) (q ++ (l ++ (lineFeed ∷ []))) [] (step x big l s y q g o)
+        (ap (λ (u : Both). feedAll u bs) (sym (line-taken s l y o)) ∙ ap (λ (c : ℕ). feedAll (feedOf (both (going s l) y) c) bs) (sym h) ∙ e) in
         rw h (rw (append-assoc q (l ++ (lineFeed ∷ [])) bs, append-assoc l (lineFeed ∷ []) bs) at k)
     line h false j rec =
-        let f : feedOf (both (going s l) y) lineFeed ≡ both (stopped (judgeOf s l (y .caps)) (s .line + 1)) (roomsOf s l y)
-        = feed-line s l y ∙ ap (λ (k : Took). both (ended k) (roomsOf s l y)) (line-refused s l (y .caps) j) in
-        absurd (never-goes (judgeOf s l (y .caps)) (s .line + 1) (roomsOf s l y) z bs t (ap (λ (u : Both). feedAll u bs) (sym f) ∙ ap (λ (c : ℕ). feedAll (feedOf (both (going s l) y) c) bs) (sym h) ∙ e))
+        absurd (never-goes (judgeOf s l (y .caps)) (s .line + 1) y z bs t []
+        (ap (λ (u : Both). feedAll u bs) (sym (line-stopped s l y (eqb-false _ _ j))) ∙ ap (λ (c : ℕ). feedAll (feedOf (both (going s l) y) c) bs) (sym h) ∙ e))
 
     go : (a : Bool) → eqb b lineFeed ≡ a → Rec → Stage x t z (q ++ (l ++ b ∷ bs))
     go true h rec = line (eqb-true _ _ h) (eqb (judgeOf s l (y .caps)) 0) refl rec
@@ -292,4 +277,4 @@ module _ (x : Rooms) (big : Large x) (t : Reading) (z : Rooms) where
       held : (a : Bool) → ltb (length l) lineLimit ≡ a → Rec → Stage x t z (q ++ (l ++ b ∷ bs))
       held true i rec =
           rw (append-assoc l (b ∷ []) bs) at (rec s y q (l ++ (b ∷ [])) g (ap (λ (u : Both). feedAll u bs) (sym (feed-push s l y b n (ltb-true _ _ i))) ∙ e))
-      held false i rec = absurd (never-goes 11 (s .line + 1) y z bs t (ap (λ (u : Both). feedAll u bs) (sym (feed-long s l y b n (ltb-false _ _ i))) ∙ e))
+      held false i rec = absurd (never-goes 11 (s .line + 1) y z bs t [] (ap (λ (u : Both). feedAll u bs) (sym (feed-long s l y b n (ltb-false _ _ i))) ∙ e))
