@@ -26,22 +26,22 @@ pub enum CaseFile {
 }
 
 // Rooms of the largest sizes with nothing in them.
-fn blank_counts() -> [u16; 64]
+fn blank_counts() -> [u16; COUNT_LIMIT]
     ensures { λ r. ⌜ r ≡ replicate countLimit 0 ⌝ }
 {
-    [0; 64]
+    [0; COUNT_LIMIT]
 }
 
-fn blank_cells() -> [u8; 4096]
+fn blank_cells() -> [u8; CELL_LIMIT]
     ensures { λ r. ⌜ r ≡ replicate cellLimit 0 ⌝ }
 {
-    [0; 4096]
+    [0; CELL_LIMIT]
 }
 
-fn blank_word() -> [u8; 65535]
+fn blank_word() -> [u8; WORD_LIMIT]
     ensures { λ r. ⌜ r ≡ replicate wordLimit 0 ⌝ }
 {
-    [0; 65535]
+    [0; WORD_LIMIT]
 }
 
 // Whether rooms of these lengths are exactly the largest.
