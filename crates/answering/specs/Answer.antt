@@ -13,7 +13,8 @@ use Rattle.net.specs.Net.{Net, netOf}
 use Rattle.replay.specs.Replay.{Ran}
 use Rattle.replay.specs.Entry.{replayOf}
 use Rattle.replay.specs.declared.Replay.the-variants.{Refused}
-use Rattle.verdict.specs.Verdict.{bytesOf, lineText}
+use Rattle.frames.specs.Frame.{lineText}
+use Rattle.verdict.specs.Verdict.{bytesOf}
 
 -- the net that a file has given: its own entries stand at the front of each room
 abbrev pub netRead : Reading → Rooms → Net

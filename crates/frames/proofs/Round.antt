@@ -82,6 +82,17 @@ pub byte-first : (x y : ℕ) (d : List ℕ) → byteAt (x ∷ y ∷ d) 0 ≡ val
 unfolding byteAt
 byte-first x y d = refl
 
+-- the digits of two frames, and how many they are
+pub digits-then : (a b : List ℕ) → digitsOf (a ++ b) ≡ digitsOf a ++ digitsOf b
+unfolding digitsOf
+digits-then [] b = refl
+digits-then (x ∷ a) b = ap (λ (d : List ℕ). digitOf (x / 16) ∷ digitOf (x % 16) ∷ d) (digits-then a b)
+
+pub digits-long : (a : List ℕ) → length (digitsOf a) ≡ 2 * length a
+unfolding digitsOf
+digits-long [] = refl
+digits-long (x ∷ a) = let e = digits-long a in omega (arith, e)
+
 -- bytes, to digits and back
 pub back : (bs : List ℕ) → Below 256 bs → bytesFrom (digitsOf bs) 0 (length bs) ≡ bs
 unfolding digitsOf bytesFrom

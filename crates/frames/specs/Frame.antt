@@ -1,7 +1,7 @@
 -- A line's digits and the bytes that they spell ("Case file lines").
 use Prim.Native.Nat.{ℕ, zero, suc, _+_, _-_, _*_, _/_, _%_}
 use mathlib.Core.Bool.{Bool, true, false, cond}
-use mathlib.Core.List.{List, [], _∷_}
+use mathlib.Core.List.{List, [], _∷_, _++_}
 use lib.ListN.{getD}
 use lib.Dec.{leb}
 
@@ -36,6 +36,10 @@ digitOf n = cond (leb n 9) (n + 48) (n + 55)
 unfoldable pub digitsOf : List ℕ → List ℕ
 digitsOf [] = []
 digitsOf (b ∷ bs) = digitOf (b / 16) ∷ digitOf (b % 16) ∷ digitsOf bs
+
+-- "One frame a line: .. digits 0-9 and A-F, then a line feed": the line of a frame's bytes
+abbrev pub lineText : List ℕ → List ℕ
+lineText bytes = digitsOf bytes ++ (lineFeed ∷ [])
 
 -- byte i of the frame that the digits d spell
 unfoldable pub byteAt : List ℕ → ℕ → ℕ

@@ -13,7 +13,7 @@ use borrow.Author.Tests.{leb-true, leb-false, eq-eqb, ne-eqb, lt-ltb, le-ltb, eq
 use Rattle.frames.specs.Frame.{lineLimit, lineFeed, byteAt}
 use Rattle.reading.specs.declared.Reading.{Reading}
 use Rattle.reading.specs.declared.Took.{Took}
-use Rattle.reading.specs.Read.{Good, Rooms, rooms, lineOf, roomsOf, judgeOf, judgeKind, ruleOf, advanced, Large, GoodTook}
+use Rattle.reading.specs.Read.{Good, Rooms, rooms, lineOf, roomsOf, judgeOf, judgeKind, ruleOf, advanced, stored, Large, GoodTook}
 use Rattle.reading.proofs.Turns.{rule-says, judge-rule}
 use Rattle.reading.proofs.Accept.{cond-then}
 use Rattle.parts.specs.declared.Case.the-variants.{Whole, Refused}
@@ -89,6 +89,23 @@ pub stays : (n l : ℕ) (x : Rooms) (bs : List ℕ) → feedAll (both (stopped n
 unfolding feedAll fedTo
 stays n l x [] = refl
 stays n l x (b ∷ bs) = stays n l x bs
+
+-- after a refusal a reading does not go on
+pub never-goes : (n l : ℕ) (x y : Rooms) (bs : List ℕ) (t : Reading) (d : List ℕ) → feedAll (both (stopped n l) x) bs ≡ both (going t d) y → ⊥
+never-goes n l x y bs t d e =
+    let r : stopped n l ≡ going t d = ap (λ (u : Both). u .run) (sym (stays n l x bs) ∙ e) in
+    let q : _≡_ {A = ℕ} 0 1 = cc in
+    omega arith
+
+-- a line fed to its end, by what it is judged
+module _ (s : Reading) (d : List ℕ) (x : Rooms) where
+  pub line-taken : judgeOf s d (x .caps) ≡ 0 → feedOf (both (going s d) x) lineFeed ≡ both (going (advanced s d) []) (stored s d x)
+  unfolding lineOf roomsOf
+  line-taken j = feed-line s d x ∙ simp (eq-eqb (judgeOf s d (x .caps)) 0 j)
+
+  pub line-stopped : (judgeOf s d (x .caps) ≡ 0 → ⊥) → feedOf (both (going s d) x) lineFeed ≡ both (stopped (judgeOf s d (x .caps)) (s .line + 1)) x
+  unfolding lineOf roomsOf
+  line-stopped n = feed-line s d x ∙ simp (ne-eqb (judgeOf s d (x .caps)) 0 n)
 
 -- a file in two parts
 pub all-append : (z : Both) (cs bs : List ℕ) → feedAll z (cs ++ bs) ≡ feedAll (feedAll z cs) bs

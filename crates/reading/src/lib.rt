@@ -346,9 +346,10 @@ pub fn read_line(
 {
     let n = judge(s, d, caps);
     if n != 0 {
+        let here = s.line + 1;
         return Took::Refused {
             number: n,
-            line: s.line + 1,
+            line: here,
         };
     }
     store(s, d, caps, initial, pre, post, word);

@@ -7,13 +7,13 @@ use lib.ListN.{length, length-append}
 use mir.Syntax.{w8}
 use mir.Val.{Fits}
 use Rattle.ground.specs.Limits.{countLimit}
-use Rattle.frames.specs.Frame.{digitsOf, lineFeed}
+use Rattle.frames.specs.Frame.{digitsOf, lineFeed, lineText}
 use Rattle.net.specs.declared.Cause.{Cause}
 use Rattle.net.specs.declared.Cause.the-variants.{Short, Over}
 use Rattle.replay.specs.Entry.{causePlace}
 use Rattle.replay.specs.declared.Replay.{Replay}
 use Rattle.replay.specs.declared.Replay.the-variants.{Fired, Blocked, Refused}
-use Rattle.verdict.specs.Verdict.{four, fours, bytesOf, lineText, answerLimit, Placed, WrittenBytes}
+use Rattle.verdict.specs.Verdict.{four, fours, bytesOf, answerLimit, Placed, WrittenBytes}
 use Rattle.verdict.proofs.Puts.{digits-long, four-long, fours-long}
 
 -- the line of an answer is that of the case that it is

@@ -9,17 +9,8 @@ use lib.ListN.{length, getD, drop, set, length-append}
 use lib.Seq.{sets, drop-cons, length-sets}
 use Rattle.ground.proofs.Stores.{sets-both}
 use Rattle.frames.specs.Frame.{digitOf, digitsOf, lineFeed}
+use Rattle.frames.proofs.Round.{digits-then, digits-long}
 use Rattle.verdict.specs.Verdict.{four, fours, Put, WrittenBytes}
-
-pub digits-then : (a b : List ℕ) → digitsOf (a ++ b) ≡ digitsOf a ++ digitsOf b
-unfolding digitsOf
-digits-then [] b = refl
-digits-then (x ∷ a) b = ap (λ (d : List ℕ). digitOf (x / 16) ∷ digitOf (x % 16) ∷ d) (digits-then a b)
-
-pub digits-long : (a : List ℕ) → length (digitsOf a) ≡ 2 * length a
-unfolding digitsOf
-digits-long [] = refl
-digits-long (x ∷ a) = let e = digits-long a in omega (arith, e)
 
 pub put-then : (l : List ℕ) (at : ℕ) (a b : List ℕ) (r s : ℕ) (m n : List ℕ) → Put l at a r m → Put m r b s n → Put l at (a ++ b) s n
 put-then l at a b r s m n p q =

@@ -5,7 +5,7 @@ use mathlib.Core.List.{List, [], _∷_, _++_}
 use lib.ListN.{length}
 use lib.Seq.{sets}
 use Rattle.ground.specs.Limits.{countLimit}
-use Rattle.frames.specs.Frame.{digitsOf, lineFeed}
+use Rattle.frames.specs.Frame.{digitsOf, lineText}
 use Rattle.replay.specs.Entry.{causeNumber, causePlace}
 use Rattle.replay.specs.declared.Replay.{Replay}
 use Rattle.replay.specs.declared.Replay.the-variants.{Fired, Blocked, Refused}
@@ -26,11 +26,7 @@ bytesOf (Fired n) marking = (0x81 ∷ []) ++ ((0 ∷ []) ++ (four n ++ fours mar
 bytesOf (Blocked i why) marking = (0x81 ∷ []) ++ ((causeNumber why ∷ []) ++ (four i ++ (causePlace why ∷ [])))
 bytesOf (Refused n at) marking = (0x82 ∷ []) ++ ((n ∷ []) ++ four at)
 
--- "one such line with its line feed": the text of a line of these bytes
-abbrev pub lineText : List ℕ → List ℕ
-lineText bytes = digitsOf bytes ++ (lineFeed ∷ [])
-
--- the verdict line of an answer, with the marking left
+-- "one such line with its line feed": the verdict line of an answer, with the marking left
 abbrev pub verdict : Replay → List ℕ → List ℕ
 verdict r marking = lineText (bytesOf r marking)
 

@@ -10,8 +10,8 @@ use Rattle.reading.proofs.read_line.Tie as tie
 judge-requires : tie.Need-judge-requires
 judge-requires c κs = search needs
 
-add-t12 : tie.Need-add-t12
-add-t12 c = search needs
+add-here : tie.Need-add-here
+add-here c = search needs
 
 same-length : tie.Need-same-length
 same-length c = search needs
@@ -50,7 +50,7 @@ read-line-spec =
     tie.close
     (tie.spec
     judge-requires
-    add-t12
+    add-here
     same-length
     returns
     store-requires
