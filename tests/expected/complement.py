@@ -5,7 +5,7 @@
 
 Written from document 01 alone, without the program's code: nets are dictionaries from (place, transition) to a weight,
 the numbers are unbounded, and each rule is spelled out as 01 words it. A line a case: its number, the answer in numbers
-(129 and the places; 129 alone for a net that was written; 130 refusal position), and for a net the four rooms, each
+(129 0 and the places; 129 0 for a net that was written; 130 refusal position), and for a net the four rooms, each
 behind a bar; they hold 7s before the question. A replay's line has its answer and its room.
 It also checks, word by word up to three letters, that each net that is written fires the very same words.
 """
@@ -36,7 +36,7 @@ def places_answer(P, T, pre, post, caps):
     refused = net_refusal(P, T, pre, post, caps)
     if refused is None and P + len(capped(caps)) > 64:
         refused = 10, 0  # "old plus complement places over 64"
-    return [130, *refused] if refused else [129, P + len(capped(caps))]
+    return [130, *refused] if refused else [129, 0, P + len(capped(caps))]
 
 
 def net_answer(P, T, pre, post, caps, initial, lengths):
@@ -66,7 +66,7 @@ def net_answer(P, T, pre, post, caps, initial, lengths):
     flat = lambda arcs: [arcs[p, t] for t in range(T) for p in range(new)]
     made = [flat(Pre), flat(Post), [NONE] * new, [start[p] for p in range(new)]]
     same_words(P, T, pre, post, caps, initial, new, *made)
-    return [129], made
+    return [129, 0], made
 
 
 def replay(P, T, pre, post, caps, initial, word):

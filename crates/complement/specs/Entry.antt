@@ -56,9 +56,9 @@ answered (Faulty n at) new rooms = record { answer = Refused n at; left = rooms 
 abbrev pub complementOf : Net → List ℕ → Rooms → Wrote
 complementOf net initial rooms = answered (complementFault net initial (roomsFit net rooms)) (made net initial) rooms
 
--- numbers for each case: 81 and nothing more; 82, a refusal's number and position
+-- numbers for each case: 81 00; 82, a refusal's number and position
 abbrev pub numbers : ComplementNet → List ℕ
-numbers Made = 0x81 ∷ []
+numbers Made = 0x81 ∷ 0 ∷ []
 numbers (Refused n at) = 0x82 ∷ n ∷ at ∷ []
 
 -- what is promised of the answer r and of the rooms at the end

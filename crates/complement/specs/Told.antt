@@ -29,9 +29,9 @@ told (Faulty n at) k = Refused n at
 abbrev pub placesOf : Net → ComplementPlaces
 placesOf net = told (placesFault net) (complementPlaces net)
 
--- numbers for each case: 81 and the places; 82, a refusal's number and position
+-- numbers for each case: 81 00 and the places; 82, a refusal's number and position
 abbrev pub placesNumbers : ComplementPlaces → List ℕ
-placesNumbers (Places n) = 0x81 ∷ n ∷ []
+placesNumbers (Places n) = 0x81 ∷ 0 ∷ n ∷ []
 placesNumbers (Refused n at) = 0x82 ∷ n ∷ at ∷ []
 
 -- what the question promises of its answer r

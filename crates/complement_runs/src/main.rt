@@ -1,5 +1,5 @@
 // Runs the complement net at the edges that document 01 names, and prints a line for each case: its
-// number, the answer in numbers (129 places, or 129 alone for a net that was written; 130 refusal
+// number, the answer in numbers (129 0 places, or 129 0 for a net that was written; 130 refusal
 // position), and for a net the four rooms, each behind a bar: Pre, Post, capacities, initial
 // marking. Where a number has two lines, the first tells how many places. The rooms are filled with 7s before each call, so that those left as found show. A
 // replay's line has its answer and its room. What must be printed is in stdout, worked out by
@@ -110,6 +110,7 @@ fn ask_places(
     match answer {
         ComplementPlaces::Places(n) => {
             tell(129);
+            tell(0);
             tell(n as u64);
         }
         ComplementPlaces::Refused(number, at) => {
@@ -123,6 +124,7 @@ fn tell_made(answer: ComplementNet) {
     match answer {
         ComplementNet::Made => {
             tell(129);
+            tell(0);
         }
         ComplementNet::Refused(number, at) => {
             tell_refused(number, at);

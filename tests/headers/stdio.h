@@ -1,0 +1,8 @@
+/* The part of C's <stdio.h> that is used here: the kit's clang comes without headers. */
+#ifndef TESTS_STDIO_H
+#define TESTS_STDIO_H
+#include <stddef.h>
+int printf(const char *form, ...) __attribute__((format(printf, 1, 2)));
+int puts(const char *line);
+int putchar(int c);
+#endif
