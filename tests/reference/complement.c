@@ -5,7 +5,7 @@
 static size_t new_places(const struct net *net) {
     size_t count = net->places;
     for (size_t p = 0; p < net->places; p++)
-        if (reference_capped(net, p))
+        if (reference_capped(net, p) && RULE(21, 1, net->caps[p] > 0))
             count++;
     return count;
 }
@@ -74,5 +74,7 @@ kaunorpi_answer reference_complement_net(KAUNORPI_NET, const uint16_t *initial, 
     for (size_t t = 0; t < transitions; t++)
         write_arcs(&net, t, pre2 + t * count, post2 + t * count);
     write_tokens(&net, initial, caps2, initial2);
+    if (RULE(10, 0, 1))
+        initial2[count] = 65535;
     return (kaunorpi_answer){KAUNORPI_ANSWERED, 0, 0};
 }

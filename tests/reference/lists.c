@@ -31,7 +31,7 @@ static kaunorpi_list tokens_refusal(const struct net *net, const struct lists *q
             return refused(3, k * net->places + at);
     }
     for (size_t p = 0; q->has_target && p < net->places; p++)
-        if (q->target[p] == 65535)
+        if (q->target[p] == 65535 || RULE(18, 0, reference_capped(net, p) && q->target[p] > net->caps[p]))
             return refused(3, p);
     return fine;
 }
@@ -63,7 +63,7 @@ static int holds(const struct net *net, const struct lists *q, const int64_t *m)
     for (size_t k = 0; k < q->list_len / net->places; k++) {
         size_t same = 0;
         for (size_t p = 0; p < net->places; p++)
-            if (q->list[k * net->places + p] == m[p])
+            if (q->list[k * net->places + p] == RULE(17, m[p], (uint16_t)m[p]))
                 same++;
         if (same == net->places)
             return 1;
@@ -77,7 +77,7 @@ static int covers(const struct net *net, const struct lists *q, const int64_t *m
         size_t covered = 0;
         for (size_t p = 0; p < net->places; p++) {
             uint16_t entry = q->list[k * net->places + p];
-            if (entry == 65535 || (!any[p] && entry >= m[p]))
+            if (entry == 65535 || (RULE(20, !any[p], 1) && entry >= m[p]))
                 covered++;
         }
         if (covered == net->places)
@@ -180,7 +180,7 @@ kaunorpi_list reference_closed_stall(KAUNORPI_NET, const uint16_t *initial, size
             if (enabled(&net, m, t))
                 can++;
         if (can == 0)
-            return (kaunorpi_list){KAUNORPI_ANSWERED, 3, 0, 0};
+            return (kaunorpi_list){KAUNORPI_ANSWERED, 3, RULE(19, 0, k), 0};
     }
     return fine;
 }

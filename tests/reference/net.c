@@ -1,6 +1,10 @@
 /* The net, firing, and the refusals that every question about a net shares. */
 #include "reference.h"
 
+#ifdef SELF_CHECK
+int reference_wrong;
+#endif
+
 /* Pre(p,t): what t takes from p. */
 int64_t reference_pre(const struct net *net, size_t p, size_t t) {
     return net->pre[t * net->places + p];

@@ -8,11 +8,14 @@
 
 #include "kaunorpi.h"
 
-/* Built with -DWRONG=k the reference breaks rule k alone; tests/run does so to see that the comparer notices. */
-#ifndef WRONG
-#define WRONG 0
+/* Built with -DSELF_CHECK the reference breaks the rule whose number reference_wrong holds (0: none);
+ * tests/compare/selfcheck.c breaks each in turn, to see that the comparer notices. */
+#ifdef SELF_CHECK
+extern int reference_wrong;
+#define RULE(k, right, wrong) (reference_wrong == (k) ? (wrong) : (right))
+#else
+#define RULE(k, right, wrong) (right)
 #endif
-#define RULE(k, right, wrong) (WRONG == (k) ? (wrong) : (right))
 
 __typeof__(kaunorpi_replay_word) reference_replay_word;
 __typeof__(kaunorpi_replay_stretch) reference_replay_stretch;

@@ -40,6 +40,8 @@ kaunorpi_replay reference_replay_stretch(KAUNORPI_NET, const uint16_t *initial, 
     if (end - start > 65535)
         return (kaunorpi_replay){KAUNORPI_REFUSED, 4, 0, 0};
     at = reference_letters_fault(&net, word, start, end);
+    if (RULE(9, 0, at != NOWHERE))
+        room[places - 1] = 0;
     if (at != NOWHERE)
         return (kaunorpi_replay){KAUNORPI_REFUSED, 5, RULE(3, at, at + start), 0};
     return play(&net, initial, word, start, end, room);

@@ -18,7 +18,7 @@ kaunorpi_summary reference_empty_summary(size_t places, uint32_t *need, size_t n
         return refused(1, 0);
     if (need_len != 64 || climb_len != 64 || change_len != 64)
         return refused(2, 0);
-    for (size_t p = 0; p < 64; p++)
+    for (size_t p = 0; p < RULE(13, 64, places); p++)
         need[p] = climb[p] = 0, change[p] = 0;
     return (kaunorpi_summary){KAUNORPI_ANSWERED, 0, 0, places, 0};
 }
@@ -115,7 +115,7 @@ kaunorpi_summary reference_join_summaries(size_t first_places, uint32_t first_le
         return refused(7, 0);
     for (size_t p = 0; p < 64; p++) {
         need[p] = (uint32_t)larger(first_need[p], (int64_t)second_need[p] - first_change[p]);
-        climb[p] = (uint32_t)larger(first_climb[p], (int64_t)first_change[p] + second_climb[p]);
+        climb[p] = (uint32_t)larger(first_climb[p], RULE(12, (int64_t)first_change[p], 0) + second_climb[p]);
         change[p] = first_change[p] + second_change[p];
     }
     return (kaunorpi_summary){KAUNORPI_ANSWERED, 0, 0, first_places, first_letters + second_letters};

@@ -52,6 +52,8 @@ kaunorpi_answer reference_place_weighting(KAUNORPI_NET, const int16_t *y, size_t
     if (all_zero(y, places))
         return (kaunorpi_answer){KAUNORPI_REFUSED, 8, 0};
     t = failing_transition(&net, y);
+    if (RULE(11, 0, 1))
+        *(int16_t *)y += 1;
     if (t != NOWHERE)
         return (kaunorpi_answer){KAUNORPI_ANSWERED, 1, t};
     return (kaunorpi_answer){KAUNORPI_ANSWERED, 0, 0};
@@ -70,7 +72,7 @@ kaunorpi_answer reference_transition_weighting(KAUNORPI_NET, const int16_t *x, s
     p = failing_place(&net, x);
     if (p != NOWHERE)
         return (kaunorpi_answer){KAUNORPI_ANSWERED, 1, p};
-    return (kaunorpi_answer){KAUNORPI_ANSWERED, has_negative(x, transitions) ? 0 : 2, 0};
+    return (kaunorpi_answer){KAUNORPI_ANSWERED, has_negative(x, transitions) ? 0 : RULE(14, 2, 0), 0};
 }
 
 /* The whole part of (sum of y x initial marking) / y(place), or why there is none. Refusals 1 2 3 8 13. */
@@ -130,8 +132,8 @@ static kaunorpi_answer set_answer(const struct net *net, const uint8_t *set, siz
     if (members == 0)
         return (kaunorpi_answer){KAUNORPI_REFUSED, 8, 0};
     for (size_t t = 0; t < net->transitions; t++) {
-        int takes = takes_from(net, set, t), puts = puts_into(net, set, t);
-        if ((!trap && puts && !takes) || (trap && takes && !puts))
+        int takes = takes_from(net, set, RULE(16, t, 0)), puts = puts_into(net, set, t);
+        if ((!trap && puts && !takes) || (trap && takes && !puts && RULE(15, 1, t > 0)))
             return (kaunorpi_answer){KAUNORPI_ANSWERED, 1, t};
     }
     return (kaunorpi_answer){KAUNORPI_ANSWERED, 0, 0};
