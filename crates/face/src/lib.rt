@@ -1,0 +1,679 @@
+// Every public question of the library for C, as include/kaunorpi.h declares it: a list passes as its
+// pointer and its number of entries, and an answer is a struct of document 01's numbers.
+use closed::Closed;
+use closed::ClosedStall;
+use closed::ClosedTarget;
+use complement::ComplementNet;
+use complement::ComplementPlaces;
+use cover::Cover;
+use cover::CoverTarget;
+use lists::Failure;
+use net::Cause;
+use replay::Replay;
+use sets::SetAnswer;
+use weighting::Bound;
+use weighting::NoBoundCause;
+use weighting::PlaceWeighting;
+use weighting::TransitionWeighting;
+ghost use mathlib.Core.Path.{_≡_};
+ghost use mathlib.Core.Bool.{true};
+ghost use mathlib.Core.List.{[], _∷_};
+ghost use Rattle.net.specs.Net.{netOf};
+ghost use Rattle.net.specs.Given.{stretch, inside};
+ghost use Rattle.net.specs.declared.Fault.the-variants.{Sound};
+ghost use Rattle.replay.specs.Entry as replay;
+ghost use Rattle.replay.specs.Entry.{replayOf};
+ghost use Rattle.weighting.specs.Place.{placeOf, placeNumbers};
+ghost use Rattle.weighting.specs.Transition.{transitionOf, transitionNumbers};
+ghost use Rattle.weighting.specs.Bound.{causeNumber, boundOf, boundNumbers};
+ghost use Rattle.sets.specs.Answer.{siphonOf, trapOf, setNumbers};
+ghost use Rattle.closed.specs.Given as closed;
+ghost use Rattle.closed.specs.Target as reached;
+ghost use Rattle.closed.specs.Stall.{stallOf, stallNumbers};
+ghost use Rattle.cover.specs.Given as cover;
+ghost use Rattle.cover.specs.Target as covered;
+ghost use Rattle.lists.specs.Whole.{failureNumbers};
+ghost use Rattle.complement.specs.Told.{placesOf, placesNumbers};
+ghost use Rattle.complement.specs.Entry as complement;
+ghost use Rattle.complement.specs.Entry.{roomsOf, complementOf};
+ghost use Rattle.face.specs.Face.{handed, handedReplay, handedBound, handedList, handedPlaces, HandedReplay, HandedNet};
+
+const ANSWERED: u8 = 0x81;
+
+const REFUSED: u8 = 0x82;
+
+// What an answer with one position says.
+#[repr(C)]
+pub struct Answer {
+    pub kind: u8,
+    pub number: u8,
+    pub position: usize,
+}
+
+// What a replay's answer says.
+#[repr(C)]
+pub struct ReplayAnswer {
+    pub kind: u8,
+    pub number: u8,
+    pub position: usize,
+    pub place: usize,
+}
+
+// What the answer to a bound says.
+#[repr(C)]
+pub struct BoundAnswer {
+    pub kind: u8,
+    pub number: u8,
+    pub position: usize,
+    pub bound: u64,
+}
+
+// What a marking list's answer says.
+#[repr(C)]
+pub struct ListAnswer {
+    pub kind: u8,
+    pub number: u8,
+    pub position: usize,
+    pub transition: usize,
+}
+
+// What the answer to the complement net's places says.
+#[repr(C)]
+pub struct PlacesAnswer {
+    pub kind: u8,
+    pub number: u8,
+    pub position: usize,
+    pub places: usize,
+}
+
+fn of_block(at: usize, why: Cause) -> ReplayAnswer
+    ensures { λ r. ⌜ r ≡ handedReplay (0x81 ∷ replay.causeNumber why ∷ at ∷ replay.causePlace why ∷ []) ⌝ }
+{
+    match why {
+        Cause::Short(p) => ReplayAnswer {
+            kind: ANSWERED,
+            number: 1,
+            position: at,
+            place: p,
+        },
+        Cause::Over(p) => ReplayAnswer {
+            kind: ANSWERED,
+            number: 2,
+            position: at,
+            place: p,
+        },
+    }
+}
+
+fn of_replay(answer: Replay) -> ReplayAnswer
+    ensures { λ r. ⌜ r ≡ handedReplay (replay.numbers answer) ⌝ }
+{
+    match answer {
+        Replay::Fired(letters) => ReplayAnswer {
+            kind: ANSWERED,
+            number: 0,
+            position: letters,
+            place: 0,
+        },
+        Replay::Blocked(at, why) => of_block(at, why),
+        Replay::Refused(number, at) => ReplayAnswer {
+            kind: REFUSED,
+            number: number,
+            position: at,
+            place: 0,
+        },
+    }
+}
+
+// Whether the letters of a word can happen in this order.
+#[no_mangle]
+pub extern "C" fn kaunorpi_replay_word(
+    places: usize,
+    transitions: usize,
+    pre: &[u8],
+    post: &[u8],
+    caps: &[u16],
+    initial: &[u16],
+    word: &[u8],
+    room: &mut [u32],
+) -> ReplayAnswer
+    ensures { λ r. ⌜ HandedReplay (replayOf (netOf places transitions (now (pre .entry)) (now (post .entry)) (now (caps .entry))) (now (initial .entry)) (now (word .entry)) true (now (room .entry))) r (now (room .exit)) ⌝ }
+{
+    let answer = replay::replay_word(places, transitions, pre, post, caps, initial, word, room);
+    of_replay(answer)
+}
+
+// The same for the letters from number start up to number end.
+#[no_mangle]
+pub extern "C" fn kaunorpi_replay_stretch(
+    places: usize,
+    transitions: usize,
+    pre: &[u8],
+    post: &[u8],
+    caps: &[u16],
+    initial: &[u16],
+    word: &[u8],
+    start: usize,
+    end: usize,
+    room: &mut [u32],
+) -> ReplayAnswer
+    ensures { λ r. ⌜ HandedReplay (replayOf (netOf places transitions (now (pre .entry)) (now (post .entry)) (now (caps .entry))) (now (initial .entry)) (stretch (now (word .entry)) start end) (inside (now (word .entry)) start end) (now (room .entry))) r (now (room .exit)) ⌝ }
+{
+    let answer = replay::replay_stretch(
+        places,
+        transitions,
+        pre,
+        post,
+        caps,
+        initial,
+        word,
+        start,
+        end,
+        room,
+    );
+    of_replay(answer)
+}
+
+fn of_place(answer: PlaceWeighting) -> Answer
+    ensures { λ r. ⌜ r ≡ handed (placeNumbers answer) ⌝ }
+{
+    match answer {
+        PlaceWeighting::Invariant => Answer {
+            kind: ANSWERED,
+            number: 0,
+            position: 0,
+        },
+        PlaceWeighting::NotInvariant(t) => Answer {
+            kind: ANSWERED,
+            number: 1,
+            position: t,
+        },
+        PlaceWeighting::Refused(number, at) => Answer {
+            kind: REFUSED,
+            number: number,
+            position: at,
+        },
+    }
+}
+
+// Whether a weighting of the places is invariant.
+#[no_mangle]
+pub extern "C" fn kaunorpi_place_weighting(
+    places: usize,
+    transitions: usize,
+    pre: &[u8],
+    post: &[u8],
+    caps: &[u16],
+    y: &[i16],
+) -> Answer
+    ensures { λ r. ⌜ r ≡ handed (placeNumbers (placeOf (netOf places transitions (now (pre .entry)) (now (post .entry)) (now (caps .entry))) (now (y .entry)))) ⌝ }
+{
+    let answer = weighting::place_weighting(places, transitions, pre, post, caps, y);
+    of_place(answer)
+}
+
+fn of_transition(answer: TransitionWeighting) -> Answer
+    ensures { λ r. ⌜ r ≡ handed (transitionNumbers answer) ⌝ }
+{
+    match answer {
+        TransitionWeighting::Invariant => Answer {
+            kind: ANSWERED,
+            number: 0,
+            position: 0,
+        },
+        TransitionWeighting::NotInvariant(p) => Answer {
+            kind: ANSWERED,
+            number: 1,
+            position: p,
+        },
+        TransitionWeighting::Proper => Answer {
+            kind: ANSWERED,
+            number: 2,
+            position: 0,
+        },
+        TransitionWeighting::Refused(number, at) => Answer {
+            kind: REFUSED,
+            number: number,
+            position: at,
+        },
+    }
+}
+
+// Whether a weighting of the transitions is invariant, and proper.
+#[no_mangle]
+pub extern "C" fn kaunorpi_transition_weighting(
+    places: usize,
+    transitions: usize,
+    pre: &[u8],
+    post: &[u8],
+    caps: &[u16],
+    x: &[i16],
+) -> Answer
+    ensures { λ r. ⌜ r ≡ handed (transitionNumbers (transitionOf (netOf places transitions (now (pre .entry)) (now (post .entry)) (now (caps .entry))) (now (x .entry)))) ⌝ }
+{
+    let answer = weighting::transition_weighting(places, transitions, pre, post, caps, x);
+    of_transition(answer)
+}
+
+fn of_no_bound(why: NoBoundCause) -> BoundAnswer
+    ensures { λ r. ⌜ r ≡ handedBound (0x81 ∷ 1 ∷ causeNumber why ∷ []) ⌝ }
+{
+    match why {
+        NoBoundCause::NotInvariant => BoundAnswer {
+            kind: ANSWERED,
+            number: 1,
+            position: 1,
+            bound: 0,
+        },
+        NoBoundCause::Negative => BoundAnswer {
+            kind: ANSWERED,
+            number: 1,
+            position: 2,
+            bound: 0,
+        },
+        NoBoundCause::NotPositive => BoundAnswer {
+            kind: ANSWERED,
+            number: 1,
+            position: 3,
+            bound: 0,
+        },
+    }
+}
+
+fn of_bound(answer: Bound) -> BoundAnswer
+    ensures { λ r. ⌜ r ≡ handedBound (boundNumbers answer) ⌝ }
+{
+    match answer {
+        Bound::Bounded(bound) => BoundAnswer {
+            kind: ANSWERED,
+            number: 0,
+            position: 0,
+            bound: bound,
+        },
+        Bound::NoBound(why) => of_no_bound(why),
+        Bound::Refused(number, at) => BoundAnswer {
+            kind: REFUSED,
+            number: number,
+            position: at,
+            bound: 0,
+        },
+    }
+}
+
+// What an invariant weighting bounds the tokens of a place by.
+#[no_mangle]
+pub extern "C" fn kaunorpi_place_bound(
+    places: usize,
+    transitions: usize,
+    pre: &[u8],
+    post: &[u8],
+    caps: &[u16],
+    initial: &[u16],
+    y: &[i16],
+    place: usize,
+) -> BoundAnswer
+    ensures { λ r. ⌜ r ≡ handedBound (boundNumbers (boundOf (netOf places transitions (now (pre .entry)) (now (post .entry)) (now (caps .entry))) (now (initial .entry)) (now (y .entry)) place)) ⌝ }
+{
+    let answer = weighting::place_bound(places, transitions, pre, post, caps, initial, y, place);
+    of_bound(answer)
+}
+
+fn of_set(answer: SetAnswer) -> Answer
+    ensures { λ r. ⌜ r ≡ handed (setNumbers answer) ⌝ }
+{
+    match answer {
+        SetAnswer::Yes => Answer {
+            kind: ANSWERED,
+            number: 0,
+            position: 0,
+        },
+        SetAnswer::No(t) => Answer {
+            kind: ANSWERED,
+            number: 1,
+            position: t,
+        },
+        SetAnswer::Refused(number, at) => Answer {
+            kind: REFUSED,
+            number: number,
+            position: at,
+        },
+    }
+}
+
+// Whether a set of places is a siphon.
+#[no_mangle]
+pub extern "C" fn kaunorpi_siphon_set(
+    places: usize,
+    transitions: usize,
+    pre: &[u8],
+    post: &[u8],
+    caps: &[u16],
+    set: &[u8],
+) -> Answer
+    ensures { λ r. ⌜ r ≡ handed (setNumbers (siphonOf (netOf places transitions (now (pre .entry)) (now (post .entry)) (now (caps .entry))) (now (set .entry)))) ⌝ }
+{
+    let answer = sets::siphon_set(places, transitions, pre, post, caps, set);
+    of_set(answer)
+}
+
+// Whether a set of places is a trap.
+#[no_mangle]
+pub extern "C" fn kaunorpi_trap_set(
+    places: usize,
+    transitions: usize,
+    pre: &[u8],
+    post: &[u8],
+    caps: &[u16],
+    set: &[u8],
+) -> Answer
+    ensures { λ r. ⌜ r ≡ handed (setNumbers (trapOf (netOf places transitions (now (pre .entry)) (now (post .entry)) (now (caps .entry))) (now (set .entry)))) ⌝ }
+{
+    let answer = sets::trap_set(places, transitions, pre, post, caps, set);
+    of_set(answer)
+}
+
+fn of_failure(why: Failure) -> ListAnswer
+    ensures { λ r. ⌜ r ≡ handedList (0x81 ∷ failureNumbers why) ⌝ }
+{
+    match why {
+        Failure::InitialMissing => ListAnswer {
+            kind: ANSWERED,
+            number: 1,
+            position: 0,
+            transition: 0,
+        },
+        Failure::ResultMissing(marking, transition) => ListAnswer {
+            kind: ANSWERED,
+            number: 2,
+            position: marking,
+            transition: transition,
+        },
+    }
+}
+
+fn of_closed(answer: Closed) -> ListAnswer
+    ensures { λ r. ⌜ r ≡ handedList (closed.numbers answer) ⌝ }
+{
+    match answer {
+        Closed::Accepted => ListAnswer {
+            kind: ANSWERED,
+            number: 0,
+            position: 0,
+            transition: 0,
+        },
+        Closed::Failed(why) => of_failure(why),
+        Closed::Refused(number, at) => ListAnswer {
+            kind: REFUSED,
+            number: number,
+            position: at,
+            transition: 0,
+        },
+    }
+}
+
+// Whether a list of markings is closed.
+#[no_mangle]
+pub extern "C" fn kaunorpi_closed_list(
+    places: usize,
+    transitions: usize,
+    pre: &[u8],
+    post: &[u8],
+    caps: &[u16],
+    initial: &[u16],
+    list: &[u16],
+) -> ListAnswer
+    ensures { λ r. ⌜ r ≡ handedList (closed.numbers (closed.closedOf (netOf places transitions (now (pre .entry)) (now (post .entry)) (now (caps .entry))) (now (initial .entry)) (now (list .entry)) true Sound)) ⌝ }
+{
+    let answer = closed::closed_list(places, transitions, pre, post, caps, initial, list);
+    of_closed(answer)
+}
+
+fn of_closed_target(answer: ClosedTarget) -> ListAnswer
+    ensures { λ r. ⌜ r ≡ handedList (reached.targetNumbers answer) ⌝ }
+{
+    match answer {
+        ClosedTarget::NeverReached => ListAnswer {
+            kind: ANSWERED,
+            number: 0,
+            position: 0,
+            transition: 0,
+        },
+        ClosedTarget::NotShown => ListAnswer {
+            kind: ANSWERED,
+            number: 3,
+            position: 0,
+            transition: 0,
+        },
+        ClosedTarget::Failed(why) => of_failure(why),
+        ClosedTarget::Refused(number, at) => ListAnswer {
+            kind: REFUSED,
+            number: number,
+            position: at,
+            transition: 0,
+        },
+    }
+}
+
+// Whether a closed list shows that a target is never reached.
+#[no_mangle]
+pub extern "C" fn kaunorpi_closed_target(
+    places: usize,
+    transitions: usize,
+    pre: &[u8],
+    post: &[u8],
+    caps: &[u16],
+    initial: &[u16],
+    list: &[u16],
+    target: &[u16],
+) -> ListAnswer
+    ensures { λ r. ⌜ r ≡ handedList (reached.targetNumbers (reached.targetOf (netOf places transitions (now (pre .entry)) (now (post .entry)) (now (caps .entry))) (now (initial .entry)) (now (list .entry)) (now (target .entry)))) ⌝ }
+{
+    let answer = closed::closed_target(places, transitions, pre, post, caps, initial, list, target);
+    of_closed_target(answer)
+}
+
+fn of_stall(answer: ClosedStall) -> ListAnswer
+    ensures { λ r. ⌜ r ≡ handedList (stallNumbers answer) ⌝ }
+{
+    match answer {
+        ClosedStall::NeverStalls => ListAnswer {
+            kind: ANSWERED,
+            number: 0,
+            position: 0,
+            transition: 0,
+        },
+        ClosedStall::NotShown => ListAnswer {
+            kind: ANSWERED,
+            number: 3,
+            position: 0,
+            transition: 0,
+        },
+        ClosedStall::Failed(why) => of_failure(why),
+        ClosedStall::Refused(number, at) => ListAnswer {
+            kind: REFUSED,
+            number: number,
+            position: at,
+            transition: 0,
+        },
+    }
+}
+
+// Whether a closed list shows that the line never stalls.
+#[no_mangle]
+pub extern "C" fn kaunorpi_closed_stall(
+    places: usize,
+    transitions: usize,
+    pre: &[u8],
+    post: &[u8],
+    caps: &[u16],
+    initial: &[u16],
+    list: &[u16],
+) -> ListAnswer
+    ensures { λ r. ⌜ r ≡ handedList (stallNumbers (stallOf (netOf places transitions (now (pre .entry)) (now (post .entry)) (now (caps .entry))) (now (initial .entry)) (now (list .entry)))) ⌝ }
+{
+    let answer = closed::closed_stall(places, transitions, pre, post, caps, initial, list);
+    of_stall(answer)
+}
+
+fn of_cover(answer: Cover) -> ListAnswer
+    ensures { λ r. ⌜ r ≡ handedList (cover.numbers answer) ⌝ }
+{
+    match answer {
+        Cover::Accepted => ListAnswer {
+            kind: ANSWERED,
+            number: 0,
+            position: 0,
+            transition: 0,
+        },
+        Cover::Failed(why) => of_failure(why),
+        Cover::Refused(number, at) => ListAnswer {
+            kind: REFUSED,
+            number: number,
+            position: at,
+            transition: 0,
+        },
+    }
+}
+
+// Whether a list of markings is a cover list.
+#[no_mangle]
+pub extern "C" fn kaunorpi_cover_list(
+    places: usize,
+    transitions: usize,
+    pre: &[u8],
+    post: &[u8],
+    caps: &[u16],
+    initial: &[u16],
+    list: &[u16],
+) -> ListAnswer
+    ensures { λ r. ⌜ r ≡ handedList (cover.numbers (cover.coverOf (netOf places transitions (now (pre .entry)) (now (post .entry)) (now (caps .entry))) (now (initial .entry)) (now (list .entry)) true Sound)) ⌝ }
+{
+    let answer = cover::cover_list(places, transitions, pre, post, caps, initial, list);
+    of_cover(answer)
+}
+
+fn of_cover_target(answer: CoverTarget) -> ListAnswer
+    ensures { λ r. ⌜ r ≡ handedList (covered.targetNumbers answer) ⌝ }
+{
+    match answer {
+        CoverTarget::NeverCovered => ListAnswer {
+            kind: ANSWERED,
+            number: 0,
+            position: 0,
+            transition: 0,
+        },
+        CoverTarget::NotShown => ListAnswer {
+            kind: ANSWERED,
+            number: 3,
+            position: 0,
+            transition: 0,
+        },
+        CoverTarget::Failed(why) => of_failure(why),
+        CoverTarget::Refused(number, at) => ListAnswer {
+            kind: REFUSED,
+            number: number,
+            position: at,
+            transition: 0,
+        },
+    }
+}
+
+// Whether a cover list shows that a target is never covered.
+#[no_mangle]
+pub extern "C" fn kaunorpi_cover_target(
+    places: usize,
+    transitions: usize,
+    pre: &[u8],
+    post: &[u8],
+    caps: &[u16],
+    initial: &[u16],
+    list: &[u16],
+    target: &[u16],
+) -> ListAnswer
+    ensures { λ r. ⌜ r ≡ handedList (covered.targetNumbers (covered.targetOf (netOf places transitions (now (pre .entry)) (now (post .entry)) (now (caps .entry))) (now (initial .entry)) (now (list .entry)) (now (target .entry)))) ⌝ }
+{
+    let answer = cover::cover_target(places, transitions, pre, post, caps, initial, list, target);
+    of_cover_target(answer)
+}
+
+fn of_places(answer: ComplementPlaces) -> PlacesAnswer
+    ensures { λ r. ⌜ r ≡ handedPlaces (placesNumbers answer) ⌝ }
+{
+    match answer {
+        ComplementPlaces::Places(n) => PlacesAnswer {
+            kind: ANSWERED,
+            number: 0,
+            position: 0,
+            places: n,
+        },
+        ComplementPlaces::Refused(number, at) => PlacesAnswer {
+            kind: REFUSED,
+            number: number,
+            position: at,
+            places: 0,
+        },
+    }
+}
+
+// How many places the complement net has.
+#[no_mangle]
+pub extern "C" fn kaunorpi_complement_places(
+    places: usize,
+    transitions: usize,
+    pre: &[u8],
+    post: &[u8],
+    caps: &[u16],
+) -> PlacesAnswer
+    ensures { λ r. ⌜ r ≡ handedPlaces (placesNumbers (placesOf (netOf places transitions (now (pre .entry)) (now (post .entry)) (now (caps .entry))))) ⌝ }
+{
+    let answer = complement::complement_places(places, transitions, pre, post, caps);
+    of_places(answer)
+}
+
+fn of_net(answer: ComplementNet) -> Answer
+    ensures { λ r. ⌜ r ≡ handed (complement.numbers answer) ⌝ }
+{
+    match answer {
+        ComplementNet::Made => Answer {
+            kind: ANSWERED,
+            number: 0,
+            position: 0,
+        },
+        ComplementNet::Refused(number, at) => Answer {
+            kind: REFUSED,
+            number: number,
+            position: at,
+        },
+    }
+}
+
+// The complement net of a net and its initial marking, written into lent rooms.
+#[no_mangle]
+pub extern "C" fn kaunorpi_complement_net(
+    places: usize,
+    transitions: usize,
+    pre: &[u8],
+    post: &[u8],
+    caps: &[u16],
+    initial: &[u16],
+    pre2: &mut [u8],
+    post2: &mut [u8],
+    caps2: &mut [u16],
+    initial2: &mut [u16],
+) -> Answer
+    ensures { λ r. ⌜ HandedNet (complementOf (netOf places transitions (now (pre .entry)) (now (post .entry)) (now (caps .entry))) (now (initial .entry)) (roomsOf (now (pre2 .entry)) (now (post2 .entry)) (now (caps2 .entry)) (now (initial2 .entry)))) r (roomsOf (now (pre2 .exit)) (now (post2 .exit)) (now (caps2 .exit)) (now (initial2 .exit))) ⌝ }
+{
+    let answer = complement::complement_net(
+        places,
+        transitions,
+        pre,
+        post,
+        caps,
+        initial,
+        pre2,
+        post2,
+        caps2,
+        initial2,
+    );
+    of_net(answer)
+}
