@@ -57,7 +57,7 @@ static inline struct fault word_fault(size_t transitions, const uint8_t *word, s
 
 /* One place has a capacity and would hold more. */
 static inline int is_over(uint8_t takes, uint8_t puts, uint16_t cap, uint32_t tokens) {
-    return cap < 65535 && (uint32_t)cap + takes < tokens + puts;
+    return (cap < 65535) & ((uint32_t)cap + takes < tokens + puts);
 }
 
 /* Whether a letter passes: one plain pass over the places, with no way out on the way. */
@@ -65,18 +65,19 @@ static inline int may_fire(const uint8_t *takes, const uint8_t *puts, const uint
                            size_t places) {
     uint32_t stopped = 0;
     for (size_t p = 0; p < places; p++)
-        stopped += marking[p] < takes[p] ? 1 : is_over(takes[p], puts[p], caps[p], marking[p]) ? 1 : 0;
+        stopped += (marking[p] < takes[p]) | is_over(takes[p], puts[p], caps[p], marking[p]);
     return stopped == 0;
 }
 
 /* Fires a letter in place. */
-static inline void fire(const uint8_t *takes, const uint8_t *puts, uint32_t *marking, size_t places) {
+static inline void fire(const uint8_t *restrict takes, const uint8_t *restrict puts, uint32_t *restrict marking,
+                        size_t places) {
     for (size_t p = 0; p < places; p++)
         marking[p] = marking[p] + puts[p] - takes[p];
 }
 
 /* A given marking into room for one that may hold more. */
-static inline void load(const uint16_t *given, uint32_t *room, size_t places) {
+static inline void load(const uint16_t *restrict given, uint32_t *restrict room, size_t places) {
     for (size_t p = 0; p < places; p++)
         room[p] = given[p];
 }
