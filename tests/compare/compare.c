@@ -16,6 +16,9 @@
 /* How often each class came: by question, refused or not, class, and whether its position is above 0. */
 static unsigned long came[32][2][32][2];
 
+/* How often a refusal was given to an input drawn for a later one as well: by question and the two numbers. */
+static unsigned long before[32][14][14];
+
 /* Prints an answer. */
 static void print_given(const char *side, const struct given *g) {
     printf("  %s: %02X %u", side, g->kind, g->number);
@@ -27,6 +30,15 @@ static void print_given(const char *side, const struct given *g) {
 /* Are two answers the same in every field? */
 static int same_given(const struct given *a, const struct given *b) {
     return a->kind == b->kind && a->number == b->number && memcmp(a->field, b->field, sizeof a->field) == 0;
+}
+
+/* Counts what came of one input. */
+static void count(size_t q, const struct given *g) {
+    int refused = g->kind == KAUNORPI_REFUSED;
+    came[q][refused][g->class & 31][g->field[0] > 0]++;
+    for (int later = g->number + 1; refused && later < 14; later++)
+        before[q][g->number][later] += wants(later) != 0;
+    count_edges(questions[q].name, g);
 }
 
 /* Puts one input to both sides; true if they agree. With show, prints the input and both answers. */
@@ -41,8 +53,7 @@ int agrees(size_t q, uint64_t seed, size_t input, int show) {
     ours = questions[q].ask(LIBRARY);
     theirs = questions[q].ask(REFERENCE);
     same = same_given(&ours, &theirs) && !differing_memory(1);
-    came[q][theirs.kind == KAUNORPI_REFUSED][theirs.class & 31][theirs.field[0] > 0]++;
-    count_edges(questions[q].name, &theirs);
+    count(q, &theirs);
     if (show) {
         print_input();
         print_given("library  ", &ours);
@@ -64,9 +75,22 @@ static int missing(size_t q, uint32_t classes, int refused, int further) {
     return lacks;
 }
 
+/* Reports two refusals that were never due at once. */
+static int never_both(size_t q) {
+    uint32_t refusals = questions[q].refusals | questions[q].refusals_further;
+    int lacks = 0;
+    for (int i = 1; i < 14; i++)
+        for (int j = i + 1; j < 14; j++)
+            if ((refusals >> i & refusals >> j & 1u) != 0 && before[q][i][j] == 0) {
+                printf("compare: %s never gave refusal %d to an input drawn for %d too\n", questions[q].name, i, j);
+                lacks = 1;
+            }
+    return lacks;
+}
+
 /* Reports what should have come and never did. */
 static int never_came(size_t q) {
-    int lacks = missing(q, questions[q].answers, 0, 0);
+    int lacks = missing(q, questions[q].answers, 0, 0) | never_both(q);
     lacks |= missing(q, questions[q].answers_further, 0, 1);
     lacks |= missing(q, questions[q].refusals, 1, 0);
     lacks |= missing(q, questions[q].refusals_further, 1, 1);

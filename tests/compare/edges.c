@@ -42,8 +42,10 @@ static int null_word(const struct given *g) { return answered(g, 0) && in.word.i
 static int long_summary(const struct given *g) { return answered(g, 0) && g->field[2] == 65535; }
 static int whole_list(const struct given *g) { return answered(g, 0) && in.list.count == 4096 * in.places; }
 static int list_one_more(const struct given *g) { return refused(g, 9) && in.list.count == 4097 * in.places; }
+static int three_before_nine(const struct given *g) { return refused(g, 3) && in.list.count > 4096 * in.places; }
 static int full_complement(const struct given *g) { return answered(g, 0) && g->field[1] == 64; }
 static int complement_one_more(const struct given *g) { return refused(g, 10) && in.initial2.count == 65; }
+static int letter_after_limit(const struct given *g) { return refused(g, 4) && wants(5); }
 static int longest_file(const struct given *g) { return answered(g, 0) && g->field[3] == 65535; }
 
 /* A question's edge, and how often it came. */
@@ -71,10 +73,12 @@ static struct edge {
     {"closed_list", "4,096 markings", whole_list, 0},
     {"closed_list", "4,097 markings", list_one_more, 0},
     {"closed_list", "64 places", all_places, 0},
+    {"closed_list", "refusal 3 in a list that is too long", three_before_nine, 0},
     {"cover_list", "4,096 markings", whole_list, 0},
     {"complement_places", "64 places with the complement's", full_complement, 0},
     {"complement_net", "65 places with the complement's", complement_one_more, 0},
     {"read_case", "65,535 letters", longest_file, 0},
+    {"read_case", "a wrong letter on the line of letter 65,536", letter_after_limit, 0},
 };
 
 /* Counts the edges that this input and answer meet. */

@@ -38,7 +38,8 @@ static void add_head(size_t places, size_t transitions) {
     add_frame(tokens, 1 + 2 * places);
 }
 
-/* Frames 04, then 05 for the letters, with the last ones wrong where refusal 5 is wanted. */
+/* Frames 04, then 05 for the letters; where refusal 5 is wanted, with wrong ones on the last line and on the line of letter
+ * 65,536, and now and then before. */
 static void add_rows_and_letters(size_t places, size_t transitions, size_t letters) {
     uint8_t frame[140];
     for (size_t t = 0; t < transitions; t++) {
@@ -52,7 +53,7 @@ static void add_rows_and_letters(size_t places, size_t transitions, size_t lette
         frame[0] = 5;
         for (size_t i = 0; i < count; i++)
             frame[1 + i] = (uint8_t)below(transitions);
-        if (wants(5) && (at + 64 >= letters || chance(4)))
+        if (wants(5) && (at + 64 >= letters || at == 65472 || chance(letters < 1000 ? 4 : 4000)))
             frame[1 + below(count)] = (uint8_t)(chance(2) ? transitions : transitions + below(256 - transitions));
         add_frame(frame, 1 + count);
     }
