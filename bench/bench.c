@@ -8,6 +8,8 @@
 #include <string.h>
 #include <time.h>
 
+#define PROCESS_CLOCK 2 /* Linux's CLOCK_PROCESS_CPUTIME_ID */
+
 #define SIDE(question) \
     static __typeof__(kaunorpi_##question) *volatile side_##question[2] = {kaunorpi_##question, same_##question};
 SIDE(replay_word)
@@ -236,10 +238,10 @@ static const struct row {
     {"cover_list", "1,024 markings, unlike in the last places", make_1024, ask_cover, 5, 1},
 };
 
-/* Nanoseconds. */
+/* Nanoseconds that this process has run: what others do on the machine in between is not counted. */
 static double now(void) {
     struct timespec t;
-    clock_gettime(CLOCK_MONOTONIC, &t);
+    clock_gettime(PROCESS_CLOCK, &t);
     return 1e9 * (double)t.tv_sec + (double)t.tv_nsec;
 }
 

@@ -52,16 +52,16 @@ static uint8_t tokens_line(const struct reading *s, const uint8_t *d, const uint
     return 0;
 }
 
-/* 05 with 1 to 64 letters. */
+/* 05 with 1 to 64 letters, which are looked at in one plain pass. */
 static uint8_t letters_line(const struct reading *s, const uint8_t *d, size_t n) {
+    int fine = 1;
     if (s->phase != 5 || s->letters % 64 != 0 || n < 4 || n > 130)
         return 12;
     if (s->letters + n / 2 - 1 > 65535)
         return 4;
     for (size_t i = 1; i < n / 2; i++)
-        if (byte_at(d, i) >= s->transitions)
-            return 5;
-    return 0;
+        fine &= byte_at(d, i) < s->transitions;
+    return fine ? 0 : 5;
 }
 
 /* The refusal of a line, or 0. */

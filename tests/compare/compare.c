@@ -120,7 +120,7 @@ static void print_counts(size_t q) {
 
 /* Reads the arguments and runs. */
 int main(int count, char **words) {
-    size_t inputs = count > 1 ? strtoul(words[1], NULL, 10) : 20000;
+    size_t inputs = count > 1 ? strtoul(words[1], NULL, 10) : 30000;
     uint64_t seed = count > 2 ? strtoul(words[2], NULL, 10) : 20261115;
     int result = 0, known = count <= 3;
     start_edges();
