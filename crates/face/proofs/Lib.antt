@@ -1,2 +1,4 @@
 pub mod Handed
 pub mod Summaries
+pub mod Cases
+pub mod Meaning

@@ -1,5 +1,7 @@
 // Every public question of the library for C, as include/kaunorpi.h declares it: a list passes as its
-// pointer and its number of entries, and an answer is a struct of document 01's numbers.
+// pointer and its number of entries, and an answer is a struct of document 01's numbers. Each export
+// asks the entry of its name; a function of_.. puts an answer's numbers into the struct.
+use casefile::CaseFile;
 use closed::Closed;
 use closed::ClosedStall;
 use closed::ClosedTarget;
@@ -48,6 +50,9 @@ ghost use Rattle.complement.specs.Entry as complement;
 ghost use Rattle.complement.specs.Entry.{roomsOf, complementOf};
 ghost use Rattle.face.specs.Face.{handed, handedReplay, handedBound, handedList, handedPlaces, HandedReplay, HandedNet};
 ghost use Rattle.face.specs.Summaries.{handedSummary, HandedSummary, listFault, emptyFor, lentSummary, joinFor, unfitAsked, askFor, HandedReply};
+ghost use Rattle.reading.specs.Read.{rooms};
+ghost use Rattle.casefile.specs.Entry as casefile;
+ghost use Rattle.face.specs.Cases.{handedCase, HandedCase};
 
 const ANSWERED: u8 = 0x81;
 
@@ -107,21 +112,33 @@ pub struct PlacesAnswer {
     pub places: usize,
 }
 
+// What the answer to a case file says.
+#[repr(C)]
+pub struct CaseAnswer {
+    pub kind: u8,
+    pub number: u8,
+    pub position: usize,
+    pub places: usize,
+    pub transitions: usize,
+    pub letters: usize,
+}
+
+// A block: 1 short or 2 over, with the letter and the place.
 fn of_block(at: usize, why: Cause) -> ReplayAnswer
     ensures { λ r. ⌜ r ≡ handedReplay (0x81 ∷ replay.causeNumber why ∷ at ∷ replay.causePlace why ∷ []) ⌝ }
 {
     match why {
-        Cause::Short(p) => ReplayAnswer {
+        Cause::Short(short) => ReplayAnswer {
             kind: ANSWERED,
             number: 1,
             position: at,
-            place: p,
+            place: short,
         },
-        Cause::Over(p) => ReplayAnswer {
+        Cause::Over(over) => ReplayAnswer {
             kind: ANSWERED,
             number: 2,
             position: at,
-            place: p,
+            place: over,
         },
     }
 }
@@ -245,6 +262,7 @@ fn hand_summed(
     }
 }
 
+// A refusal comes with no places and no letters.
 fn refuse_summary(number: u8) -> SummaryAnswer
     ensures { λ r. ⌜ r ≡ handedSummary (refusal number 0) ⌝ }
 {
@@ -354,6 +372,7 @@ pub extern "C" fn kaunorpi_summary_stretch(
     of_summed(none)
 }
 
+// Whether all three fit.
 fn all_fit(first: bool, second: bool, third: bool) -> bool
     ensures { λ r. ⌜ r ≡ (first && (second && third)) ⌝ }
 {
@@ -595,6 +614,7 @@ pub extern "C" fn kaunorpi_transition_weighting(
     of_transition(answer)
 }
 
+// No bound, with the number of its cause in the order they are tried.
 fn of_no_bound(why: NoBoundCause) -> BoundAnswer
     ensures { λ r. ⌜ r ≡ handedBound (0x81 ∷ 1 ∷ causeNumber why ∷ []) ⌝ }
 {
@@ -712,6 +732,7 @@ pub extern "C" fn kaunorpi_trap_set(
     of_set(answer)
 }
 
+// A list's failure: 1 initial missing, or 2 with the marking and the transition.
 fn of_failure(why: Failure) -> ListAnswer
     ensures { λ r. ⌜ r ≡ handedList (0x81 ∷ failureNumbers why) ⌝ }
 {
@@ -1016,4 +1037,43 @@ pub extern "C" fn kaunorpi_complement_net(
         initial2,
     );
     of_net(answer)
+}
+
+fn of_case(answer: CaseFile) -> CaseAnswer
+    ensures { λ r. ⌜ r ≡ handedCase (casefile.numbers answer) ⌝ }
+{
+    match answer {
+        CaseFile::Read(places, transitions, letters) => CaseAnswer {
+            kind: ANSWERED,
+            number: 0,
+            position: 0,
+            places,
+            transitions,
+            letters,
+        },
+        CaseFile::Refused(number, at) => CaseAnswer {
+            kind: REFUSED,
+            number,
+            position: at,
+            places: 0,
+            transitions: 0,
+            letters: 0,
+        },
+    }
+}
+
+// A case file into rooms of the largest sizes.
+#[no_mangle]
+pub extern "C" fn kaunorpi_read_case(
+    file: &[u8],
+    caps: &mut [u16],
+    initial: &mut [u16],
+    pre: &mut [u8],
+    post: &mut [u8],
+    word: &mut [u8],
+) -> CaseAnswer
+    ensures { λ r. ⌜ HandedCase (casefile.caseFileOf (now (file .entry)) (rooms (now (caps .entry)) (now (initial .entry)) (now (pre .entry)) (now (post .entry)) (now (word .entry)))) r (rooms (now (caps .exit)) (now (initial .exit)) (now (pre .exit)) (now (post .exit)) (now (word .exit))) ⌝ }
+{
+    let answer = casefile::read_case(file, caps, initial, pre, post, word);
+    of_case(answer)
 }

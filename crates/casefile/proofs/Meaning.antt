@@ -1,0 +1,224 @@
+-- What the answer to a case file means: what document 01 says of lines, refusals and rooms, over the fold. Assumes nothing.
+use Prim.Native.Nat.{ℕ, _+_, _*_, _≤_}
+use mathlib.Core.Path.{_≡_, refl, sym, ap, _∙_}
+use mathlib.Core.Bool.{Bool, true, false, cond}
+use mathlib.Core.List.{List, [], _∷_, _++_, append-nil}
+use mathlib.Core.Logic.{_↔_}
+use native.Mathlib.Omega.{arith}
+use lib.ListN.{length, take, drop, length-append}
+use lib.Seq.{sets, sets-eq, take-at, drop-at, length-take-le}
+use lib.Dec.{eqb}
+use borrow.Author.Tests.{eq-eqb, ne-eqb, eqb-true}
+use Rattle.ground.specs.Limits.{countLimit, wordLimit}
+use Rattle.frames.specs.Frame.{lineFeed}
+use Rattle.reading.specs.declared.Reading.{Reading}
+use Rattle.reading.specs.declared.Took.the-variants as took
+use Rattle.reading.specs.Read.{cellLimit, fresh, Good, Rooms, lineOf, judgeOf, Large}
+use Rattle.parts.specs.declared.Case.{Case}
+use Rattle.parts.specs.declared.Case.the-variants as case
+use Rattle.parts.specs.File.{Run, going, stopped, Both, both, feedAll, finishOf, caseOf, NoFeed, holdOf}
+use Rattle.parts.proofs.Line.{all-append, holds, refused-line, large}
+use Rattle.casefile.specs.declared.CaseFile.{CaseFile}
+use Rattle.casefile.specs.declared.CaseFile.the-variants.{Read, Refused}
+use Rattle.casefile.specs.Entry.{Came, came, largest, Largest, blank, readAll, laid, answered, filledOf, caseFileOf, numbers, CaseRead}
+use Rattle.casefile.specs.Cut.{feeds, together, feedParts, Front}
+use Rattle.casefile.proofs.Fronts.{largest-of, of-largest, cells-fit}
+use Rattle.casefile.proofs.Ends.{blank-large, end-cut, left-over}
+use Rattle.casefile.proofs.Fold.{Counted, fed-file}
+
+-- `numbers` tells any two answers apart
+pub numbers-apart : (a b : CaseFile) → numbers a ≡ numbers b → a ≡ b
+numbers-apart (Read p t n) (Read q u k) e = let x : p ≡ q = cc in let y : t ≡ u = cc in let z : n ≡ k = cc in cc
+numbers-apart (Read p t n) (Refused k l) e = let z : _≡_ {A = ℕ} 0x81 0x82 = cc in absurd (omega arith)
+numbers-apart (Refused n l) (Read q u k) e = let z : _≡_ {A = ℕ} 0x82 0x81 = cc in absurd (omega arith)
+numbers-apart (Refused n l) (Refused k m) e = let x : n ≡ k = cc in let y : l ≡ m = cc in cc
+
+-- the promise has one answer, and one content of the rooms
+pub unique : (file : List ℕ) (x : Rooms) (r r′ : CaseFile) (y y′ : Rooms) → CaseRead file x r y → CaseRead file x r′ y′ → (r ≡ r′) × (y ≡ y′)
+unique file x r r′ y y′ a b = (numbers-apart r r′ (a .answer ∙ sym (b .answer)), a .left ∙ sym (b .left))
+
+-- any cutting into parts: the parts read one after another come to what the file does
+pub any-cutting : (z : Both) (parts : List (List ℕ)) → feedParts z parts ≡ feedAll z (together parts)
+unfolding feedParts together feedAll
+any-cutting z [] = refl
+any-cutting z (part ∷ parts) = any-cutting (feedAll z part) parts ∙ sym (all-append z part (together parts))
+
+-- a list laid to the front of a room
+laid-front : (n limit : ℕ) (y x : List ℕ) → n ≤ limit → limit ≤ length y → limit ≤ length x → Front n y x (sets x 0 (take n y))
+laid-front n limit y x a b c =
+    let l : length (take n y) ≡ n = length-take-le n y (omega arith) in
+    let e : 0 + length (take n y) ≡ n = omega arith in
+    let q : sets x 0 (take n y) ≡ take n y ++ drop n x = sets-eq (take n y) x 0 (omega arith) ∙ ap (λ (k : ℕ). take n y ++ drop k x) e in
+    record { front = ap (take n) q ∙ take-at (take n y) (drop n x) n l; rest = ap (drop n) q ∙ drop-at (take n y) (drop n x) n l }
+
+laid-fronts : (s : Reading) (y x x′ : Rooms) → Good s → Large y → Largest x → x′ ≡ laid s y x → (P T n : ℕ) → s .places ≡ P → s .transitions ≡ T → s .letters ≡ n
+    → Front P (y .caps) (x .caps) (x′ .caps) × Front P (y .initial) (x .initial) (x′ .initial) × Front (T * P) (y .pre) (x .pre) (x′ .pre) × Front (T * P) (y .post) (x .post) (x′ .post)
+    × Front n (y .word) (x .word) (x′ .word)
+laid-fronts s y x x′ g h l e P T n p t k =
+    let c = cells-fit s g in
+    rw (e, ← p, ← t, ← k) (
+      laid-front (s .places) countLimit (y .caps) (x .caps) (g .places) (h .caps) (omega (arith, l .caps)),
+      laid-front (s .places) countLimit (y .initial) (x .initial) (g .places) (h .initial) (omega (arith, l .initial)),
+      laid-front (s .transitions * s .places) cellLimit (y .pre) (x .pre) c (h .pre) (omega (arith, l .pre)),
+      laid-front (s .transitions * s .places) cellLimit (y .post) (x .post) c (h .post) (omega (arith, l .post)),
+      laid-front (s .letters) wordLimit (y .word) (x .word) (g .letters) (h .word) (omega (arith, l .word)),
+    )
+
+-- what the fold knows where the file was read whole, and where it was not
+whole-good : (r : Run) (k : ℕ) (s : Reading) → Counted k r → caseOf r ≡ case.Whole s → (Good s) × (s .phase ≡ 5)
+unfolding caseOf finishOf
+whole-good (going t []) k s c e = go (eqb (t .phase) 5) refl e
+  where
+    go : (b : Bool) → eqb (t .phase) 5 ≡ b → cond b (case.Whole t) (case.Refused 12 (t .line + 1)) ≡ case.Whole s → (Good s) × (s .phase ≡ 5)
+    go true q f = let i : t ≡ s = cc in rw (← i) (c .0, eqb-true _ _ q)
+    go false q f = let z : _≡_ {A = ℕ} 0 1 = cc in absurd (omega arith)
+whole-good (going t (b ∷ d)) k s c e = let z : _≡_ {A = ℕ} 0 1 = cc in absurd (omega arith)
+whole-good (stopped n l) k s c e = let z : _≡_ {A = ℕ} 0 1 = cc in absurd (omega arith)
+
+refused-line-is : (r : Run) (k n l : ℕ) → Counted k r → caseOf r ≡ case.Refused n l → (1 ≤ l) × (l ≤ k + 1)
+unfolding caseOf finishOf
+refused-line-is (going t []) k n l c e = go (eqb (t .phase) 5) e
+  where
+    go : (b : Bool) → cond b (case.Whole t) (case.Refused 12 (t .line + 1)) ≡ case.Refused n l → (1 ≤ l) × (l ≤ k + 1)
+    go true f = let z : _≡_ {A = ℕ} 0 1 = cc in absurd (omega arith)
+    go false f = let i : t .line + 1 ≡ l = cc in (omega arith, omega (arith, c .1))
+refused-line-is (going t (b ∷ d)) k n l c e = let i : t .line + 1 ≡ l = cc in (omega arith, omega (arith, c .1))
+refused-line-is (stopped m j) k n l c e = let i : j ≡ l = cc in (omega (arith, c .0), omega (arith, c .1))
+
+judged-refused : (s : Reading) (d caps : List ℕ) (n : ℕ) → judgeOf s d caps ≡ n → (n ≡ 0 → ⊥) → took.Refused n (s .line + 1) ≡ lineOf s d caps
+unfolding lineOf
+judged-refused s d caps n e m = rw e (simp (ne-eqb _ _ m))
+
+module _ (file : List ℕ) (x : Rooms) (r : CaseFile) (x′ : Rooms) (p : CaseRead file x r x′) where
+  answer-is : r ≡ caseFileOf file x .answer
+  answer-is = numbers-apart r (caseFileOf file x .answer) (p .answer)
+
+  -- "a lent list's or room's length disagrees": then nothing is read, and all is as found
+  not-largest : largest x ≡ false → (r ≡ Refused 2 0) × (x′ ≡ x)
+  not-largest e = (answer-is ∙ rw e, p .left ∙ rw e)
+
+  -- else the answer is what the fold over the file's bytes comes to
+  pub reads-the-fold : Largest x → came r x′ ≡ filledOf file x
+  reads-the-fold l =
+      let e = of-largest x l in
+      let a : r ≡ filledOf file x .answer = answer-is ∙ rw e in
+      let b : x′ ≡ filledOf file x .left = p .left ∙ rw e in
+      rw (a, b)
+
+  -- and so it is for any cutting of the file into parts, read one after another
+  pub parts-the-same : Largest x → (parts : List (List ℕ)) → together parts ≡ file
+      → came r x′ ≡ answered (caseOf (feedParts (both (going fresh []) blank) parts .run)) (feedParts (both (going fresh []) blank) parts .rooms) x
+  parts-the-same l parts e =
+      let z : feedParts (both (going fresh []) blank) parts ≡ readAll file = any-cutting (both (going fresh []) blank) parts ∙ ap readAll e in
+      rw z (reads-the-fold l)
+
+  of-case : Largest x → (k : Case) → caseOf (readAll file .run) ≡ k → came r x′ ≡ answered k (readAll file .rooms) x
+  of-case l k e = reads-the-fold l ∙ ap (λ (j : Case). answered j (readAll file .rooms) x) e
+
+  -- "A refusal leaves lent memory as found."
+  pub refused-as-found : (n l : ℕ) → r ≡ Refused n l → x′ ≡ x
+  refused-as-found n l e = size (largest x) refl
+    where
+      went : Largest x → (k : Case) → caseOf (readAll file .run) ≡ k → x′ ≡ x
+      went g (case.Whole s) q = let i : r ≡ Read (s .places) (s .transitions) (s .letters) = ap (λ (z : Came). z .answer) (of-case g (case.Whole s) q) in let z : _≡_ {A = ℕ} 0 1 = cc in absurd (omega arith)
+      went g (case.Refused m k) q = ap (λ (z : Came). z .left) (of-case g (case.Refused m k) q)
+
+      size : (b : Bool) → largest x ≡ b → x′ ≡ x
+      size true q = went (largest-of x q) (caseOf (readAll file .run)) refl
+      size false q = not-largest q .1
+
+  -- a refusal in a file has its line, from 1 to the line after the last line feed
+  pub every-line : Largest x → (n l : ℕ) → r ≡ Refused n l → (1 ≤ l) × (l ≤ feeds file + 1)
+  every-line g n l e = went (caseOf (readAll file .run)) refl
+    where
+      went : (k : Case) → caseOf (readAll file .run) ≡ k → (1 ≤ l) × (l ≤ feeds file + 1)
+      went (case.Whole s) q = let i : r ≡ Read (s .places) (s .transitions) (s .letters) = ap (λ (z : Came). z .answer) (of-case g (case.Whole s) q) in let z : _≡_ {A = ℕ} 0 1 = cc in absurd (omega arith)
+      went (case.Refused m k) q =
+          let i : r ≡ Refused m k = ap (λ (z : Came). z .answer) (of-case g (case.Refused m k) q) in
+          let j : k ≡ l = cc in
+          let z = refused-line-is (readAll file .run) (feeds file) m k (fed-file file .counted) q in
+          (omega (arith, z .0), omega (arith, z .1))
+
+  -- refusal 2, at position 0, is given exactly where a room has another length
+  pub wrong-rooms : (r ≡ Refused 2 0) ↔ (Largest x → ⊥)
+  wrong-rooms = (λ e g. let z = every-line g 2 0 e .0 in omega arith, λ n. size n (largest x) refl)
+    where
+      size : (Largest x → ⊥) → (b : Bool) → largest x ≡ b → r ≡ Refused 2 0
+      size n true q = absurd (n (largest-of x q))
+      size n false q = not-largest q .0
+
+  module _ (P T n : ℕ) (e : r ≡ Read P T n) where
+    read-largest : Largest x
+    read-largest = size (largest x) refl
+      where
+        size : (b : Bool) → largest x ≡ b → Largest x
+        size true q = largest-of x q
+        size false q = let i = not-largest q .0 in let z : _≡_ {A = ℕ} 0 1 = cc in absurd (omega arith)
+
+    -- the state that the file ended in
+    ended-in : (s : Reading) × (Good s) × (s .phase ≡ 5) × (s .places ≡ P) × (s .transitions ≡ T) × (s .letters ≡ n) × (x′ ≡ laid s (readAll file .rooms) x)
+    ended-in = went (caseOf (readAll file .run)) refl
+      where
+        went : (k : Case) → caseOf (readAll file .run) ≡ k → (s : Reading) × (Good s) × (s .phase ≡ 5) × (s .places ≡ P) × (s .transitions ≡ T) × (s .letters ≡ n) × (x′ ≡ laid s (readAll file .rooms) x)
+        went (case.Whole s) q =
+            let i : r ≡ Read (s .places) (s .transitions) (s .letters) = ap (λ (z : Came). z .answer) (of-case read-largest (case.Whole s) q) in
+            let g = whole-good (readAll file .run) (feeds file) s (fed-file file .counted) q in
+            let a : s .places ≡ P = cc in
+            let b : s .transitions ≡ T = cc in
+            let c : s .letters ≡ n = cc in
+            (s, g .0, g .1, a, b, c, ap (λ (z : Came). z .left) (of-case read-largest (case.Whole s) q))
+        went (case.Refused m l) q = let i : r ≡ Refused m l = ap (λ (z : Came). z .answer) (of-case read-largest (case.Refused m l) q) in let z : _≡_ {A = ℕ} 0 1 = cc in absurd (omega arith)
+
+    -- the counts are those that document 01 allows
+    pub read-counts : (1 ≤ P) × (P ≤ countLimit) × (1 ≤ T) × (T ≤ countLimit) × (n ≤ wordLimit)
+    read-counts =
+        let w = ended-in in
+        let g = w .1 in
+        let a = g .some-places (omega (arith, w .2)) in
+        let b = g .some (omega (arith, w .2)) in
+        (omega (arith, a, w .3), omega (arith, g .places, w .3), omega (arith, b, w .4), omega (arith, g .transitions, w .4), omega (arith, g .letters, w .5))
+
+    -- the net's own entries and the letters stand at the front of the rooms, and the rest is as found
+    pub read-front : Front P (readAll file .rooms .caps) (x .caps) (x′ .caps) × Front P (readAll file .rooms .initial) (x .initial) (x′ .initial)
+        × Front (T * P) (readAll file .rooms .pre) (x .pre) (x′ .pre) × Front (T * P) (readAll file .rooms .post) (x .post) (x′ .post) × Front n (readAll file .rooms .word) (x .word) (x′ .word)
+    read-front =
+        let w = ended-in in
+        let y = large (readAll file .rooms) blank (fed-file file .same) (blank-large blank refl) in
+        laid-fronts (w .0) (readAll file .rooms) x x′ (w .1) y read-largest (w .6) P T n (w .3) (w .4) (w .5)
+
+  -- the lines up to some line feed were read, and the state s follows
+  module _ (l : Largest x) (lines : List ℕ) (s : Reading) (read : readAll lines .run ≡ going s []) where
+    line-number : s .line ≡ feeds lines
+    line-number = (rw read at (fed-file lines .counted)) .1
+
+    came-to : readAll lines ≡ both (going s []) (readAll lines .rooms)
+    came-to = ap (λ (u : Run). both u (readAll lines .rooms)) read
+
+    then-reads : (rest : List ℕ) → file ≡ lines ++ rest → readAll file ≡ feedAll (both (going s []) (readAll lines .rooms)) rest
+    then-reads rest e = ap readAll e ∙ all-append (both (going fresh []) blank) lines rest ∙ ap (λ (z : Both). feedAll z rest) came-to
+
+    refused-with : (n : ℕ) → caseOf (readAll file .run) ≡ case.Refused n (s .line + 1) → r ≡ Refused n (feeds lines + 1)
+    refused-with n e = ap (λ (z : Came). z .answer) (of-case l (case.Refused n (s .line + 1)) e) ∙ ap (λ (j : ℕ). Refused n (j + 1)) line-number
+
+    -- "In a file the earliest faulty line decides", whatever stands after it
+    pub earliest-line : (n : ℕ) (line rest : List ℕ) → file ≡ lines ++ (line ++ lineFeed ∷ rest) → NoFeed line → judgeOf s line (readAll lines .rooms .caps) ≡ n → (n ≡ 0 → ⊥) → r ≡ Refused n (feeds lines + 1)
+    unfolding caseOf
+    earliest-line n line rest e h q m =
+        refused-with n
+        (ap (λ (b : Both). caseOf (b .run)) (then-reads (line ++ lineFeed ∷ rest) e ∙ refused-line s (readAll lines .rooms) line rest h n (s .line + 1) (judged-refused s line (readAll lines .rooms .caps) n q m)))
+
+    -- "a line .. lacks its line feed": 11 on the last line, whatever it holds
+    pub last-line-cut : (line : List ℕ) → file ≡ lines ++ line → NoFeed line → (line ≡ [] → ⊥) → r ≡ Refused 11 (feeds lines + 1)
+    unfolding feedAll
+    last-line-cut line e h n =
+        let z = then-reads line e ∙ ap (feedAll (both (going s []) (readAll lines .rooms))) (sym (append-nil line)) ∙ holds s (readAll lines .rooms) line [] [] (omega arith) h in
+        refused-with 11 (ap (λ (b : Both). caseOf (b .run)) z ∙ left-over s line ∙ sym (end-cut s (length line) (some line n)))
+      where
+        some : (line : List ℕ) → (line ≡ [] → ⊥) → length line ≡ 0 → ⊥
+        some [] n q = n refl
+        some (b ∷ d) n q = omega arith
+
+    -- "frames missing at the end": 12 on the line after the last
+    pub missing-frames : file ≡ lines → (s .phase ≡ 5 → ⊥) → r ≡ Refused 12 (feeds lines + 1)
+    unfolding caseOf finishOf
+    missing-frames e n = refused-with 12 (ap (λ (f : List ℕ). caseOf (readAll f .run)) e ∙ ap caseOf read ∙ simp (ne-eqb _ _ n))

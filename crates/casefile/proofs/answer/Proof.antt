@@ -1,0 +1,53 @@
+use Rattle.casefile.proofs.Ends.{whole-good, whole-answered, refused-answered}
+use borrow.Author.Needs.{needs}
+use Rattle.casefile.proofs.answer.Statement.{statement}
+use Rattle.casefile.proofs.answer.Tie as tie
+
+enum-known-case : tie.Need-enum-known-case
+enum-known-case c = search needs
+
+lay-out-requires : tie.Need-lay-out-requires
+lay-out-requires c κs =
+    let s = c .before .before .before .before .before .before .before .before .before .before .before .before .before .before .before .before .before .before in
+    (whole-good _ _ (c .before .before .before .before .before .before .case .given .1) (s .pre .0), s .pre .1, s .pre .2)
+
+enum-known-case-2 : tie.Need-enum-known-case-2
+enum-known-case-2 c = search needs
+
+same-length : tie.Need-same-length
+same-length c = search needs
+
+same-length-2 : tie.Need-same-length-2
+same-length-2 c = search needs
+
+same-length-3 : tie.Need-same-length-3
+same-length-3 c = search needs
+
+same-length-4 : tie.Need-same-length-4
+same-length-4 c = search needs
+
+same-length-5 : tie.Need-same-length-5
+same-length-5 c = search needs
+
+returns : tie.Need-returns
+returns c =
+    let l = c .before .before .before .before .before .before .before .before .before .before in
+    whole-answered _ _ _ _ _ (l .before .before .before .before .before .before .before .case .given .1) (l .lay-out .ensures)
+
+returns-2 : tie.Need-returns-2
+returns-2 c = refused-answered _ _ _ _ _ (c .before .case2 .given .1)
+
+pub answer-spec : {M : Type 1} → statement M
+answer-spec =
+    tie.close
+    (tie.spec
+    enum-known-case
+    lay-out-requires
+    enum-known-case-2
+    same-length
+    same-length-2
+    same-length-3
+    same-length-4
+    same-length-5
+    returns
+    returns-2)

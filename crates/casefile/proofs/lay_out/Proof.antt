@@ -1,0 +1,117 @@
+use denote.Ref.{now}
+use native.Mathlib.Omega.{arith}
+use Rattle.casefile.proofs.Fronts.{cells-fit, part-long, part-fits, rooms-same}
+use borrow.Author.Needs.{needs}
+use Rattle.casefile.proofs.lay_out.Statement.{statement}
+use Rattle.casefile.proofs.lay_out.Tie as tie
+
+-- the start, from each call
+abbrev at1 : tie.After-lay-words-arg2 → tie.Start
+at1 c = c .before .before .before .before .before .before .before .before .before .before .before .before .before
+
+abbrev at2 : tie.After-lay-words-arg4 → tie.Start
+at2 c = at1 (c .before .before .before .before .before)
+
+abbrev at3 : tie.After-lay-bytes-arg2 → tie.Start
+at3 c = at2 (c .before .before .before .before .before)
+
+abbrev at4 : tie.After-lay-bytes-arg4 → tie.Start
+at4 c = at3 (c .before .before .before .before .before)
+
+abbrev at5 : tie.After-lay-bytes-arg6 → tie.Start
+at5 c = at4 (c .before .before .before .before .before)
+
+mul-cells : tie.Need-mul-cells
+mul-cells c =
+    let s : tie.Start = search needs in
+    omega (arith, cells-fit (s .args .s) (s .pre .0))
+
+slice-aggregate-lay-words : tie.Need-slice-aggregate-lay-words
+slice-aggregate-lay-words c =
+    let s = at1 c in
+    part-long _ _ _ (s .pre .0 .places) (s .pre .1 .caps)
+
+lay-words-requires : tie.Need-lay-words-requires
+lay-words-requires c κs =
+    let s = at1 c in
+    part-fits _ _ _ (s .pre .0 .places) (s .pre .1 .caps) (now (s .args .caps)) (s .pre .2 .caps)
+
+slice-aggregate-lay-words-2 : tie.Need-slice-aggregate-lay-words-2
+slice-aggregate-lay-words-2 c =
+    let s = at2 c in
+    part-long _ _ _ (s .pre .0 .places) (s .pre .1 .initial)
+
+lay-words-requires-2 : tie.Need-lay-words-requires-2
+lay-words-requires-2 c κs =
+    let s = at2 c in
+    part-fits _ _ _ (s .pre .0 .places) (s .pre .1 .initial) (now (s .args .initial)) (s .pre .2 .initial)
+
+slice-aggregate-lay-bytes : tie.Need-slice-aggregate-lay-bytes
+slice-aggregate-lay-bytes c =
+    let s = at3 c in
+    part-long _ _ _ (cells-fit _ (s .pre .0)) (s .pre .1 .pre)
+
+lay-bytes-requires : tie.Need-lay-bytes-requires
+lay-bytes-requires c κs =
+    let s = at3 c in
+    part-fits _ _ _ (cells-fit _ (s .pre .0)) (s .pre .1 .pre) (now (s .args .pre)) (s .pre .2 .pre)
+
+slice-aggregate-lay-bytes-2 : tie.Need-slice-aggregate-lay-bytes-2
+slice-aggregate-lay-bytes-2 c =
+    let s = at4 c in
+    part-long _ _ _ (cells-fit _ (s .pre .0)) (s .pre .1 .post)
+
+lay-bytes-requires-2 : tie.Need-lay-bytes-requires-2
+lay-bytes-requires-2 c κs =
+    let s = at4 c in
+    part-fits _ _ _ (cells-fit _ (s .pre .0)) (s .pre .1 .post) (now (s .args .post)) (s .pre .2 .post)
+
+slice-aggregate-lay-bytes-3 : tie.Need-slice-aggregate-lay-bytes-3
+slice-aggregate-lay-bytes-3 c =
+    let s = at5 c in
+    part-long _ _ _ (s .pre .0 .letters) (s .pre .1 .word)
+
+lay-bytes-requires-3 : tie.Need-lay-bytes-requires-3
+lay-bytes-requires-3 c κs =
+    let s = at5 c in
+    part-fits _ _ _ (s .pre .0 .letters) (s .pre .1 .word) (now (s .args .word)) (s .pre .2 .word)
+
+same-length : tie.Need-same-length
+same-length c = search needs
+
+same-length-2 : tie.Need-same-length-2
+same-length-2 c = search needs
+
+same-length-3 : tie.Need-same-length-3
+same-length-3 c = search needs
+
+same-length-4 : tie.Need-same-length-4
+same-length-4 c = search needs
+
+same-length-5 : tie.Need-same-length-5
+same-length-5 c = search needs
+
+returns : tie.Need-returns
+returns c = rooms-same (c .before .before .before .before .before .before .before .before .before .before .before .before .before .before .before .before .before .before .before .before .before .before .lay-words .ensures) (c .before .before .before .before .before .before .before .before .before .before .before .before .before .before .before .before .before .lay-words2 .ensures) (c .before .before .before .before .before .before .before .before .before .before .before .before .lay-bytes .ensures) (c .before .before .before .before .before .before .before .lay-bytes2 .ensures) (c .before .before .lay-bytes3 .ensures)
+
+pub lay-out-spec : {M : Type 1} → statement M
+lay-out-spec =
+    tie.close
+    (tie.spec
+    mul-cells
+    slice-aggregate-lay-words
+    lay-words-requires
+    slice-aggregate-lay-words-2
+    lay-words-requires-2
+    slice-aggregate-lay-bytes
+    lay-bytes-requires
+    slice-aggregate-lay-bytes-2
+    lay-bytes-requires-2
+    slice-aggregate-lay-bytes-3
+    lay-bytes-requires-3
+    same-length
+    same-length-2
+    same-length-3
+    same-length-4
+    same-length-5
+    returns)
