@@ -1,13 +1,13 @@
 -- Turns of the reader's loops, and what a good line's rule says. Assumes nothing.
 use mathlib.Core.Path.{_≡_, refl}
-use mathlib.Core.Bool.{Bool, true, false, cond, false≢true}
+use mathlib.Core.Bool.{Bool, true, false, cond, false≢true, _&&_}
 use mathlib.Core.List.{List}
 use Prim.Native.Nat.{ℕ, zero, suc, _+_, _-_, _*_, _≤_, _<_, _%_}
 use native.Mathlib.Omega.{arith}
 use native.Mathlib.Nat.{not-suc-le-zero}
 use lib.Dec.{ltb, eqb}
 use lib.ListN.{length, getD}
-use borrow.Author.Tests.{eq-eqb, lt-ltb, le-ltb, le-leb, lt-leb, ne-eqb, ltb-false, eqb-false}
+use borrow.Author.Tests.{eq-eqb, lt-ltb, le-ltb, le-leb, lt-leb, ne-eqb, ltb-false, ltb-true, eqb-false}
 use Rattle.ground.specs.Limits.{countLimit, tokenLimit, wordLimit}
 use Rattle.frames.specs.Frame.{lineLimit, block, wordAt, byteAt, allDigits}
 use Rattle.reading.specs.declared.Reading.{Reading}
@@ -37,17 +37,25 @@ tokens-none d caps i j zero h = refl
 tokens-none d caps i j (suc n) h = absurd (not-suc-le-zero h)
 
 module _ (d : List ℕ) (j t b : ℕ) (e : b ≡ byteAt d j) where
-  pub letters-over : (left : ℕ) → 0 < left → t ≤ b → fitLetters d j left t ≡ false
+  letters-over : (left : ℕ) → 0 < left → t ≤ b → fitLetters d j left t ≡ false
   unfolding fitLetters
   letters-over zero h u = absurd (not-suc-le-zero h)
   letters-over (suc left) h u = simp (← e, le-leb _ _ u)
 
-  pub letters-turn : (left : ℕ) → 0 < left → b < t → fitLetters d (j + 1) (left - 1) t ≡ fitLetters d j left t
+  letters-turn : (left : ℕ) → 0 < left → b < t → fitLetters d (j + 1) (left - 1) t ≡ fitLetters d j left t
   unfolding fitLetters
   letters-turn zero h u = absurd (not-suc-le-zero h)
   letters-turn (suc left) h u =
       let z : suc left - 1 ≡ left = omega arith in
       simp (z, ← e, lt-leb _ _ u)
+
+  -- a turn of the pass: what is left and what was found before it
+  pub letters-kept : (f r : Bool) → r ≡ (f && ltb b t) → (left : ℕ) → 0 < left → (r && fitLetters d (j + 1) (left - 1) t) ≡ (f && fitLetters d j left t)
+  letters-kept false r w left h = simp (w)
+  letters-kept true r w left h = go (ltb b t) refl where
+    go : (x : Bool) → ltb b t ≡ x → (r && fitLetters d (j + 1) (left - 1) t) ≡ (true && fitLetters d j left t)
+    go true q = simp (w, q, letters-turn left h (ltb-true b t q))
+    go false q = simp (w, q, letters-over left h (ltb-false b t q))
 
 pub letters-none : (d : List ℕ) (j left t : ℕ) → left ≤ 0 → fitLetters d j left t ≡ true
 unfolding fitLetters

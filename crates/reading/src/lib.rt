@@ -6,8 +6,8 @@ use ground::COUNT_LIMIT;
 use ground::TOKEN_LIMIT;
 use ground::WORD_LIMIT;
 ghost use mathlib.Core.Path.{_≡_};
-ghost use mathlib.Core.Bool.{true, cond};
-ghost use lib.Dec.{eqb};
+ghost use mathlib.Core.Bool.{true, cond, _&&_};
+ghost use lib.Dec.{eqb, ltb};
 ghost use Prim.Native.Nat.{_+_, _*_, _<_, _≤_};
 ghost use lib.ListN.{length};
 ghost use lib.Seq.{sets};
@@ -171,21 +171,31 @@ fn wide(b: u8) -> usize
     b as usize
 }
 
-// Whether each letter names a transition.
+// One letter more: whether those before it name transitions, and it does too.
+fn keeps(fine: bool, t: u8, transitions: usize) -> bool
+    ensures { λ r. ⌜ r ≡ (fine && ltb t transitions) ⌝ }
+{
+    if fine {
+        return (t as usize) < transitions;
+    }
+    false
+}
+
+// Whether each letter names a transition: one plain pass, with no way out on the way, since a branch
+// for each digit costs more than the rest of the line.
 fn fit_letters(d: &[u8], count: usize, transitions: usize) -> bool
     requires { ⌜ 2 + 2 * count ≤ length (now d) ⌝ }
     ensures { λ r. ⌜ r ≡ fitLetters (now (d .entry)) 1 count transitions ⌝ }
 {
+    let mut fine = true;
     let mut j: usize = 1;
     let mut left = count;
     while 0 < left {
-        if transitions <= wide(frames::byte_at(d, j)) {
-            return false;
-        }
+        fine = keeps(fine, frames::byte_at(d, j), transitions);
         j = j + 1;
         left = left - 1;
     }
-    true
+    fine
 }
 
 // 05 with 1 to 64 letters.

@@ -1,0 +1,275 @@
+/* bench: each question through the library and through the same algorithm in C, in turn, the best time of each.
+ * Prints a line for each row: question|size|ns of the library|ns of C. bench/run makes a table of several such runs.
+ * Sizes are volatile, so that no compiler knows them; both sides' answers and rooms are compared after every round. */
+#include "same.h"
+
+#include <stdio.h>
+#include <stdlib.h>
+#include <string.h>
+#include <time.h>
+
+#define PROCESS_CLOCK 2 /* Linux's CLOCK_PROCESS_CPUTIME_ID */
+
+#define SIDE(question) \
+    static __typeof__(kaunorpi_##question) *volatile side_##question[2] = {kaunorpi_##question, same_##question};
+SIDE(replay_word)
+SIDE(summary_word)
+SIDE(join_summaries)
+SIDE(place_weighting)
+SIDE(closed_list)
+SIDE(cover_list)
+SIDE(complement_net)
+SIDE(read_case)
+
+/* What is lent. */
+static volatile size_t P, T, cells, letters, entries, file_size, wide;
+static uint8_t pre[4096], post[4096], word[65535], file[200000];
+static uint16_t caps[64], initial[64], list[4096 * 64];
+static int16_t weights[64];
+static uint32_t need[2][64], climb[2][64];
+static int32_t change[2][64];
+static uint32_t half[2];
+
+/* What each side answers and writes. */
+static struct written {
+    uint64_t answer[4];
+    uint32_t room[64], need[64], climb[64];
+    int32_t change[64];
+    uint16_t caps[64], initial[64];
+    uint8_t pre[4096], post[4096], word[65535];
+} out[2];
+
+#define NET P, T, pre, cells, post, cells, caps, P
+#define ROOMS o->need, 64, o->climb, 64, o->change, 64
+
+/* Keeps an answer's numbers beside the rooms. */
+static void keep(struct written *o, uint8_t kind, uint8_t number, size_t position, size_t more) {
+    o->answer[0] = kind;
+    o->answer[1] = number;
+    o->answer[2] = position;
+    o->answer[3] = more;
+}
+
+static void ask_replay(int side) {
+    struct written *o = &out[side];
+    kaunorpi_replay a = side_replay_word[side](NET, initial, P, word, letters, o->room, P);
+    keep(o, a.kind, a.number, a.position, a.place);
+}
+
+static void ask_summary(int side) {
+    struct written *o = &out[side];
+    kaunorpi_summary a = side_summary_word[side](NET, word, letters, ROOMS);
+    keep(o, a.kind, a.number, a.position, a.letters);
+}
+
+static void ask_join(int side) {
+    struct written *o = &out[side];
+    kaunorpi_summary a = side_join_summaries[side](P, half[0], need[0], 64, climb[0], 64, change[0], 64, P, half[1],
+                                                   need[1], 64, climb[1], 64, change[1], 64, ROOMS);
+    keep(o, a.kind, a.number, a.position, a.letters);
+}
+
+static void ask_weighting(int side) {
+    kaunorpi_answer a = side_place_weighting[side](NET, weights, P);
+    keep(&out[side], a.kind, a.number, a.position, 0);
+}
+
+static void ask_closed(int side) {
+    kaunorpi_list a = side_closed_list[side](NET, initial, P, list, entries);
+    keep(&out[side], a.kind, a.number, a.position, a.transition);
+}
+
+static void ask_cover(int side) {
+    kaunorpi_list a = side_cover_list[side](NET, initial, P, list, entries);
+    keep(&out[side], a.kind, a.number, a.position, a.transition);
+}
+
+static void ask_complement(int side) {
+    struct written *o = &out[side];
+    kaunorpi_answer a = side_complement_net[side](NET, initial, P, o->pre, T * wide, o->post, T * wide, o->caps, wide,
+                                                  o->initial, wide);
+    keep(o, a.kind, a.number, a.position, 0);
+}
+
+static void ask_case(int side) {
+    struct written *o = &out[side];
+    kaunorpi_case a =
+        side_read_case[side](file, file_size, o->caps, 64, o->initial, 64, o->pre, 4096, o->post, 4096, o->word, 65535);
+    keep(o, a.kind, a.number, a.position, a.letters);
+}
+
+/* A number by chance, always the same ones. */
+static size_t below(size_t n) {
+    static uint64_t state = 1;
+    state = state * 6364136223846793005u + 1442695040888963407u;
+    return (size_t)(state >> 33) % n;
+}
+
+/* A net of 64 transitions that each move a token on, with loops beside; capacities at every other place. */
+static void make_ring(size_t places) {
+    P = places;
+    T = 64;
+    cells = places * 64;
+    for (size_t t = 0; t < 64; t++)
+        for (size_t p = 0; p < places; p++) {
+            uint8_t loop = (uint8_t)below(3);
+            pre[t * places + p] = (uint8_t)(loop + (p == t % places));
+            post[t * places + p] = (uint8_t)(loop + (p == (t + 1) % places));
+        }
+    for (size_t p = 0; p < places; p++) {
+        caps[p] = p % 2 ? 65534 : 65535;
+        initial[p] = 30000;
+        weights[p] = 1;
+    }
+}
+
+/* The longest word, all of which fires. */
+static void make_word(void) {
+    make_ring(64);
+    letters = 65535;
+    for (size_t i = 0; i < 65535; i++)
+        word[i] = (uint8_t)below(64);
+}
+
+/* The summaries of the word's two halves. */
+static void make_halves(void) {
+    make_word();
+    for (size_t k = 0; k < 2; k++) {
+        half[k] = 32767;
+        same_summary_word(NET, word + k * 32767, 32767, need[k], 64, climb[k], 64, change[k], 64);
+    }
+}
+
+/* 32 places, all capped, so that the complement has 64. */
+static void make_capped(void) {
+    make_ring(32);
+    for (size_t p = 0; p < 32; p++)
+        caps[p] = 40000;
+    wide = 64;
+}
+
+/* All 2^bits settings of so many switches, each a pair of places and two transitions; the switches are the last places, or
+ * the first. The other places never change, and the other transitions are never enabled. */
+static void make_switches(size_t bits, int last) {
+    size_t first = last ? 64 - 2 * bits : 0, still = last ? 0 : 63;
+    P = 64;
+    T = 64;
+    cells = 4096;
+    entries = ((size_t)1 << bits) * 64;
+    memset(pre, 0, sizeof pre);
+    memset(post, 0, sizeof post);
+    for (size_t t = 0; t < 64; t++)
+        if (t < 2 * bits)
+            pre[t * 64 + first + t] = 1, post[t * 64 + first + (t ^ 1)] = 1;
+        else
+            pre[t * 64 + still] = 255;
+    for (size_t i = 0; i < entries; i++) {
+        size_t p = i % 64, on = p - first;
+        list[i] = p < first || on >= 2 * bits ? 3 : (i / 64 >> (bits - 1 - on / 2) & 1) == (on & 1);
+    }
+    for (size_t p = 0; p < 64; p++) {
+        initial[p] = list[p];
+        caps[p] = p % 2 ? 65535 : 7;
+    }
+}
+
+static void make_256(void) { make_switches(8, 1); }
+static void make_1024(void) { make_switches(10, 1); }
+static void make_1024_first(void) { make_switches(10, 0); }
+static void make_4096(void) { make_switches(12, 1); }
+
+/* Writes one frame as a line of the file. */
+static void write_line(const uint8_t *frame, size_t size) {
+    static const char digits[] = "0123456789ABCDEF";
+    for (size_t i = 0; i < size; i++) {
+        file[file_size++] = (uint8_t)digits[frame[i] >> 4];
+        file[file_size++] = (uint8_t)digits[frame[i] & 15];
+    }
+    file[file_size++] = '\n';
+}
+
+/* The largest case file: 64 places, 64 transitions, 65,535 letters. */
+static void make_file(void) {
+    uint8_t frame[130] = {1, 64, 64};
+    make_word();
+    file_size = 0;
+    write_line(frame, 3);
+    for (uint8_t kind = 2; kind <= 3; kind++) {
+        frame[0] = kind;
+        for (size_t p = 0; p < 64; p++) {
+            uint16_t number = kind == 2 ? caps[p] : initial[p];
+            frame[1 + 2 * p] = (uint8_t)(number >> 8);
+            frame[2 + 2 * p] = (uint8_t)number;
+        }
+        write_line(frame, 129);
+    }
+    for (size_t t = 0; t < 64; t++) {
+        frame[0] = 4;
+        frame[1] = (uint8_t)t;
+        memcpy(frame + 2, pre + t * 64, 64);
+        memcpy(frame + 66, post + t * 64, 64);
+        write_line(frame, 130);
+    }
+    for (size_t at = 0; at < 65535; at += 64) {
+        frame[0] = 5;
+        memcpy(frame + 1, word + at, at + 64 <= 65535 ? 64 : 63);
+        write_line(frame, at + 64 <= 65535 ? 65 : 64);
+    }
+}
+
+/* A row: the question, its size, its input, how it is asked, in how many rounds of how many calls. */
+static const struct row {
+    const char *question, *size;
+    void (*make)(void);
+    void (*ask)(int side);
+    size_t rounds, calls;
+} rows[] = {
+    {"replay_word", "65,535 letters, 64 places", make_word, ask_replay, 60, 1},
+    {"summary_word", "65,535 letters, 64 places", make_word, ask_summary, 12, 1},
+    {"join_summaries", "64 places", make_halves, ask_join, 300, 200},
+    {"place_weighting", "64 places, 64 transitions, invariant", make_word, ask_weighting, 300, 20},
+    {"complement_net", "32 capped places, 64 transitions", make_capped, ask_complement, 300, 20},
+    {"read_case", "the largest file, 151 KB", make_file, ask_case, 100, 1},
+    {"closed_list", "1,024 markings, unlike in the first places", make_1024_first, ask_closed, 10, 1},
+    {"closed_list", "256 markings, unlike in the last places", make_256, ask_closed, 15, 1},
+    {"closed_list", "1,024 markings, unlike in the last places", make_1024, ask_closed, 5, 1},
+    {"closed_list", "4,096 markings, unlike in the last places", make_4096, ask_closed, 1, 1},
+    {"cover_list", "256 markings, unlike in the last places", make_256, ask_cover, 15, 1},
+    {"cover_list", "1,024 markings, unlike in the last places", make_1024, ask_cover, 5, 1},
+};
+
+/* Nanoseconds that this process has run: what others do on the machine in between is not counted. */
+static double now(void) {
+    struct timespec t;
+    clock_gettime(PROCESS_CLOCK, &t);
+    return 1e9 * (double)t.tv_sec + (double)t.tv_nsec;
+}
+
+/* One row; ends the program if the sides differ, or if what should be answered is refused. */
+static void run(const struct row *row) {
+    double best[2] = {1e18, 1e18};
+    memset(out, 0, sizeof out);
+    row->make();
+    for (size_t round = 0; round < row->rounds; round++) {
+        for (int side = 0; side < 2; side++) {
+            double before = now(), took;
+            for (size_t k = 0; k < row->calls; k++)
+                row->ask(side);
+            took = (now() - before) / (double)row->calls;
+            best[side] = took < best[side] ? took : best[side];
+        }
+        if (memcmp(&out[0], &out[1], sizeof out[0]) != 0 || out[0].answer[0] != 0x81 || out[0].answer[1] != 0) {
+            printf("bench: %s, %s: the two differ, or do not accept\n", row->question, row->size);
+            exit(1);
+        }
+    }
+    printf("%s|%s|%.0f|%.0f\n", row->question, row->size, best[0], best[1]);
+}
+
+/* bench [QUESTION]: every row, or those of one question. */
+int main(int count, char **words) {
+    for (size_t k = 0; k < sizeof rows / sizeof rows[0]; k++)
+        if (count < 2 || strcmp(words[1], rows[k].question) == 0)
+            run(&rows[k]);
+    return 0;
+}

@@ -1,0 +1,85 @@
+/* The same algorithms in C: same_X does what the library's kaunorpi_X does, loop by loop (the Rattle code in crates/ was
+ * the model), so that the two can be timed against each other. Here stand the loops that several questions share. */
+#ifndef SAME_H
+#define SAME_H
+
+#include "../include/kaunorpi.h"
+
+__typeof__(kaunorpi_replay_word) same_replay_word;
+__typeof__(kaunorpi_summary_word) same_summary_word;
+__typeof__(kaunorpi_join_summaries) same_join_summaries;
+__typeof__(kaunorpi_place_weighting) same_place_weighting;
+__typeof__(kaunorpi_closed_list) same_closed_list;
+__typeof__(kaunorpi_cover_list) same_cover_list;
+__typeof__(kaunorpi_complement_net) same_complement_net;
+__typeof__(kaunorpi_read_case) same_read_case;
+
+/* A refusal; number 0 is none. */
+struct fault {
+    uint8_t number;
+    size_t at;
+};
+
+/* Refusals 1 and 2 for a net. */
+static inline struct fault net_fault(KAUNORPI_NET, int fits) {
+    (void)pre, (void)post, (void)caps;
+    if (places < 1 || places > 64 || transitions < 1 || transitions > 64)
+        return (struct fault){1, 0};
+    if (pre_len != places * transitions || post_len != places * transitions || caps_len != places || !fits)
+        return (struct fault){2, 0};
+    return (struct fault){0, 0};
+}
+
+/* One place of a given marking has more tokens than may be given. */
+static inline int is_bad_token(uint16_t cap, uint16_t tokens) {
+    return tokens > 65534 || tokens > cap;
+}
+
+/* Refusals 1, 2 and 3 for a net and its initial marking. */
+static inline struct fault first_fault(KAUNORPI_NET, const uint16_t *initial, size_t initial_len, int fits) {
+    struct fault found = net_fault(places, transitions, pre, pre_len, post, post_len, caps, caps_len,
+                                   fits && initial_len == places);
+    for (size_t p = 0; found.number == 0 && p < places; p++)
+        if (is_bad_token(caps[p], initial[p]))
+            return (struct fault){3, p};
+    return found;
+}
+
+/* Refusals 4 and 5. */
+static inline struct fault word_fault(size_t transitions, const uint8_t *word, size_t word_len) {
+    if (word_len > 65535)
+        return (struct fault){4, 0};
+    for (size_t k = 0; k < word_len; k++)
+        if (word[k] >= transitions)
+            return (struct fault){5, k};
+    return (struct fault){0, 0};
+}
+
+/* One place has a capacity and would hold more. */
+static inline int is_over(uint8_t takes, uint8_t puts, uint16_t cap, uint32_t tokens) {
+    return (cap < 65535) & ((uint32_t)cap + takes < tokens + puts);
+}
+
+/* Whether a letter passes: one plain pass over the places, with no way out on the way. */
+static inline int may_fire(const uint8_t *takes, const uint8_t *puts, const uint16_t *caps, const uint32_t *marking,
+                           size_t places) {
+    uint32_t stopped = 0;
+    for (size_t p = 0; p < places; p++)
+        stopped += (marking[p] < takes[p]) | is_over(takes[p], puts[p], caps[p], marking[p]);
+    return stopped == 0;
+}
+
+/* Fires a letter in place. */
+static inline void fire(const uint8_t *restrict takes, const uint8_t *restrict puts, uint32_t *restrict marking,
+                        size_t places) {
+    for (size_t p = 0; p < places; p++)
+        marking[p] = marking[p] + puts[p] - takes[p];
+}
+
+/* A given marking into room for one that may hold more. */
+static inline void load(const uint16_t *restrict given, uint32_t *restrict room, size_t places) {
+    for (size_t p = 0; p < places; p++)
+        room[p] = given[p];
+}
+
+#endif

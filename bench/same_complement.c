@@ -1,0 +1,82 @@
+/* The complement net and a place weighting, as crates/complement and crates/weighting do it. */
+#include "same.h"
+
+/* All transitions' weights: what is kept, then at each capped place what the other row has more. */
+static void write_rows(size_t places, size_t transitions, size_t wide, const uint8_t *kept, const uint8_t *other,
+                       const uint16_t *caps, uint8_t *room) {
+    for (size_t t = 0; t < transitions; t++) {
+        const uint8_t *k = kept + t * places, *o = other + t * places;
+        size_t at = t * wide;
+        for (size_t p = 0; p < places; p++)
+            room[at + p] = k[p];
+        at += places;
+        for (size_t p = 0; p < places; p++)
+            if (caps[p] < 65535)
+                room[at++] = o[p] < k[p] ? 0 : (uint8_t)(o[p] - k[p]);
+    }
+}
+
+/* How many places have a capacity. */
+static size_t count_capped(size_t places, const uint16_t *caps) {
+    size_t count = 0;
+    for (size_t p = 0; p < places; p++)
+        count += caps[p] < 65535;
+    return count;
+}
+
+/* The refusals, then the four rooms one after another. */
+kaunorpi_answer same_complement_net(KAUNORPI_NET, const uint16_t *initial, size_t initial_len, uint8_t *pre2,
+                                    size_t pre2_len, uint8_t *post2, size_t post2_len, uint16_t *caps2,
+                                    size_t caps2_len, uint16_t *initial2, size_t initial2_len) {
+    size_t wide, at = places;
+    struct fault found = net_fault(places, transitions, pre, pre_len, post, post_len, caps, caps_len, 1);
+    if (found.number != 0)
+        return (kaunorpi_answer){KAUNORPI_REFUSED, found.number, found.at};
+    wide = places + count_capped(places, caps);
+    found = first_fault(places, transitions, pre, pre_len, post, post_len, caps, caps_len, initial, initial_len,
+                        pre2_len == transitions * wide && post2_len == transitions * wide && caps2_len == wide &&
+                            initial2_len == wide);
+    if (found.number == 0 && wide > 64)
+        found = (struct fault){10, 0};
+    if (found.number != 0)
+        return (kaunorpi_answer){KAUNORPI_REFUSED, found.number, found.at};
+    write_rows(places, transitions, wide, pre, post, caps, pre2);
+    write_rows(places, transitions, wide, post, pre, caps, post2);
+    for (size_t p = 0; p < wide; p++)
+        caps2[p] = 65535;
+    for (size_t p = 0; p < places; p++)
+        initial2[p] = initial[p];
+    for (size_t p = 0; p < places; p++)
+        if (caps[p] < 65535)
+            initial2[at++] = (uint16_t)(caps[p] - initial[p]);
+    return (kaunorpi_answer){KAUNORPI_ANSWERED, 0, 0};
+}
+
+/* What an entry and one cell add to the first of the two sums. */
+static inline uint64_t share_of(int16_t x, uint8_t takes, uint8_t puts) {
+    uint32_t up = x < 0 ? 0 : (uint32_t)x, down = x < 0 ? (uint32_t)~x + 1 : 0;
+    return (uint64_t)(up * puts) + (uint64_t)(down * takes);
+}
+
+/* The refusals, then two unsigned sums for each transition. */
+kaunorpi_answer same_place_weighting(KAUNORPI_NET, const int16_t *y, size_t y_len) {
+    size_t k = 0;
+    struct fault found =
+        net_fault(places, transitions, pre, pre_len, post, post_len, caps, caps_len, y_len == places);
+    if (found.number != 0)
+        return (kaunorpi_answer){KAUNORPI_REFUSED, found.number, found.at};
+    while (k < places && y[k] == 0)
+        k++;
+    if (k == places)
+        return (kaunorpi_answer){KAUNORPI_REFUSED, 8, 0};
+    for (size_t t = 0; t < transitions; t++) {
+        uint64_t gained = 0, lost = 0;
+        for (size_t p = 0; p < places; p++) {
+            gained += share_of(y[p], pre[t * places + p], post[t * places + p]);
+            lost += share_of(y[p], post[t * places + p], pre[t * places + p]);
+        }
+        if (gained != lost)
+            return (kaunorpi_answer){KAUNORPI_ANSWERED, 1, t};
+    }
+    return (kaunorpi_answer){KAUNORPI_ANSWERED, 0, 0};
+}

@@ -1,0 +1,126 @@
+/* How each question is put to a side, and what must come of it. */
+#include "compare.h"
+
+/* The two sides: every question of the library, and of the reference. */
+#define SIDE(question) \
+    static __typeof__(kaunorpi_##question) *const side_##question[2] = {kaunorpi_##question, reference_##question};
+SIDE(replay_word)
+SIDE(replay_stretch)
+SIDE(empty_summary)
+SIDE(summary_word)
+SIDE(summary_stretch)
+SIDE(join_summaries)
+SIDE(ask_summary)
+SIDE(place_weighting)
+SIDE(transition_weighting)
+SIDE(place_bound)
+SIDE(siphon_set)
+SIDE(trap_set)
+SIDE(closed_list)
+SIDE(closed_target)
+SIDE(closed_stall)
+SIDE(cover_list)
+SIDE(cover_target)
+SIDE(complement_places)
+SIDE(complement_net)
+SIDE(read_case)
+
+/* A lent piece as a pointer and a length; the net; the three lists of a summary. */
+#define LENT(piece) on_side(side, &in.piece), in.piece.count
+#define NET in.places, in.transitions, LENT(pre), LENT(post), LENT(caps)
+#define SUMMARY(which) LENT(need[which]), LENT(climb[which]), LENT(change[which])
+
+/* A question whose answer has only kind, number and position. */
+#define PLAIN(question, ...) \
+    static struct given ask_##question(int side) { \
+        kaunorpi_answer a = side_##question[side](NET, __VA_ARGS__); \
+        return (struct given){a.kind, a.number, {a.position}, a.number}; \
+    }
+PLAIN(ask_summary, LENT(initial), in.summary_places[0], in.letters[0], SUMMARY(0), LENT(room))
+PLAIN(place_weighting, LENT(weights))
+PLAIN(transition_weighting, LENT(weights))
+PLAIN(siphon_set, LENT(set))
+PLAIN(trap_set, LENT(set))
+PLAIN(complement_net, LENT(initial), LENT(pre2), LENT(post2), LENT(caps2), LENT(initial2))
+
+/* A question of replay. */
+#define REPLAY(question, ...) \
+    static struct given ask_##question(int side) { \
+        kaunorpi_replay a = side_##question[side](NET, __VA_ARGS__); \
+        return (struct given){a.kind, a.number, {a.position, a.place}, a.number}; \
+    }
+REPLAY(replay_word, LENT(initial), LENT(word), LENT(room))
+REPLAY(replay_stretch, LENT(initial), LENT(word), in.start, in.end, LENT(room))
+
+/* A question whose answer is a summary. */
+#define MAKES(question, ...) \
+    static struct given ask_##question(int side) { \
+        kaunorpi_summary a = side_##question[side](__VA_ARGS__, SUMMARY(2)); \
+        return (struct given){a.kind, a.number, {a.position, a.places, a.letters}, a.number}; \
+    }
+MAKES(empty_summary, in.places)
+MAKES(summary_word, NET, LENT(word))
+MAKES(summary_stretch, NET, LENT(word), in.start, in.end)
+MAKES(join_summaries, in.summary_places[0], in.letters[0], SUMMARY(0), in.summary_places[1], in.letters[1], SUMMARY(1))
+
+/* A question about a list. */
+#define LISTS(question, ...) \
+    static struct given ask_##question(int side) { \
+        kaunorpi_list a = side_##question[side](NET, LENT(initial), __VA_ARGS__); \
+        return (struct given){a.kind, a.number, {a.position, a.transition}, a.number}; \
+    }
+LISTS(closed_list, LENT(list))
+LISTS(closed_target, LENT(list), LENT(target))
+LISTS(closed_stall, LENT(list))
+LISTS(cover_list, LENT(list))
+LISTS(cover_target, LENT(list), LENT(target))
+
+/* The bound; "no bound" is counted by its cause, as 21, 22 and 23. */
+static struct given ask_place_bound(int side) {
+    kaunorpi_bound a = side_place_bound[side](NET, LENT(initial), LENT(weights), in.place);
+    int none = a.kind == KAUNORPI_ANSWERED && a.number == 1;
+    return (struct given){a.kind, a.number, {a.position, a.bound}, none ? 20 + (int)a.position : a.number};
+}
+
+/* The complement's place count. */
+static struct given ask_complement_places(int side) {
+    kaunorpi_places a = side_complement_places[side](NET);
+    return (struct given){a.kind, a.number, {a.position, a.places}, a.number};
+}
+
+/* The case file. */
+static struct given ask_read_case(int side) {
+    kaunorpi_case a =
+        side_read_case[side](LENT(file), LENT(caps2), LENT(initial2), LENT(pre2), LENT(post2), LENT(room));
+    return (struct given){a.kind, a.number, {a.position, a.places, a.transitions, a.letters}, a.number};
+}
+
+#define B(number) (1u << (number))
+const struct question questions[] = {
+    {"replay_word", make_replay, ask_replay_word, B(0) | B(1) | B(2), B(0) | B(1) | B(2),
+     B(1) | B(2) | B(3) | B(4) | B(5), B(3) | B(5)},
+    {"replay_stretch", make_replay_stretch, ask_replay_stretch, B(0) | B(1) | B(2), B(0) | B(1) | B(2),
+     B(1) | B(2) | B(3) | B(4) | B(5), B(3) | B(5)},
+    {"empty_summary", make_empty, ask_empty_summary, B(0), 0, B(1) | B(2), 0},
+    {"summary_word", make_summary, ask_summary_word, B(0), 0, B(1) | B(2) | B(4) | B(5), B(5)},
+    {"summary_stretch", make_summary_stretch, ask_summary_stretch, B(0), 0, B(1) | B(2) | B(4) | B(5), B(5)},
+    {"join_summaries", make_join, ask_join_summaries, B(0), 0, B(1) | B(2) | B(6) | B(7), B(6)},
+    {"ask_summary", make_ask, ask_ask_summary, B(0) | B(1), 0, B(1) | B(2) | B(3) | B(6), B(3) | B(6)},
+    {"place_weighting", make_place_weighting, ask_place_weighting, B(0) | B(1), B(1), B(1) | B(2) | B(8), 0},
+    {"transition_weighting", make_transition_weighting, ask_transition_weighting, B(0) | B(1) | B(2), B(1),
+     B(1) | B(2) | B(8), 0},
+    {"place_bound", make_bound, ask_place_bound, B(0), B(21) | B(22) | B(23), B(1) | B(2) | B(3) | B(8) | B(13), B(3)},
+    {"siphon_set", make_set, ask_siphon_set, B(0) | B(1), B(1), B(1) | B(2) | B(8), 0},
+    {"trap_set", make_set, ask_trap_set, B(0) | B(1), B(1), B(1) | B(2) | B(8), 0},
+    {"closed_list", make_closed, ask_closed_list, B(0) | B(1) | B(2), B(2), B(1) | B(2) | B(3) | B(9), B(3)},
+    {"closed_target", make_closed_target, ask_closed_target, B(0) | B(1) | B(2) | B(3), B(2),
+     B(1) | B(2) | B(3) | B(9), B(3)},
+    {"closed_stall", make_closed, ask_closed_stall, B(0) | B(1) | B(2) | B(3), B(2), B(1) | B(2) | B(3) | B(9), B(3)},
+    {"cover_list", make_cover, ask_cover_list, B(0) | B(1) | B(2), B(2), B(1) | B(2) | B(3) | B(9), B(3)},
+    {"cover_target", make_cover_target, ask_cover_target, B(0) | B(1) | B(2) | B(3), B(2), B(1) | B(2) | B(3) | B(9),
+     B(3)},
+    {"complement_places", make_complement_places, ask_complement_places, B(0), 0, B(1) | B(2) | B(10), 0},
+    {"complement_net", make_complement, ask_complement_net, B(0), 0, B(1) | B(2) | B(3) | B(10), B(3)},
+    {"read_case", make_case, ask_read_case, B(0), 0, B(2), B(1) | B(3) | B(4) | B(5) | B(11) | B(12)},
+};
+const size_t question_count = sizeof questions / sizeof questions[0];

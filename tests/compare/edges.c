@@ -1,0 +1,113 @@
+/* Edges of document 01 that the inputs must have met: each is a kind of input and answer, and is counted. */
+#include "compare.h"
+
+#include <stdio.h>
+#include <string.h>
+
+/* Is it this answer (not a refusal)? */
+static int answered(const struct given *g, int number) {
+    return g->kind == KAUNORPI_ANSWERED && g->number == number;
+}
+
+/* Is it this refusal? */
+static int refused(const struct given *g, int number) {
+    return g->kind == KAUNORPI_REFUSED && g->number == number;
+}
+
+/* The largest tokens in the room of the reference. */
+static uint32_t largest(void) {
+    const uint32_t *room = on_side(REFERENCE, &in.room);
+    uint32_t most = 0;
+    for (size_t p = 0; p < in.room.count; p++)
+        most = room[p] > most ? room[p] : most;
+    return most;
+}
+
+/* Two faults at once: the lower number must win, so a later one has to be there too. */
+static int two_faults(const struct given *g) {
+    return refused(g, 2) && in.initial.count > 0 && in.places <= 64 && *(const uint16_t *)own(&in.initial) == 65535;
+}
+
+static int all_fired_long(const struct given *g) { return answered(g, 0) && g->field[0] == 65535; }
+static int short_late(const struct given *g) { return answered(g, 1) && g->field[0] > 1000; }
+static int over_late(const struct given *g) { return answered(g, 2) && g->field[0] > 1000; }
+static int most_tokens(const struct given *g) { return answered(g, 0) && largest() == 16776959; }
+static int all_places(const struct given *g) { return g->kind == KAUNORPI_ANSWERED && in.places == 64; }
+static int all_transitions(const struct given *g) { return g->kind == KAUNORPI_ANSWERED && in.transitions == 64; }
+static int one_place_more(const struct given *g) { return refused(g, 1) && in.places == 65; }
+static int one_letter_more(const struct given *g) { return refused(g, 4) && in.word.count == 65536; }
+static int part_of_long(const struct given *g) { return answered(g, 0) && in.word.count > 65536 && g->field[0] == 65535; }
+static int empty_at_end(const struct given *g) { return answered(g, 0) && in.start == in.word.count && in.start > 0; }
+static int null_word(const struct given *g) { return answered(g, 0) && in.word.is_null; }
+static int long_summary(const struct given *g) { return answered(g, 0) && g->field[2] == 65535; }
+static int whole_list(const struct given *g) { return answered(g, 0) && in.list.count == 4096 * in.places; }
+static int list_one_more(const struct given *g) { return refused(g, 9) && in.list.count == 4097 * in.places; }
+static int three_before_nine(const struct given *g) { return refused(g, 3) && in.list.count > 4096 * in.places; }
+static int full_complement(const struct given *g) { return answered(g, 0) && g->field[1] == 64; }
+static int complement_one_more(const struct given *g) { return refused(g, 10) && in.initial2.count == 65; }
+static int letter_after_limit(const struct given *g) { return refused(g, 4) && wants(5); }
+static int longest_file(const struct given *g) { return answered(g, 0) && g->field[3] == 65535; }
+
+/* A question's edge, and how often it came. */
+static struct edge {
+    const char *question, *what;
+    int (*is_met)(const struct given *g);
+    unsigned long met;
+} edges[] = {
+    {"replay_word", "all of 65,535 letters fire", all_fired_long, 0},
+    {"replay_word", "short after 1,000 letters", short_late, 0},
+    {"replay_word", "over capacity after 1,000 letters", over_late, 0},
+    {"replay_word", "the most tokens that a replay reaches", most_tokens, 0},
+    {"replay_word", "64 places", all_places, 0},
+    {"replay_word", "64 transitions", all_transitions, 0},
+    {"replay_word", "65 places", one_place_more, 0},
+    {"replay_word", "65,536 letters", one_letter_more, 0},
+    {"replay_word", "no letters, at no address", null_word, 0},
+    {"replay_word", "refusals 2 and 3 at once", two_faults, 0},
+    {"replay_stretch", "65,535 letters of a longer word", part_of_long, 0},
+    {"replay_stretch", "an empty stretch at the word's end", empty_at_end, 0},
+    {"summary_word", "65,535 letters", long_summary, 0},
+    {"join_summaries", "65,535 letters together", long_summary, 0},
+    {"ask_summary", "64 places", all_places, 0},
+    {"place_weighting", "64 places", all_places, 0},
+    {"closed_list", "4,096 markings", whole_list, 0},
+    {"closed_list", "4,097 markings", list_one_more, 0},
+    {"closed_list", "64 places", all_places, 0},
+    {"closed_list", "refusal 3 in a list that is too long", three_before_nine, 0},
+    {"cover_list", "4,096 markings", whole_list, 0},
+    {"complement_places", "64 places with the complement's", full_complement, 0},
+    {"complement_net", "65 places with the complement's", complement_one_more, 0},
+    {"read_case", "65,535 letters", longest_file, 0},
+    {"read_case", "a wrong letter on the line of letter 65,536", letter_after_limit, 0},
+};
+
+/* Counts the edges that this input and answer meet. */
+void count_edges(const char *question, const struct given *g) {
+    for (size_t k = 0; k < sizeof edges / sizeof edges[0]; k++)
+        if (edges[k].question == question)
+            edges[k].met += edges[k].is_met(g) != 0;
+}
+
+/* Ties the edges to the questions' own names, so that counting need not compare text. */
+void start_edges(void) {
+    for (size_t k = 0; k < sizeof edges / sizeof edges[0]; k++)
+        for (size_t q = 0; q < question_count; q++)
+            if (strcmp(edges[k].question, questions[q].name) == 0)
+                edges[k].question = questions[q].name;
+}
+
+/* Reports the edges of a question that were never met; with show, how often each was. */
+int missed_edges(const char *question, int show) {
+    int lacks = 0;
+    for (size_t k = 0; k < sizeof edges / sizeof edges[0]; k++) {
+        if (edges[k].question != question)
+            continue;
+        if (show)
+            printf("%s: %s: %lu\n", question, edges[k].what, edges[k].met);
+        if (edges[k].met == 0) {
+            printf("compare: %s never met: %s\n", question, edges[k].what);
+            lacks = 1;
+        }
+    }
+    return lacks;
+}

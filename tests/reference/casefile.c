@@ -1,0 +1,158 @@
+/* A case file, line by line. */
+#include "reference.h"
+
+/* What has been read so far; `line` counts the lines taken, `last` the letters of the last frame 05 (64 before any). */
+struct reading {
+    size_t line, places, transitions, next, letters, last;
+    uint16_t caps[64], tokens[64];
+    uint8_t pre[4096], post[4096], word[65535];
+};
+
+/* A digit 0-9 or A-F as its number; 16 for anything else. */
+static int digit(uint8_t byte) {
+    if (byte >= '0' && byte <= '9')
+        return byte - '0';
+    if (byte >= 'A' && byte <= 'F')
+        return byte - 'A' + 10;
+    return 16;
+}
+
+/* Refusal 11: the digits of a line, an even number from 2 to 260, into bytes. */
+static int frame_of(const uint8_t *digits, size_t count, uint8_t *frame) {
+    if (count < 2 || count > 260 || count % 2 != 0)
+        return 11;
+    for (size_t i = 0; i < count; i++)
+        if (digit(digits[i]) == 16)
+            return 11;
+    for (size_t i = 0; i < count / 2; i++)
+        frame[i] = (uint8_t)(digit(digits[2 * i]) * 16 + digit(digits[2 * i + 1]));
+    return 0;
+}
+
+/* A number of two bytes, the high byte first. */
+static uint16_t two(const uint8_t *bytes) {
+    return (uint16_t)(bytes[0] * 256 + bytes[1]);
+}
+
+/* 01 P T. */
+static int read_counts(struct reading *r, const uint8_t *frame, size_t size) {
+    if (size != 3)
+        return 12;
+    r->places = frame[1];
+    r->transitions = frame[2];
+    if (r->places < 1 || r->places > 64 || r->transitions < 1 || r->transitions > 64)
+        return 1;
+    return 0;
+}
+
+/* 02 with P capacities, 03 with P tokens; tokens of 65,535 or above capacity are refusal 3. */
+static int read_numbers(struct reading *r, const uint8_t *frame, size_t size) {
+    uint16_t *to = frame[0] == 2 ? r->caps : r->tokens;
+    if (size != 1 + 2 * r->places)
+        return 12;
+    for (size_t p = 0; p < r->places; p++)
+        to[p] = two(frame + 1 + 2 * p);
+    for (size_t p = 0; frame[0] == 3 && p < r->places; p++)
+        if (r->tokens[p] == 65535 || (r->caps[p] != 65535 && r->tokens[p] > r->caps[p]))
+            return 3;
+    return 0;
+}
+
+/* 04 t, P Pre bytes, P Post bytes; one for each t in order from 0. */
+static int read_row(struct reading *r, const uint8_t *frame, size_t size) {
+    if (size != 2 + 2 * r->places || frame[1] != r->next)
+        return 12;
+    for (size_t p = 0; p < r->places; p++) {
+        r->pre[r->next * r->places + p] = frame[2 + p];
+        r->post[r->next * r->places + p] = frame[2 + r->places + p];
+    }
+    r->next++;
+    return 0;
+}
+
+/* 05 with 1 to 64 letters; all but the last hold 64, else the next 05 is faulty. */
+static int read_letters(struct reading *r, const uint8_t *frame, size_t size) {
+    size_t count = size - 1;
+    if (count < 1 || count > 64 || RULE(8, r->last != 64, 0))
+        return 12;
+    if (r->letters + count > 65535)
+        return 4;
+    for (size_t i = 0; i < count; i++)
+        if (frame[1 + i] >= r->transitions)
+            return 5;
+    for (size_t i = 0; i < count; i++)
+        r->word[r->letters++] = frame[1 + i];
+    r->last = count;
+    return 0;
+}
+
+/* The kind that this line must have: 01, 02, 03, then 04 for each transition, then 05. */
+static int due(const struct reading *r) {
+    if (r->line <= 3)
+        return (int)r->line;
+    return r->next < r->transitions ? 4 : 5;
+}
+
+/* One frame: unknown kind and wrong order are 12, and the rest is up to the kind. */
+static int read_frame(struct reading *r, const uint8_t *frame, size_t size) {
+    if (frame[0] != due(r))
+        return 12;
+    switch (frame[0]) {
+    case 1:
+        return read_counts(r, frame, size);
+    case 2:
+    case 3:
+        return read_numbers(r, frame, size);
+    case 4:
+        return read_row(r, frame, size);
+    default:
+        return read_letters(r, frame, size);
+    }
+}
+
+/* Every line, up to the earliest faulty one; frames missing at the end count as the line after the last. */
+static int read_lines(struct reading *r, const uint8_t *file, size_t file_len) {
+    size_t at = 0;
+    while (at < file_len) {
+        uint8_t frame[130];
+        size_t end = at;
+        int number;
+        r->line++;
+        while (end < file_len && file[end] != '\n')
+            end++;
+        if (end == file_len)
+            return 11;
+        number = frame_of(file + at, end - at, frame);
+        if (number == 0)
+            number = read_frame(r, frame, (end - at) / 2);
+        if (number != 0)
+            return number;
+        at = end + 1;
+    }
+    r->line++;
+    return r->line <= 4 || r->next < r->transitions ? 12 : 0;
+}
+
+/* Refusal 2 for the rooms, then the file; the rooms are written once the whole file is found right. */
+kaunorpi_case reference_read_case(const uint8_t *file, size_t file_len, uint16_t *caps, size_t caps_len,
+                                  uint16_t *initial, size_t initial_len, uint8_t *pre, size_t pre_len, uint8_t *post,
+                                  size_t post_len, uint8_t *word, size_t word_len) {
+    struct reading r = {.last = 64};
+    int number;
+    if (caps_len != 64 || initial_len != 64 || pre_len != 4096 || post_len != 4096 || word_len != 65535)
+        return (kaunorpi_case){KAUNORPI_REFUSED, 2, 0, 0, 0, 0};
+    number = read_lines(&r, file, file_len);
+    if (number != 0)
+        return (kaunorpi_case){KAUNORPI_REFUSED, (uint8_t)number, r.line, 0, 0, 0};
+    for (size_t p = 0; p < r.places; p++) {
+        caps[p] = r.caps[p];
+        initial[p] = r.tokens[p];
+    }
+    for (size_t i = 0; i < r.places * r.transitions; i++) {
+        pre[i] = r.pre[i];
+        post[i] = r.post[i];
+    }
+    for (size_t i = 0; i < r.letters; i++)
+        word[i] = r.word[i];
+    return (kaunorpi_case){KAUNORPI_ANSWERED, 0, 0, r.places, r.transitions, r.letters};
+}

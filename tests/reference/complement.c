@@ -1,0 +1,80 @@
+/* The complement net. */
+#include "reference.h"
+
+/* Old places and one more for each capped place. */
+static size_t new_places(const struct net *net) {
+    size_t count = net->places;
+    for (size_t p = 0; p < net->places; p++)
+        if (reference_capped(net, p) && RULE(21, 1, net->caps[p] > 0))
+            count++;
+    return count;
+}
+
+/* How many places the complement net has. Refusals 1 2 10. */
+kaunorpi_places reference_complement_places(KAUNORPI_NET) {
+    struct net net = LENT_NET;
+    if (reference_counts_fault(&net))
+        return (kaunorpi_places){KAUNORPI_REFUSED, 1, 0, 0};
+    if (reference_lengths_fault(&net))
+        return (kaunorpi_places){KAUNORPI_REFUSED, 2, 0, 0};
+    if (new_places(&net) > 64)
+        return (kaunorpi_places){KAUNORPI_REFUSED, 10, 0, 0};
+    return (kaunorpi_places){KAUNORPI_ANSWERED, 0, 0, new_places(&net)};
+}
+
+/* The old arcs of transition t, and those of the new places: "Change > 0 becomes an arc from it, change < 0 an arc to
+ * it". */
+static void write_arcs(const struct net *net, size_t t, uint8_t *pre2, uint8_t *post2) {
+    size_t next = net->places;
+    for (size_t p = 0; p < net->places; p++) {
+        int64_t change = reference_change(net, p, t);
+        pre2[p] = (uint8_t)reference_pre(net, p, t);
+        post2[p] = (uint8_t)reference_post(net, p, t);
+        if (reference_capped(net, p)) {
+            pre2[next] = (uint8_t)(change > 0 ? change : 0);
+            post2[next] = (uint8_t)(change < 0 ? -change : 0);
+            next++;
+        }
+    }
+}
+
+/* The old tokens, and capacity minus tokens; no capacities remain. */
+static void write_tokens(const struct net *net, const uint16_t *initial, uint16_t *caps2, uint16_t *initial2) {
+    size_t next = net->places;
+    for (size_t p = 0; p < net->places; p++) {
+        initial2[p] = initial[p];
+        caps2[p] = 65535;
+        if (reference_capped(net, p)) {
+            initial2[next] = (uint16_t)(net->caps[p] - initial[p]);
+            caps2[next] = 65535;
+            next++;
+        }
+    }
+}
+
+/* The complement net into rooms of its own lengths. Refusals 1 2 3 10. */
+kaunorpi_answer reference_complement_net(KAUNORPI_NET, const uint16_t *initial, size_t initial_len, uint8_t *pre2,
+                                         size_t pre2_len, uint8_t *post2, size_t post2_len, uint16_t *caps2,
+                                         size_t caps2_len, uint16_t *initial2, size_t initial2_len) {
+    struct net net = LENT_NET;
+    size_t count, at;
+    if (reference_counts_fault(&net))
+        return (kaunorpi_answer){KAUNORPI_REFUSED, 1, 0};
+    if (reference_lengths_fault(&net) || initial_len != places)
+        return (kaunorpi_answer){KAUNORPI_REFUSED, 2, 0};
+    count = new_places(&net);
+    if (pre2_len != transitions * count || post2_len != transitions * count || caps2_len != count ||
+        initial2_len != count)
+        return (kaunorpi_answer){KAUNORPI_REFUSED, 2, 0};
+    at = reference_tokens_fault(&net, initial);
+    if (at != NOWHERE)
+        return (kaunorpi_answer){KAUNORPI_REFUSED, 3, at};
+    if (count > 64)
+        return (kaunorpi_answer){KAUNORPI_REFUSED, 10, 0};
+    for (size_t t = 0; t < transitions; t++)
+        write_arcs(&net, t, pre2 + t * count, post2 + t * count);
+    write_tokens(&net, initial, caps2, initial2);
+    if (RULE(10, 0, 1))
+        initial2[count] = 65535;
+    return (kaunorpi_answer){KAUNORPI_ANSWERED, 0, 0};
+}

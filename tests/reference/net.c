@@ -1,0 +1,77 @@
+/* The net, firing, and the refusals that every question about a net shares. */
+#include "reference.h"
+
+#ifdef SELF_CHECK
+int reference_wrong;
+#endif
+
+/* Pre(p,t): what t takes from p. */
+int64_t reference_pre(const struct net *net, size_t p, size_t t) {
+    return net->pre[t * net->places + p];
+}
+
+/* Post(p,t): what t puts into p. */
+int64_t reference_post(const struct net *net, size_t p, size_t t) {
+    return net->post[t * net->places + p];
+}
+
+/* Change(p,t) = Post - Pre. */
+int64_t reference_change(const struct net *net, size_t p, size_t t) {
+    return reference_post(net, p, t) - reference_pre(net, p, t);
+}
+
+/* Has place p a capacity? "65,535 means none". */
+int reference_capped(const struct net *net, size_t p) {
+    return net->caps[p] != 65535;
+}
+
+/* The lowest place short of tokens for t: not Pre(p,t) <= m(p). */
+size_t reference_short(const struct net *net, const int64_t *m, size_t t) {
+    for (size_t p = 0; p < net->places; p++)
+        if (!(reference_pre(net, p, t) <= m[p]))
+            return p;
+    return NOWHERE;
+}
+
+/* The lowest place over: not m(p) + Change(p,t) <= capacity, where there is one. */
+size_t reference_over(const struct net *net, const int64_t *m, size_t t) {
+    for (size_t p = 0; p < net->places; p++) {
+        int64_t more = RULE(1, reference_change(net, p, t), reference_post(net, p, t));
+        if (reference_capped(net, p) && !(m[p] + more <= net->caps[p]))
+            return p;
+    }
+    return NOWHERE;
+}
+
+/* Firing gives m(p) + Change(p,t). */
+void reference_fire(const struct net *net, int64_t *m, size_t t) {
+    for (size_t p = 0; p < net->places; p++)
+        m[p] = m[p] + reference_change(net, p, t);
+}
+
+/* Refusal 1: a place or transition count outside 1..64. */
+int reference_counts_fault(const struct net *net) {
+    return net->places < 1 || net->places > 64 || net->transitions < 1 || net->transitions > 64;
+}
+
+/* Refusal 2 for the net's own lists; the counts are right. */
+int reference_lengths_fault(const struct net *net) {
+    return net->pre_len != net->places * net->transitions || net->post_len != net->places * net->transitions ||
+           net->caps_len != net->places;
+}
+
+/* Refusal 3 for a marking: the lowest place with 65,535 tokens or tokens above capacity. */
+size_t reference_tokens_fault(const struct net *net, const uint16_t *marking) {
+    for (size_t p = 0; p < net->places; p++)
+        if (marking[p] == 65535 || (reference_capped(net, p) && marking[p] > net->caps[p]))
+            return p;
+    return NOWHERE;
+}
+
+/* Refusal 5 for a stretch: the first letter that names no transition, counted from the stretch's first. */
+size_t reference_letters_fault(const struct net *net, const uint8_t *word, size_t start, size_t end) {
+    for (size_t i = start; i < end; i++)
+        if (word[i] >= net->transitions)
+            return i - start;
+    return NOWHERE;
+}
