@@ -3,3 +3,4 @@ pub mod Ends
 pub mod Fold
 pub mod Meaning
 pub mod Samples
+pub mod Accepted

@@ -1,7 +1,3 @@
-This file is crates/casefile/proofs/Accepted.antt, proved on a merge of the branches casefile and written (rt check casefile: ok). What is missing: the branch
-written. After that merge: put the text below there, add `pub mod Accepted` to crates/casefile/proofs/Lib.antt, and make crates.txt's line
-`casefile: ground frames net reading parts written`.
-
 -- "Accepted exactly if the file is the frames of a net and word within the limits, and then net and word are those", for `read_case`. Assumes nothing.
 use Prim.Native.Nat.{ℕ, _*_}
 use mathlib.Core.Path.{_≡_, refl, sym, ap, _∙_}
