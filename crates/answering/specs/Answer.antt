@@ -1,7 +1,7 @@
 -- The line that the program writes, as a function of what a case file comes to.
 use Prim.Native.Nat.{ℕ, _*_}
 use mathlib.Core.Bool.{true}
-use mathlib.Core.List.{List, []}
+use mathlib.Core.List.{List, [], _∷_, _++_}
 use lib.ListN.{take}
 use Rattle.ground.specs.Lists.{table}
 use Rattle.reading.specs.declared.Reading.{Reading}
@@ -54,3 +54,13 @@ comesTo f x = feedAll (both (going fresh []) x) f
 
 abbrev pub fileLine : List ℕ → Rooms → List ℕ
 fileLine f x = lineAt (comesTo f x)
+
+-- a file that comes in parts, one after another
+unfoldable pub inParts : Both → List (List ℕ) → Both
+inParts z [] = z
+inParts z (p ∷ ps) = inParts (feedAll z p) ps
+
+-- the same bytes in one
+unfoldable pub joined : List (List ℕ) → List ℕ
+joined [] = []
+joined (p ∷ ps) = p ++ joined ps
