@@ -15,12 +15,12 @@ use Rattle.parts.specs.declared.Case.{Case}
 use Rattle.parts.specs.declared.Case.the-variants as case
 use Rattle.parts.specs.declared.Lines.{Lines}
 use Rattle.parts.specs.declared.Lines.the-variants.{Rest, Broken}
-use Rattle.parts.specs.File.{going, stopped, Both, both, feedAll, finishOf, caseOf, holdOf, Went}
+use Rattle.parts.specs.File.{going, stopped, Both, both, feedAll, finishOf, caseOf, GoodCase, holdOf, Went}
 use Rattle.parts.proofs.Line.{holds}
 use Rattle.parts.proofs.Buffer.{went-rest, went-broken}
 use Rattle.casefile.specs.declared.CaseFile.{CaseFile}
 use Rattle.casefile.specs.declared.CaseFile.the-variants.{Read, Refused}
-use Rattle.casefile.specs.Entry.{Came, came, Comes, endOf, GoodCase, blank, laid, answered, largest, filledOf, numbers, CaseRead}
+use Rattle.casefile.specs.Entry.{Came, came, Comes, endOf, blank, laid, answered, largest, filledOf, numbers, CaseRead}
 
 -- the two ends after whole lines
 module _ (s : Reading) (left : ℕ) where
@@ -33,14 +33,6 @@ module _ (s : Reading) (left : ℕ) where
   end-whole c e q = q ∙ simp (eq-eqb _ _ e)
 
 pub ruleset ends = (end-cut, end-whole)
-
-pub finish-good : (s : Reading) (c : Case) → Good s → c ≡ finishOf s → GoodCase c
-unfolding finishOf
-finish-good s c g e = rw e (go (eqb (s .phase) 5))
-  where
-    go : (b : Bool) → GoodCase (cond b (case.Whole s) (case.Refused 12 (s .line + 1)))
-    go true = g
-    go false = tt
 
 -- the bytes after the last line feed, held or too many, are a line that lacks its own
 hold-is : (t : Reading) (d : List ℕ) → holdOf t [] d ≡ cond (leb (length {A = ℕ} [] + length d) lineLimit) (going t d) (stopped 11 (t .line + 1))
@@ -80,7 +72,7 @@ module _ (f : List ℕ) (s : Reading) (x : Rooms) (r : Lines) (y : Rooms) (n : s
 -- the answer, by what the file came to
 module _ (k : Case) where
   pub whole-good : (s : Reading) → k ≡ case.Whole s → GoodCase k → Good s
-  whole-good s e g = rw e at g
+  whole-good s e g = let h : GoodCase (case.Whole s) = rw e at g in h .0
 
   pub whole-answered : (s : Reading) (y x x′ : Rooms) → k ≡ case.Whole s → x′ ≡ laid s y x → came (Read (s .places) (s .transitions) (s .letters)) x′ ≡ answered k y x
   whole-answered s y x x′ e q = ap (came (Read (s .places) (s .transitions) (s .letters))) q ∙ rw e

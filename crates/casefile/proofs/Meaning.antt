@@ -16,12 +16,12 @@ use Rattle.reading.specs.declared.Took.the-variants as took
 use Rattle.reading.specs.Read.{cellLimit, fresh, Good, Rooms, lineOf, judgeOf, Large}
 use Rattle.parts.specs.declared.Case.{Case}
 use Rattle.parts.specs.declared.Case.the-variants as case
-use Rattle.parts.specs.File.{Run, going, stopped, Both, both, feedAll, finishOf, caseOf, NoFeed}
-use Rattle.parts.proofs.Line.{all-append, holds, refused-line, large}
+use Rattle.parts.specs.File.{Run, going, stopped, Both, both, feedAll, together, feedParts, finishOf, caseOf, NoFeed}
+use Rattle.parts.proofs.Line.{all-append, any-cutting, holds, refused-line, large}
 use Rattle.casefile.specs.declared.CaseFile.{CaseFile}
 use Rattle.casefile.specs.declared.CaseFile.the-variants.{Read, Refused}
 use Rattle.casefile.specs.Entry.{Came, came, largest, Largest, blank, readAll, laid, answered, filledOf, caseFileOf, numbers, CaseRead}
-use Rattle.casefile.specs.Cut.{feeds, together, feedParts, Front}
+use Rattle.casefile.specs.Cut.{feeds, Front}
 use Rattle.casefile.proofs.Fronts.{largest-of, of-largest, cells-fit}
 use Rattle.casefile.proofs.Ends.{blank-large, end-cut, left-over}
 use Rattle.casefile.proofs.Fold.{Counted, fed-file}
@@ -36,12 +36,6 @@ numbers-apart (Refused n l) (Refused k m) e = let x : n ≡ k = cc in let y : l 
 -- the promise has one answer, and one content of the rooms
 pub unique : (file : List ℕ) (x : Rooms) (r r′ : CaseFile) (y y′ : Rooms) → CaseRead file x r y → CaseRead file x r′ y′ → (r ≡ r′) × (y ≡ y′)
 unique file x r r′ y y′ a b = (numbers-apart r r′ (a .answer ∙ sym (b .answer)), a .left ∙ sym (b .left))
-
--- any cutting into parts: the parts read one after another come to what the file does
-pub any-cutting : (z : Both) (parts : List (List ℕ)) → feedParts z parts ≡ feedAll z (together parts)
-unfolding feedParts together feedAll
-any-cutting z [] = refl
-any-cutting z (part ∷ parts) = any-cutting (feedAll z part) parts ∙ sym (all-append z part (together parts))
 
 -- a list laid to the front of a room
 laid-front : (n limit : ℕ) (y x : List ℕ) → n ≤ limit → limit ≤ length y → limit ≤ length x → Front n y x (sets x 0 (take n y))

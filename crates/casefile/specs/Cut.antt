@@ -1,27 +1,16 @@
--- What the theorems on a case file speak of: its lines by number, and its parts.
+-- What the theorems on a case file speak of: its lines by number, and the fronts of rooms.
 use Prim.Native.Nat.{ℕ, _+_}
 use mathlib.Core.Path.{_≡_}
 use mathlib.Core.Bool.{cond}
-use mathlib.Core.List.{List, [], _∷_, _++_}
+use mathlib.Core.List.{List, [], _∷_}
 use lib.ListN.{take, drop}
 use lib.Dec.{eqb}
 use Rattle.frames.specs.Frame.{lineFeed}
-use Rattle.parts.specs.File.{Both, feedAll}
 
 -- the line feeds of a run of bytes, so that the line after them is, "from 1", one more
 unfoldable pub feeds : List ℕ → ℕ
 feeds [] = 0
 feeds (b ∷ bs) = cond (eqb b lineFeed) 1 0 + feeds bs
-
--- a file cut into parts, put together again
-unfoldable pub together : List (List ℕ) → List ℕ
-together [] = []
-together (part ∷ parts) = part ++ together parts
-
--- the same read part after part
-unfoldable pub feedParts : Both → List (List ℕ) → Both
-feedParts z [] = z
-feedParts z (part ∷ parts) = feedParts (feedAll z part) parts
 
 -- the n entries at the front of the room are those of y, and the rest is as found in x
 pub record Front (n : ℕ) (y x room : List ℕ) : Type 0 where

@@ -8,10 +8,10 @@ use lib.Seq.{sets}
 use lib.Dec.{eqb}
 use Rattle.ground.specs.Limits.{countLimit, wordLimit}
 use Rattle.reading.specs.declared.Reading.{Reading}
-use Rattle.reading.specs.Read.{cellLimit, fresh, Good, Rooms, rooms}
+use Rattle.reading.specs.Read.{cellLimit, Rooms, rooms}
 use Rattle.parts.specs.declared.Case.{Case}
 use Rattle.parts.specs.declared.Case.the-variants as case
-use Rattle.parts.specs.File.{Both, both, going, feedAll, finishOf, caseOf}
+use Rattle.parts.specs.File.{Both, readOf, finishOf, caseOf}
 use Rattle.casefile.specs.declared.CaseFile.{CaseFile}
 use Rattle.casefile.specs.declared.CaseFile.the-variants.{Read, Refused}
 
@@ -44,7 +44,7 @@ blank = rooms (replicate countLimit 0) (replicate countLimit 0) (replicate cellL
 
 -- the file byte by byte, from its first line on, into rooms with nothing in them
 abbrev pub readAll : List ℕ → Both
-readAll file = feedAll (both (going fresh []) blank) file
+readAll file = readOf blank file
 
 -- the net's own entries and the word's letters, from y, at the front of x
 abbrev pub laid : Reading → Rooms → Rooms → Rooms
@@ -87,8 +87,3 @@ pub record Comes (z : Both) (r : Case) (y : Rooms) : Type 0 where
 -- the end of a file after whole lines, where so many bytes are left
 unfoldable pub endOf : Reading → ℕ → Case
 endOf s left = cond (eqb left 0) (finishOf s) (case.Refused 11 (s .line + 1))
-
--- the state of a file that was read whole is good
-abbrev pub GoodCase : Case → Type 0
-GoodCase (case.Whole s) = Good s
-GoodCase (case.Refused n l) = Unit {0}

@@ -12,8 +12,8 @@ ghost use lib.ListN.{length, replicate};
 ghost use lib.Seq.{sets};
 ghost use Rattle.ground.specs.Limits.{countLimit, wordLimit};
 ghost use Rattle.reading.specs.Read.{cellLimit, fresh, Good, Large, rooms};
-ghost use Rattle.parts.specs.File.{going, both, feedAll};
-ghost use Rattle.casefile.specs.Entry.{came, Comes, GoodCase, endOf, largestOf, laid, answered, filledOf, CaseRead};
+ghost use Rattle.parts.specs.File.{going, both, feedAll, GoodCase};
+ghost use Rattle.casefile.specs.Entry.{came, Comes, endOf, largestOf, laid, answered, filledOf, CaseRead};
 
 // The most entries of Pre, and of Post.
 const CELL_LIMIT: usize = COUNT_LIMIT * COUNT_LIMIT;

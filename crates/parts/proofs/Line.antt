@@ -17,7 +17,7 @@ use Rattle.reading.specs.Read.{Good, Rooms, rooms, lineOf, roomsOf, judgeOf, ju
 use Rattle.reading.proofs.Turns.{rule-says, judge-rule}
 use Rattle.reading.proofs.Accept.{cond-then}
 use Rattle.parts.specs.declared.Case.the-variants.{Whole, Refused}
-use Rattle.parts.specs.File.{finishOf, going, stopped, Both, both, ended, fedTo, feedOf, feedAll, lineLen, NoFeed, holdOf}
+use Rattle.parts.specs.File.{finishOf, going, stopped, Both, both, ended, fedTo, feedOf, feedAll, together, feedParts, lineLen, NoFeed, holdOf}
 use Rattle.reading.specs.declared.Took.the-variants as took
 
 -- a turn of the search for the line feed
@@ -112,6 +112,12 @@ pub all-append : (z : Both) (cs bs : List ℕ) → feedAll z (cs ++ bs) ≡ feed
 unfolding feedAll
 all-append z [] bs = refl
 all-append z (a ∷ cs) bs = all-append (feedOf z a) cs bs
+
+-- any cutting into parts: the parts read one after another come to what the file does
+pub any-cutting : (z : Both) (parts : List (List ℕ)) → feedParts z parts ≡ feedAll z (together parts)
+unfolding feedParts together feedAll
+any-cutting z [] = refl
+any-cutting z (part ∷ parts) = any-cutting (feedAll z part) parts ∙ sym (all-append z part (together parts))
 
 -- bytes with no line feed are held
 pub held : (s : Reading) (x : Rooms) (d l rest : List ℕ) → length l + length d ≤ lineLimit → NoFeed d

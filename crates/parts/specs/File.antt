@@ -9,7 +9,7 @@ use Rattle.frames.specs.Frame.{lineLimit, lineFeed}
 use Rattle.reading.specs.declared.Reading.{Reading}
 use Rattle.reading.specs.declared.Took.{Took}
 use Rattle.reading.specs.declared.Took.the-variants as took
-use Rattle.reading.specs.Read.{Good, Rooms, lineOf, roomsOf}
+use Rattle.reading.specs.Read.{Good, Rooms, fresh, lineOf, roomsOf}
 use Rattle.parts.specs.declared.Held.{Held}
 use Rattle.parts.specs.declared.Case.{Case}
 use Rattle.parts.specs.declared.Case.the-variants.{Whole, Refused}
@@ -46,6 +46,20 @@ feedOf z b = fedTo (z .run) (z .rooms) b
 unfoldable pub feedAll : Both → List ℕ → Both
 feedAll z [] = z
 feedAll z (b ∷ bs) = feedAll (feedOf z b) bs
+
+-- a file from its first line on, read into the rooms x
+abbrev pub readOf : Rooms → List ℕ → Both
+readOf x file = feedAll (both (going fresh []) x) file
+
+-- a file cut into parts, put together again
+unfoldable pub together : List (List ℕ) → List ℕ
+together [] = []
+together (part ∷ parts) = part ++ together parts
+
+-- the same read part after part
+unfoldable pub feedParts : Both → List (List ℕ) → Both
+feedParts z [] = z
+feedParts z (part ∷ parts) = feedParts (feedAll z part) parts
 
 -- "frames missing at the end" are 12; "Missing frames count as the line after the last"
 unfoldable pub finishOf : Reading → Case

@@ -17,8 +17,8 @@ use Rattle.reading.specs.declared.Reading.{Reading}
 use Rattle.reading.specs.Read.{cellLimit, Rooms, rooms, fresh, Large}
 use Rattle.parts.specs.declared.Case.{Case}
 use Rattle.parts.specs.declared.Case.the-variants.{Whole, Refused}
-use Rattle.parts.specs.File.{Run, going, stopped, Both, both, finishOf, caseOf}
-use Rattle.written.specs.Text.{twos, joined, fileOf, Limited, Written, readOf, netIn, markingIn, wordIn, endOf, filled}
+use Rattle.parts.specs.File.{Run, going, stopped, Both, both, readOf, finishOf, caseOf}
+use Rattle.written.specs.Text.{twos, joined, fileOf, Limited, Written, netIn, markingIn, wordIn, endOf, filled}
 use Rattle.written.proofs.Bytes.{below-of, of-below, below-most}
 use Rattle.written.proofs.Fronts.{front-of, rest-of}
 use Rattle.written.proofs.Stage.{Listed, Stage, start, counted, capped, rowed, lettered, reads}

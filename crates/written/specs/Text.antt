@@ -11,8 +11,7 @@ use Rattle.net.specs.Firing.{Light}
 use Rattle.net.specs.Letter.{row, Small}
 use Rattle.net.specs.Given.{Sized, Fine, Letters}
 use Rattle.reading.specs.declared.Reading.{Reading}
-use Rattle.reading.specs.Read.{Rooms, rooms, fresh}
-use Rattle.parts.specs.File.{going, Both, both, feedAll}
+use Rattle.reading.specs.Read.{Rooms, rooms}
 
 -- "numbers of two or four bytes have the high byte first": numbers of two bytes
 unfoldable pub twos : List ℕ → List ℕ
@@ -75,11 +74,7 @@ pub record Written (file : List ℕ) : Type 0 where
   pub limited : Limited net initial word
   pub text : file ≡ fileOf net initial word
 
--- a whole file read into the rooms x
-abbrev pub readOf : Rooms → List ℕ → Both
-readOf x file = feedAll (both (going fresh []) x) file
-
--- what the rooms y then hold at their fronts, by the counts of the state s: a net, its marking and a word
+-- what the rooms y hold at their fronts after a whole file, by the counts of the state s: a net, its marking and a word
 abbrev pub netIn : Reading → Rooms → Net
 netIn s y =
     netOf (s .places) (s .transitions) (take (s .transitions * s .places) (y .pre)) (take (s .transitions * s .places) (y .post)) (take (s .places) (y .caps))

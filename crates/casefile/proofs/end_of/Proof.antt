@@ -1,4 +1,4 @@
-use Rattle.casefile.proofs.Ends.{ends, finish-good}
+use Rattle.casefile.proofs.Ends.{ends}
 use borrow.Author.Needs.{needs}
 use Rattle.casefile.proofs.end_of.Statement.{statement}
 use Rattle.casefile.proofs.end_of.Tie as tie
@@ -13,7 +13,7 @@ finish-requires : tie.Need-finish-requires
 finish-requires c κs = search needs
 
 returns-2 : tie.Need-returns-2
-returns-2 c = search (ends, finish-good, needs)
+returns-2 c = search (ends, needs)
 
 pub end-of-spec : {M : Type 1} → statement M
 end-of-spec = tie.close (tie.spec add-t4 returns finish-requires returns-2)
