@@ -4,6 +4,7 @@ use ground::COUNT_LIMIT;
 use ground::WORD_LIMIT;
 use parts::Case;
 use parts::Lines;
+use reading::CELL_LIMIT;
 use reading::Reading;
 ghost use mathlib.Core.Path.{_≡_};
 ghost use mathlib.Core.List.{[]};
@@ -14,9 +15,6 @@ ghost use Rattle.ground.specs.Limits.{countLimit, wordLimit};
 ghost use Rattle.reading.specs.Read.{cellLimit, fresh, Good, Large, rooms};
 ghost use Rattle.parts.specs.File.{going, both, feedAll, GoodCase};
 ghost use Rattle.casefile.specs.Entry.{came, Comes, endOf, largestOf, laid, answered, filledOf, CaseRead};
-
-// The most entries of Pre, and of Post.
-const CELL_LIMIT: usize = COUNT_LIMIT * COUNT_LIMIT;
 
 // The answer to a case file: read, with its places, transitions and letters; or refused, with
 // document 01's number and the line (position 0 where a room has another length).

@@ -7,6 +7,7 @@ use ground::WORD_LIMIT;
 use libc::STDIN_FILENO;
 use libc::STDOUT_FILENO;
 use parts::Held;
+use reading::CELL_LIMIT;
 use reading::Reading;
 use verdict::ANSWER_LIMIT;
 ghost use Prim.Native.Nat.{_≤_};
@@ -14,9 +15,6 @@ ghost use lib.ListN.{length};
 ghost use Rattle.reading.specs.Read.{rooms, Large};
 ghost use Rattle.parts.specs.File.{Sound};
 ghost use Rattle.verdict.specs.Verdict.{answerLimit};
-
-// The most entries of Pre, and of Post.
-const CELL_LIMIT: usize = COUNT_LIMIT * COUNT_LIMIT;
 
 // Whether there is more to read.
 enum Input {

@@ -16,6 +16,9 @@ ghost use Rattle.frames.specs.Frame.{bytesFrom};
 ghost use Rattle.reading.specs.Read.{cellLimit, Good, ruleOf, countsOf, capsOf, tokensOf, rowOf, lettersOf, fitTokens, fitLetters, judgeOf};
 ghost use Rattle.reading.specs.Read.{rooms, stored, advanced, lineOf, roomsOf, Accepted, Large, GoodTook, fresh};
 
+// The most entries of Pre, and of Post.
+pub const CELL_LIMIT: usize = COUNT_LIMIT * COUNT_LIMIT;
+
 pub struct Reading {
     // the kind that must come next: 1 to 4, and 5 for letters or the end
     pub phase: u8,
