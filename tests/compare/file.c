@@ -65,7 +65,7 @@ static void damage_frames(void) {
     uint8_t bytes[140];
     if (chance(3))
         k = line_count - 1 - below(line_count < 3 ? line_count : 3);
-    switch (below(6)) {
+    switch (below(7)) {
     case 0: /* swapped */
         memcpy(bytes, frames[k], 140);
         memcpy(frames[k], frames[other], 140);
@@ -87,6 +87,10 @@ static void damage_frames(void) {
         break;
     case 4: /* of another kind */
         frames[k][0] = (uint8_t)(chance(2) ? below(8) : draw());
+        break;
+    case 5: /* followed by letters though it is short */
+        if (frames[line_count - 1][0] == 5 && sizes[line_count - 1] < 65)
+            add_frame(frames[line_count - 1], sizes[line_count - 1]);
         break;
     default: /* of another index, or letter */
         frames[k][1] = (uint8_t)(chance(2) ? below(5) : draw());

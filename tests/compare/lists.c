@@ -17,19 +17,21 @@ static void add(const uint16_t *m, size_t limit) {
         memcpy(found + found_count++ * in.places, m, 2 * in.places);
 }
 
-/* Adds the result of t at found marking k, where t is enabled there, capacities included. */
+/* Adds the result of t at found marking k, where t is enabled there, capacities included. A result that no list can hold
+ * is added cut to 16 bits now and then: a list that looks closed to whoever cuts it too. */
 static void add_closed(size_t k, size_t t, size_t limit) {
     int64_t m[64];
     uint16_t result[64];
+    int cut = chance(2);
     for (size_t p = 0; p < in.places; p++)
         m[p] = found[k * in.places + p];
     if (!enabled_now(m, t))
         return;
     fire_now(m, t);
     for (size_t p = 0; p < in.places; p++) {
-        if (m[p] > 65534)
-            return;
         result[p] = (uint16_t)m[p];
+        if (result[p] == ANY || (m[p] > 65534 && !cut))
+            return;
     }
     add(result, limit);
 }
