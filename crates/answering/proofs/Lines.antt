@@ -10,7 +10,7 @@ use lib.Dec.{eqb}
 use Rattle.ground.specs.Limits.{countLimit}
 use Rattle.ground.proofs.Fill.{table-length}
 use Rattle.reading.specs.declared.Reading.{Reading}
-use Rattle.reading.specs.Read.{Rooms, Good, Large, cellLimit}
+use Rattle.reading.specs.Read.{Rooms, Good, cellLimit}
 use Rattle.parts.specs.declared.Case.{Case}
 use Rattle.parts.specs.declared.Case.the-variants as file
 use Rattle.parts.specs.File.{GoodCase}
@@ -27,7 +27,7 @@ use Rattle.replay.specs.declared.Replay.the-variants.{Fired, Blocked, Refused}
 use Rattle.replay.proofs.Meaning.{numbers-apart, answered-allowed, blocked-cause}
 use Rattle.verdict.specs.Verdict.{bytesOf, answerLimit, Placed, WrittenBytes}
 use Rattle.verdict.proofs.Answers.{line-few}
-use Rattle.answering.specs.Answer.{netRead, initialRead, wordRead, roomFor, ranRead, answerFor}
+use Rattle.answering.specs.Answer.{netRead, initialRead, wordRead, roomFor, answerFor}
 
 -- the net's cells are inside their rooms
 pub cells-few : (s : Reading) → Good s → s .transitions * s .places ≤ cellLimit

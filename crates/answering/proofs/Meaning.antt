@@ -1,30 +1,32 @@
 -- What the program's line means. Assumes nothing.
-use Prim.Native.Nat.{ℕ, _/_, _%_, _≤_, _<_}
-use mathlib.Core.Path.{_≡_, refl, sym, ap, _∙_}
-use mathlib.Core.Bool.{Bool, true}
+use Prim.Native.Nat.{ℕ, _+_, _*_, _/_, _%_, _<_}
+use mathlib.Core.Path.{_≡_, refl, sym, subst, ap, _∙_}
+use mathlib.Core.Bool.{Bool, true, false, cond}
 use mathlib.Core.List.{List, [], _∷_, _++_, append-nil}
 use native.Mathlib.Omega.{arith}
+use lib.Dec.{eqb}
 use lib.ListN.{length}
-use Rattle.ground.specs.Limits.{countLimit}
-use Rattle.frames.specs.Frame.{isDigit, allDigits, digitsOf, lineFeed}
+use lib.Seq.{length-take-le}
+use borrow.Author.Tests.{eqb-true}
+use Rattle.ground.proofs.Fill.{table-length}
+use Rattle.frames.specs.Frame.{allDigits, digitsOf, lineFeed}
 use Rattle.frames.proofs.Round.{Below, none, more, value-digit}
 use Rattle.reading.specs.declared.Reading.{Reading}
-use Rattle.reading.specs.Read.{Rooms, Good, fresh}
+use Rattle.reading.specs.Read.{Rooms, Large, fresh}
 use Rattle.parts.specs.declared.Case.{Case}
 use Rattle.parts.specs.declared.Case.the-variants as file
-use Rattle.parts.specs.File.{Both, both, going, stopped, feedAll}
+use Rattle.parts.specs.File.{Run, Both, both, going, stopped, feedAll, finishOf, caseOf}
 use Rattle.parts.proofs.Line.{stays, all-append}
-use Rattle.net.specs.Net.{Net}
 use Rattle.net.specs.Firing.{Fires}
-use Rattle.net.specs.declared.Cause.{Cause}
 use Rattle.net.specs.declared.Cause.the-variants.{Short, Over}
-use Rattle.replay.specs.Entry.{replayOf, causeNumber, causePlace, Replayed, Allowed}
+use Rattle.replay.specs.Entry.{Replayed, Allowed}
 use Rattle.replay.specs.declared.Replay.{Replay}
 use Rattle.replay.specs.declared.Replay.the-variants.{Fired, Blocked, Refused}
 use Rattle.replay.proofs.Meaning.{allowed-answered, fires-fired}
 use Rattle.verdict.specs.Verdict.{four, fours, bytesOf, lineText, Placed}
 use Rattle.answering.specs.Answer.{netRead, initialRead, wordRead, roomFor, ranRead, answerFor, lineFor, lineAt, comesTo, fileLine, inParts, joined}
-use Rattle.answering.proofs.Lines.{placed}
+use Rattle.answering.proofs.Lines.{cells-few, placed}
+use Rattle.answering.proofs.Kept.{Kept, KeptRun, kept-fresh, kept-all}
 
 -- however a file is cut into parts, its line is that of the whole file
 pub line-by-parts : (ps : List (List ℕ)) (x : Rooms) → lineAt (inParts (both (going fresh []) x) ps) ≡ fileLine (joined ps) x
@@ -106,3 +108,55 @@ one-line (file.Whole s) x a =
     (bytes-below (ranRead s x .answer) (ranRead s x .left)
     (placed (netRead s x) (initialRead s x) (wordRead s x) true (roomFor s) (ranRead s x .answer) (ranRead s x .left) (replayed s x) (a .sized .few-places))
     (λ n at e. absurd (allowed-not-refused s x a n at e)))
+
+-- what was read of a whole file is allowed
+kept-allowed : (s : Reading) (x : Rooms) → Kept s x → s .phase ≡ 5 → Allowed (netRead s x) (initialRead s x) (wordRead s x) true (roomFor s)
+kept-allowed s x k e =
+    let g = k .good in
+    let l = k .large in
+    let n = length-take-le (s .letters) (x .word) (omega (arith, g .letters, l .word)) in
+    record {
+      sized = record {
+        some-places = g .some-places (omega arith);
+        few-places = g .places;
+        some-transitions = g .some (omega arith);
+        few-transitions = g .transitions;
+        pres = length-take-le (s .transitions * s .places) (x .pre) (omega (arith, cells-few s g, l .pre));
+        posts = length-take-le (s .transitions * s .places) (x .post) (omega (arith, cells-few s g, l .post));
+        capped = length-take-le (s .places) (x .caps) (omega (arith, g .places, l .caps));
+      };
+      marked = length-take-le (s .places) (x .initial) (omega (arith, g .places, l .initial));
+      roomy = table-length (λ _. 0) (s .places);
+      inside = refl;
+      fine = k .fine (omega arith);
+      short = omega (arith, n, g .letters);
+      letters = k .letters;
+    }
+
+told : (r : Run) (x : Rooms) → KeptRun r x → Told (caseOf r) x
+unfolding caseOf finishOf
+told (stopped n l) x k = k
+told (going s (b ∷ d)) x k = omega arith
+told (going s []) x k = go (eqb (s .phase) 5) refl
+  where
+    go : (b : Bool) → eqb (s .phase) 5 ≡ b → Told (cond b (file.Whole s) (file.Refused 12 (s .line + 1))) x
+    go true e = kept-allowed s x k (eqb-true _ _ e)
+    go false e = omega arith
+
+-- any file, read into rooms that are large enough
+module _ (f : List ℕ) (x : Rooms) (l : Large x) where
+  file-told : Told (caseOf (comesTo f x .run)) (comesTo f x .rooms)
+  file-told = told (comesTo f x .run) (comesTo f x .rooms) (kept-all f (both (going fresh []) x) (kept-fresh x l))
+
+  -- the answer to any file is one line
+  pub file-one-line : OneLine (fileLine f x)
+  file-one-line = one-line (caseOf (comesTo f x .run)) (comesTo f x .rooms) file-told
+
+  module _ (s : Reading) (w : caseOf (comesTo f x .run) ≡ file.Whole s) where
+    -- the reader has checked all that document 01 asks of a replay
+    pub whole-allowed : Allowed (netRead s (comesTo f x .rooms)) (initialRead s (comesTo f x .rooms)) (wordRead s (comesTo f x .rooms)) true (roomFor s)
+    whole-allowed = subst (λ (c : Case). Told c (comesTo f x .rooms)) w file-told
+
+    -- so a whole file is answered by a verdict, 81, and never by 82
+    pub whole-never-refused : (n at : ℕ) → ranRead s (comesTo f x .rooms) .answer ≡ Refused n at → ⊥
+    whole-never-refused = allowed-not-refused s (comesTo f x .rooms) whole-allowed
