@@ -5,10 +5,10 @@ use mathlib.Core.Bool.{Bool, true, false, cond}
 use mathlib.Core.List.{List, [], _∷_, _++_, append-nil}
 use mathlib.Core.Logic.{_↔_}
 use native.Mathlib.Omega.{arith}
-use lib.ListN.{length, take, drop, length-append}
+use lib.ListN.{length, take, drop}
 use lib.Seq.{sets, sets-eq, take-at, drop-at, length-take-le}
 use lib.Dec.{eqb}
-use borrow.Author.Tests.{eq-eqb, ne-eqb, eqb-true}
+use borrow.Author.Tests.{ne-eqb, eqb-true}
 use Rattle.ground.specs.Limits.{countLimit, wordLimit}
 use Rattle.frames.specs.Frame.{lineFeed}
 use Rattle.reading.specs.declared.Reading.{Reading}
@@ -16,7 +16,7 @@ use Rattle.reading.specs.declared.Took.the-variants as took
 use Rattle.reading.specs.Read.{cellLimit, fresh, Good, Rooms, lineOf, judgeOf, Large}
 use Rattle.parts.specs.declared.Case.{Case}
 use Rattle.parts.specs.declared.Case.the-variants as case
-use Rattle.parts.specs.File.{Run, going, stopped, Both, both, feedAll, finishOf, caseOf, NoFeed, holdOf}
+use Rattle.parts.specs.File.{Run, going, stopped, Both, both, feedAll, finishOf, caseOf, NoFeed}
 use Rattle.parts.proofs.Line.{all-append, holds, refused-line, large}
 use Rattle.casefile.specs.declared.CaseFile.{CaseFile}
 use Rattle.casefile.specs.declared.CaseFile.the-variants.{Read, Refused}
@@ -65,15 +65,15 @@ laid-fronts s y x x′ g h l e P T n p t k =
     )
 
 -- what the fold knows where the file was read whole, and where it was not
-whole-good : (r : Run) (k : ℕ) (s : Reading) → Counted k r → caseOf r ≡ case.Whole s → (Good s) × (s .phase ≡ 5)
+ended-good : (r : Run) (k : ℕ) (s : Reading) → Counted k r → caseOf r ≡ case.Whole s → (Good s) × (s .phase ≡ 5)
 unfolding caseOf finishOf
-whole-good (going t []) k s c e = go (eqb (t .phase) 5) refl e
+ended-good (going t []) k s c e = go (eqb (t .phase) 5) refl e
   where
     go : (b : Bool) → eqb (t .phase) 5 ≡ b → cond b (case.Whole t) (case.Refused 12 (t .line + 1)) ≡ case.Whole s → (Good s) × (s .phase ≡ 5)
     go true q f = let i : t ≡ s = cc in rw (← i) (c .0, eqb-true _ _ q)
     go false q f = let z : _≡_ {A = ℕ} 0 1 = cc in absurd (omega arith)
-whole-good (going t (b ∷ d)) k s c e = let z : _≡_ {A = ℕ} 0 1 = cc in absurd (omega arith)
-whole-good (stopped n l) k s c e = let z : _≡_ {A = ℕ} 0 1 = cc in absurd (omega arith)
+ended-good (going t (b ∷ d)) k s c e = let z : _≡_ {A = ℕ} 0 1 = cc in absurd (omega arith)
+ended-good (stopped n l) k s c e = let z : _≡_ {A = ℕ} 0 1 = cc in absurd (omega arith)
 
 refused-line-is : (r : Run) (k n l : ℕ) → Counted k r → caseOf r ≡ case.Refused n l → (1 ≤ l) × (l ≤ k + 1)
 unfolding caseOf finishOf
@@ -173,7 +173,7 @@ module _ (file : List ℕ) (x : Rooms) (r : CaseFile) (x′ : Rooms) (p : CaseRe
         went (case.Refused m l) q = let i = refused-exactly read-largest m l .1 q in let z : _≡_ {A = ℕ} 0 1 = cc in absurd (omega arith)
 
     good : (Good (read-whole .0)) × (read-whole .0 .phase ≡ 5)
-    good = whole-good (readAll file .run) (feeds file) (read-whole .0) (fed-file file .counted) (read-whole .1)
+    good = ended-good (readAll file .run) (feeds file) (read-whole .0) (fed-file file .counted) (read-whole .1)
 
     -- the counts are those that document 01 allows
     pub read-counts : (1 ≤ P) × (P ≤ countLimit) × (1 ≤ T) × (T ≤ countLimit) × (n ≤ wordLimit)
