@@ -14,7 +14,9 @@ use Rattle.reading.specs.declared.Reading.{Reading}
 use Rattle.reading.specs.declared.Took.the-variants as took
 use Rattle.reading.specs.Read.{Rooms, rooms, ruleOf, judgeOf, lettersIn, advanced, advancedKind, stored, storedKind}
 use Rattle.reading.specs.Line.{Ruled, Formed, frame01, frame02, frame03, frame04, frame05, Counted, Marked, Short, Named}
-use Rattle.reading.proofs.Meaning.{rule-all, rule-exactly, taken-exactly, no-counts, no-tokens, no-long, no-letters, formed-01, formed-02, formed-03, formed-04, formed-05}
+use Rattle.reading.proofs.Digits.{rule-all, rule-exactly}
+use Rattle.reading.proofs.Order.{no-counts, no-tokens, no-long, no-letters, formed-01, formed-02, formed-03, formed-04, formed-05}
+use Rattle.reading.proofs.Meaning.{taken-exactly}
 use Rattle.parts.specs.File.{both, going, feedAll}
 use Rattle.parts.proofs.Line.{line-taken, held}
 use Rattle.written.specs.Text.{twos}

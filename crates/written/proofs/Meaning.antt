@@ -14,7 +14,9 @@ use Rattle.frames.specs.Frame.{digitOf, digitsOf}
 use Rattle.net.specs.Net.{Net, netOf}
 use Rattle.replay.specs.Entry.{Allowed}
 use Rattle.reading.specs.declared.Reading.{Reading}
-use Rattle.reading.specs.Read.{cellLimit, Rooms, rooms, fresh, Large}
+use Rattle.reading.specs.declared.Took.the-variants as took
+use Rattle.reading.specs.Read.{cellLimit, Rooms, rooms, fresh, Large, judgeOf, lineOf}
+use Rattle.reading.proofs.Meaning.{refused-here, one-on-01, three-on-03}
 use Rattle.parts.specs.declared.Case.{Case}
 use Rattle.parts.specs.declared.Case.the-variants.{Whole, Refused}
 use Rattle.parts.specs.File.{Run, going, stopped, Both, both, readOf, finishOf, caseOf}
@@ -172,6 +174,31 @@ module _ (x : Rooms) (big : Large x) (file : List ℕ) where
 
 pub one-answer : (x : Rooms) (file : List ℕ) (a b : Case) → caseOf (readOf x file .run) ≡ a → caseOf (readOf x file .run) ≡ b → a ≡ b
 one-answer x file a b p q = sym p ∙ q
+
+-- where the lines before were taken, the kind that must come next tells which line it is: 1 falls on line 1, and 3 on line 3
+module _ (x : Rooms) (big : Large x) (lines : List ℕ) (s : Reading) (y : Rooms) (before : readOf x lines ≡ both (going s []) y) (d : List ℕ) where
+  lines-so-far : (s .phase ≡ 1 → s .line ≡ 0) × (s .phase ≡ 3 → s .line ≡ 2)
+  lines-so-far = go (reads x big s y lines fresh x [] [] (start refl refl refl) before)
+    where
+      by : (t : Reading) → s ≡ t → (t .phase ≡ 1 → t .line ≡ 0) × (t .phase ≡ 3 → t .line ≡ 2) → (s .phase ≡ 1 → s .line ≡ 0) × (s .phase ≡ 3 → s .line ≡ 2)
+      by t e h = rw e h
+
+      go : Stage x s y ([] ++ ([] ++ lines)) → (s .phase ≡ 1 → s .line ≡ 0) × (s .phase ≡ 3 → s .line ≡ 2)
+      go (start a b f) = by _ a (λ q. refl, λ q. absurd (omega arith))
+      go (counted P T g h i j a b f) = by _ a (λ q. absurd (omega arith), λ q. absurd (omega arith))
+      go (capped P T caps g h i j k l a b f) = by _ a (λ q. absurd (omega arith), λ q. refl)
+      go (rowed net n initial r h a b f) = by _ a (λ q. absurd (omega arith), λ q. absurd (omega arith))
+      go (lettered net initial w l a b f) = by _ a (λ q. absurd (omega arith), λ q. absurd (omega arith))
+
+  pub one-on-line-1 : judgeOf s d (y .caps) ≡ 1 → lineOf s d (y .caps) ≡ took.Refused 1 1
+  one-on-line-1 e =
+      let l : s .line + 1 ≡ 1 = let z = lines-so-far .0 (one-on-01 s d (y .caps) e .0) in omega arith in
+      refused-here s d (y .caps) (λ z. omega arith) ∙ rw (e, l)
+
+  pub three-on-line-3 : judgeOf s d (y .caps) ≡ 3 → lineOf s d (y .caps) ≡ took.Refused 3 3
+  three-on-line-3 e =
+      let l : s .line + 1 ≡ 3 = let z = lines-so-far .1 (three-on-03 s d (y .caps) e .0) in omega arith in
+      refused-here s d (y .caps) (λ z. omega arith) ∙ rw (e, l)
 
 -- rooms that are large enough, to read into
 blank : ℕ → Rooms
