@@ -1,4 +1,4 @@
 pub mod Lines
 pub mod Meaning
 pub mod Sample
-pub mod Kept
+pub mod Numbers

@@ -27,7 +27,8 @@ use Rattle.replay.specs.declared.Replay.the-variants.{Fired, Blocked, Refused}
 use Rattle.replay.proofs.Meaning.{numbers-apart, answered-allowed, blocked-cause}
 use Rattle.verdict.specs.Verdict.{bytesOf, answerLimit, Placed, WrittenBytes}
 use Rattle.verdict.proofs.Answers.{line-few}
-use Rattle.answering.specs.Answer.{netRead, initialRead, wordRead, roomFor, answerFor}
+use Rattle.written.specs.Text.{netIn, markingIn, wordIn}
+use Rattle.answering.specs.Answer.{roomFor, answerFor}
 
 -- the net's cells are inside their rooms
 pub cells-few : (s : Reading) → Good s → s .transitions * s .places ≤ cellLimit
@@ -70,10 +71,10 @@ module _ (net : Net) (initial w : List ℕ) (within : Bool) (room : List ℕ) (r
 
 -- the line of a replay of what was read, in any room of its length
 pub played-line : (s : Reading) (x : Rooms) (room : List ℕ) (r : Replay) (room′ out : List ℕ) (n : ℕ) (out′ : List ℕ) → length room ≡ s .places
-    → Replayed (netRead s x) (initialRead s x) (wordRead s x) true room r room′ → WrittenBytes out (bytesOf r room′) n out′ → WrittenBytes out (answerFor (file.Whole s) x) n out′
+    → Replayed (netIn s x) (markingIn s x) (wordIn s x) true room r room′ → WrittenBytes out (bytesOf r room′) n out′ → WrittenBytes out (answerFor (file.Whole s) x) n out′
 played-line s x room r room′ out n out′ e p w =
     let f : length room ≡ length (roomFor s) = e ∙ sym (table-length (λ _. 0) (s .places)) in
-    let b = replayed-bytes (netRead s x) (initialRead s x) (wordRead s x) true room r room′ p ∙ any-room (netRead s x) (initialRead s x) (wordRead s x) true room (roomFor s) f in
+    let b = replayed-bytes (netIn s x) (markingIn s x) (wordIn s x) true room r room′ p ∙ any-room (netIn s x) (markingIn s x) (wordIn s x) true room (roomFor s) f in
     subst (λ (z : List ℕ). WrittenBytes out z n out′) b w
 
 -- the line by what the file came to: c is what was answered, d the case that it is, v what it stands for

@@ -14,7 +14,8 @@ use Rattle.replay.specs.Entry.{causePlace}
 use Rattle.replay.specs.declared.Replay.{Replay}
 use Rattle.replay.specs.declared.Replay.the-variants.{Fired, Blocked, Refused}
 use Rattle.verdict.specs.Verdict.{four, fours, bytesOf, answerLimit, Placed, WrittenBytes}
-use Rattle.verdict.proofs.Puts.{digits-long, four-long, fours-long}
+use Rattle.frames.proofs.Round.{digits-long}
+use Rattle.verdict.proofs.Puts.{four-long, fours-long}
 
 -- the line of an answer is that of the case that it is
 pub line-of : (a b : Replay) (room marking : List ℕ) (r : ℕ) (room′ : List ℕ) → a ≡ b → WrittenBytes room (bytesOf b marking) r room′ → WrittenBytes room (bytesOf a marking) r room′
