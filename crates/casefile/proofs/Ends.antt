@@ -2,7 +2,7 @@
 use mathlib.Core.Path.{_≡_, refl, sym, _∙_, ap}
 use mathlib.Core.Bool.{Bool, true, false, cond}
 use mathlib.Core.List.{List, [], _∷_, append-nil}
-use Prim.Native.Nat.{ℕ, _+_, _-_, _≤_}
+use Prim.Native.Nat.{ℕ, _+_, _-_}
 use native.Mathlib.Omega.{arith}
 use lib.ListN.{length, drop, length-drop, length-replicate}
 use lib.Dec.{leb, eqb}
@@ -15,7 +15,7 @@ use Rattle.parts.specs.declared.Case.{Case}
 use Rattle.parts.specs.declared.Case.the-variants as case
 use Rattle.parts.specs.declared.Lines.{Lines}
 use Rattle.parts.specs.declared.Lines.the-variants.{Rest, Broken}
-use Rattle.parts.specs.File.{Run, going, stopped, Both, both, feedAll, finishOf, caseOf, NoFeed, holdOf, Went}
+use Rattle.parts.specs.File.{going, stopped, Both, both, feedAll, finishOf, caseOf, holdOf, Went}
 use Rattle.parts.proofs.Line.{holds}
 use Rattle.parts.proofs.Buffer.{went-rest, went-broken}
 use Rattle.casefile.specs.declared.CaseFile.{CaseFile}

@@ -1,11 +1,11 @@
 -- Laws of lists laid to the front of a room, and of rooms of the largest sizes. Assumes nothing.
-use mathlib.Core.Path.{_≡_, refl, sym, _∙_, ap}
+use mathlib.Core.Path.{_≡_, sym, _∙_}
 use mathlib.Core.Bool.{true, false}
-use mathlib.Core.List.{List, [], _∷_}
+use mathlib.Core.List.{List}
 use Prim.Native.Nat.{ℕ, _+_, _*_, _≤_, _<_}
 use native.Mathlib.Omega.{arith}
 use native.Mathlib.Nat.{mul-le-mul}
-use lib.ListN.{length, getD, set, take}
+use lib.ListN.{length, getD, set, take, length-take}
 use lib.Seq.{sets, length-take-le}
 use lib.Dec.{eqb}
 use borrow.Author.Tests.{eq-eqb, ne-eqb, eqb-true}
@@ -38,12 +38,11 @@ module _ (room₀ list : List ℕ) (i : ℕ) (room : List ℕ) (f : Laying room�
 pub ruleset layings = (laying-start, laying-next, laying-end, laying-long)
 
 -- the front of a list, and whether it fits a room
-module _ (n limit : ℕ) (list : List ℕ) (a : n ≤ limit) (b : limit ≤ length list) where
-  pub part-long : n ≡ length (take n list)
-  part-long = sym (length-take-le n list (omega arith))
+pub part-long : (n : ℕ) (list : List ℕ) → n ≤ length list → n ≡ length (take n list)
+part-long n list h = sym (length-take-le n list h)
 
-  pub part-fits : (room : List ℕ) → limit ≤ length room → length (take n list) ≤ length room
-  part-fits room h = omega (arith, part-long)
+pub part-fits : (n : ℕ) (list room : List ℕ) → n ≤ length room → length (take n list) ≤ length room
+part-fits n list room h = omega (arith, length-take n list)
 
 pub rooms-same : {a b c d e a′ b′ c′ d′ e′ : List ℕ} → a ≡ a′ → b ≡ b′ → c ≡ c′ → d ≡ d′ → e ≡ e′ → rooms a b c d e ≡ rooms a′ b′ c′ d′ e′
 rooms-same p q r s t = rw (p, q, r, s, t)

@@ -5,10 +5,10 @@ use mathlib.Core.Bool.{Bool, true, false, cond}
 use mathlib.Core.List.{List, [], _∷_, _++_, append-nil}
 use mathlib.Core.Logic.{_↔_}
 use native.Mathlib.Omega.{arith}
-use lib.ListN.{length, take, drop, length-append}
+use lib.ListN.{length, take, drop}
 use lib.Seq.{sets, sets-eq, take-at, drop-at, length-take-le}
 use lib.Dec.{eqb}
-use borrow.Author.Tests.{eq-eqb, ne-eqb, eqb-true}
+use borrow.Author.Tests.{ne-eqb, eqb-true}
 use Rattle.ground.specs.Limits.{countLimit, wordLimit}
 use Rattle.frames.specs.Frame.{lineFeed}
 use Rattle.reading.specs.declared.Reading.{Reading}
@@ -16,7 +16,7 @@ use Rattle.reading.specs.declared.Took.the-variants as took
 use Rattle.reading.specs.Read.{cellLimit, fresh, Good, Rooms, lineOf, judgeOf, Large}
 use Rattle.parts.specs.declared.Case.{Case}
 use Rattle.parts.specs.declared.Case.the-variants as case
-use Rattle.parts.specs.File.{Run, going, stopped, Both, both, feedAll, finishOf, caseOf, NoFeed, holdOf}
+use Rattle.parts.specs.File.{Run, going, stopped, Both, both, feedAll, finishOf, caseOf, NoFeed}
 use Rattle.parts.proofs.Line.{all-append, holds, refused-line, large}
 use Rattle.casefile.specs.declared.CaseFile.{CaseFile}
 use Rattle.casefile.specs.declared.CaseFile.the-variants.{Read, Refused}
@@ -65,15 +65,15 @@ laid-fronts s y x x′ g h l e P T n p t k =
     )
 
 -- what the fold knows where the file was read whole, and where it was not
-whole-good : (r : Run) (k : ℕ) (s : Reading) → Counted k r → caseOf r ≡ case.Whole s → (Good s) × (s .phase ≡ 5)
+ended-good : (r : Run) (k : ℕ) (s : Reading) → Counted k r → caseOf r ≡ case.Whole s → (Good s) × (s .phase ≡ 5)
 unfolding caseOf finishOf
-whole-good (going t []) k s c e = go (eqb (t .phase) 5) refl e
+ended-good (going t []) k s c e = go (eqb (t .phase) 5) refl e
   where
     go : (b : Bool) → eqb (t .phase) 5 ≡ b → cond b (case.Whole t) (case.Refused 12 (t .line + 1)) ≡ case.Whole s → (Good s) × (s .phase ≡ 5)
     go true q f = let i : t ≡ s = cc in rw (← i) (c .0, eqb-true _ _ q)
     go false q f = let z : _≡_ {A = ℕ} 0 1 = cc in absurd (omega arith)
-whole-good (going t (b ∷ d)) k s c e = let z : _≡_ {A = ℕ} 0 1 = cc in absurd (omega arith)
-whole-good (stopped n l) k s c e = let z : _≡_ {A = ℕ} 0 1 = cc in absurd (omega arith)
+ended-good (going t (b ∷ d)) k s c e = let z : _≡_ {A = ℕ} 0 1 = cc in absurd (omega arith)
+ended-good (stopped n l) k s c e = let z : _≡_ {A = ℕ} 0 1 = cc in absurd (omega arith)
 
 refused-line-is : (r : Run) (k n l : ℕ) → Counted k r → caseOf r ≡ case.Refused n l → (1 ≤ l) × (l ≤ k + 1)
 unfolding caseOf finishOf
@@ -115,29 +115,32 @@ module _ (file : List ℕ) (x : Rooms) (r : CaseFile) (x′ : Rooms) (p : CaseRe
   of-case : Largest x → (k : Case) → caseOf (readAll file .run) ≡ k → came r x′ ≡ answered k (readAll file .rooms) x
   of-case l k e = reads-the-fold l ∙ ap (λ (j : Case). answered j (readAll file .rooms) x) e
 
+  -- read, or refused, exactly where the fold comes to it
+  pub whole-read : Largest x → (s : Reading) → caseOf (readAll file .run) ≡ case.Whole s → r ≡ Read (s .places) (s .transitions) (s .letters)
+  whole-read l s q = ap (λ (z : Came). z .answer) (of-case l (case.Whole s) q)
+
+  pub refused-exactly : Largest x → (n k : ℕ) → (r ≡ Refused n k) ↔ (caseOf (readAll file .run) ≡ case.Refused n k)
+  refused-exactly l n k = (λ e. went e (caseOf (readAll file .run)) refl, λ q. ap (λ (z : Came). z .answer) (of-case l (case.Refused n k) q))
+    where
+      went : r ≡ Refused n k → (c : Case) → caseOf (readAll file .run) ≡ c → caseOf (readAll file .run) ≡ case.Refused n k
+      went e (case.Whole s) q = let i = whole-read l s q in let z : _≡_ {A = ℕ} 0 1 = cc in absurd (omega arith)
+      went e (case.Refused m j) q =
+          let i : r ≡ Refused m j = ap (λ (z : Came). z .answer) (of-case l (case.Refused m j) q) in
+          let a : m ≡ n = cc in
+          let b : j ≡ k = cc in
+          q ∙ rw (a, b)
+
   -- "A refusal leaves lent memory as found."
   pub refused-as-found : (n l : ℕ) → r ≡ Refused n l → x′ ≡ x
   refused-as-found n l e = size (largest x) refl
     where
-      went : Largest x → (k : Case) → caseOf (readAll file .run) ≡ k → x′ ≡ x
-      went g (case.Whole s) q = let i : r ≡ Read (s .places) (s .transitions) (s .letters) = ap (λ (z : Came). z .answer) (of-case g (case.Whole s) q) in let z : _≡_ {A = ℕ} 0 1 = cc in absurd (omega arith)
-      went g (case.Refused m k) q = ap (λ (z : Came). z .left) (of-case g (case.Refused m k) q)
-
       size : (b : Bool) → largest x ≡ b → x′ ≡ x
-      size true q = went (largest-of x q) (caseOf (readAll file .run)) refl
+      size true q = let g = largest-of x q in ap (λ (z : Came). z .left) (of-case g (case.Refused n l) (refused-exactly g n l .0 e))
       size false q = not-largest q .1
 
   -- a refusal in a file has its line, from 1 to the line after the last line feed
   pub every-line : Largest x → (n l : ℕ) → r ≡ Refused n l → (1 ≤ l) × (l ≤ feeds file + 1)
-  every-line g n l e = went (caseOf (readAll file .run)) refl
-    where
-      went : (k : Case) → caseOf (readAll file .run) ≡ k → (1 ≤ l) × (l ≤ feeds file + 1)
-      went (case.Whole s) q = let i : r ≡ Read (s .places) (s .transitions) (s .letters) = ap (λ (z : Came). z .answer) (of-case g (case.Whole s) q) in let z : _≡_ {A = ℕ} 0 1 = cc in absurd (omega arith)
-      went (case.Refused m k) q =
-          let i : r ≡ Refused m k = ap (λ (z : Came). z .answer) (of-case g (case.Refused m k) q) in
-          let j : k ≡ l = cc in
-          let z = refused-line-is (readAll file .run) (feeds file) m k (fed-file file .counted) q in
-          (omega (arith, z .0), omega (arith, z .1))
+  every-line g n l e = refused-line-is (readAll file .run) (feeds file) n l (fed-file file .counted) (refused-exactly g n l .0 e)
 
   -- refusal 2, at position 0, is given exactly where a room has another length
   pub wrong-rooms : (r ≡ Refused 2 0) ↔ (Largest x → ⊥)
@@ -155,36 +158,39 @@ module _ (file : List ℕ) (x : Rooms) (r : CaseFile) (x′ : Rooms) (p : CaseRe
         size true q = largest-of x q
         size false q = let i = not-largest q .0 in let z : _≡_ {A = ℕ} 0 1 = cc in absurd (omega arith)
 
-    -- the state that the file ended in
-    ended-in : (s : Reading) × (Good s) × (s .phase ≡ 5) × (s .places ≡ P) × (s .transitions ≡ T) × (s .letters ≡ n) × (x′ ≡ laid s (readAll file .rooms) x)
-    ended-in = went (caseOf (readAll file .run)) refl
+    -- the file was read whole, and the state s that it ended in has these counts
+    pub read-whole : (s : Reading) × (caseOf (readAll file .run) ≡ case.Whole s) × (s .places ≡ P) × (s .transitions ≡ T) × (s .letters ≡ n) × (x′ ≡ laid s (readAll file .rooms) x)
+    read-whole = went (caseOf (readAll file .run)) refl
       where
-        went : (k : Case) → caseOf (readAll file .run) ≡ k → (s : Reading) × (Good s) × (s .phase ≡ 5) × (s .places ≡ P) × (s .transitions ≡ T) × (s .letters ≡ n) × (x′ ≡ laid s (readAll file .rooms) x)
+        went : (k : Case) → caseOf (readAll file .run) ≡ k
+            → (s : Reading) × (caseOf (readAll file .run) ≡ case.Whole s) × (s .places ≡ P) × (s .transitions ≡ T) × (s .letters ≡ n) × (x′ ≡ laid s (readAll file .rooms) x)
         went (case.Whole s) q =
-            let i : r ≡ Read (s .places) (s .transitions) (s .letters) = ap (λ (z : Came). z .answer) (of-case read-largest (case.Whole s) q) in
-            let g = whole-good (readAll file .run) (feeds file) s (fed-file file .counted) q in
+            let i = whole-read read-largest s q in
             let a : s .places ≡ P = cc in
             let b : s .transitions ≡ T = cc in
             let c : s .letters ≡ n = cc in
-            (s, g .0, g .1, a, b, c, ap (λ (z : Came). z .left) (of-case read-largest (case.Whole s) q))
-        went (case.Refused m l) q = let i : r ≡ Refused m l = ap (λ (z : Came). z .answer) (of-case read-largest (case.Refused m l) q) in let z : _≡_ {A = ℕ} 0 1 = cc in absurd (omega arith)
+            (s, q, a, b, c, ap (λ (z : Came). z .left) (of-case read-largest (case.Whole s) q))
+        went (case.Refused m l) q = let i = refused-exactly read-largest m l .1 q in let z : _≡_ {A = ℕ} 0 1 = cc in absurd (omega arith)
+
+    good : (Good (read-whole .0)) × (read-whole .0 .phase ≡ 5)
+    good = ended-good (readAll file .run) (feeds file) (read-whole .0) (fed-file file .counted) (read-whole .1)
 
     -- the counts are those that document 01 allows
     pub read-counts : (1 ≤ P) × (P ≤ countLimit) × (1 ≤ T) × (T ≤ countLimit) × (n ≤ wordLimit)
     read-counts =
-        let w = ended-in in
-        let g = w .1 in
-        let a = g .some-places (omega (arith, w .2)) in
-        let b = g .some (omega (arith, w .2)) in
-        (omega (arith, a, w .3), omega (arith, g .places, w .3), omega (arith, b, w .4), omega (arith, g .transitions, w .4), omega (arith, g .letters, w .5))
+        let w = read-whole in
+        let g = good .0 in
+        let a = g .some-places (omega (arith, good .1)) in
+        let b = g .some (omega (arith, good .1)) in
+        (omega (arith, a, w .2), omega (arith, g .places, w .2), omega (arith, b, w .3), omega (arith, g .transitions, w .3), omega (arith, g .letters, w .4))
 
     -- the net's own entries and the letters stand at the front of the rooms, and the rest is as found
     pub read-front : Front P (readAll file .rooms .caps) (x .caps) (x′ .caps) × Front P (readAll file .rooms .initial) (x .initial) (x′ .initial)
         × Front (T * P) (readAll file .rooms .pre) (x .pre) (x′ .pre) × Front (T * P) (readAll file .rooms .post) (x .post) (x′ .post) × Front n (readAll file .rooms .word) (x .word) (x′ .word)
     read-front =
-        let w = ended-in in
+        let w = read-whole in
         let y = large (readAll file .rooms) blank (fed-file file .same) (blank-large blank refl) in
-        laid-fronts (w .0) (readAll file .rooms) x x′ (w .1) y read-largest (w .6) P T n (w .3) (w .4) (w .5)
+        laid-fronts (w .0) (readAll file .rooms) x x′ (good .0) y read-largest (w .5) P T n (w .2) (w .3) (w .4)
 
   -- the lines up to some line feed were read, and the state s follows
   module _ (l : Largest x) (lines : List ℕ) (s : Reading) (read : readAll lines .run ≡ going s []) where

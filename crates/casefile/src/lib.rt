@@ -6,11 +6,9 @@ use parts::Case;
 use parts::Lines;
 use reading::Reading;
 ghost use mathlib.Core.Path.{_≡_};
-ghost use mathlib.Core.Bool.{true, _&&_};
 ghost use mathlib.Core.List.{[]};
-ghost use Prim.Native.Nat.{_≤_, _*_};
-ghost use lib.Dec.{eqb};
-ghost use lib.ListN.{length, take, replicate};
+ghost use Prim.Native.Nat.{_≤_};
+ghost use lib.ListN.{length, replicate};
 ghost use lib.Seq.{sets};
 ghost use Rattle.ground.specs.Limits.{countLimit, wordLimit};
 ghost use Rattle.reading.specs.Read.{cellLimit, fresh, Good, Large, rooms};
@@ -28,22 +26,22 @@ pub enum CaseFile {
 }
 
 // Rooms of the largest sizes with nothing in them.
-fn blank_counts() -> [u16; 64]
+fn blank_counts() -> [u16; COUNT_LIMIT]
     ensures { λ r. ⌜ r ≡ replicate countLimit 0 ⌝ }
 {
-    [0; 64]
+    [0; COUNT_LIMIT]
 }
 
-fn blank_cells() -> [u8; 4096]
+fn blank_cells() -> [u8; CELL_LIMIT]
     ensures { λ r. ⌜ r ≡ replicate cellLimit 0 ⌝ }
 {
-    [0; 4096]
+    [0; CELL_LIMIT]
 }
 
-fn blank_word() -> [u8; 65535]
+fn blank_word() -> [u8; WORD_LIMIT]
     ensures { λ r. ⌜ r ≡ replicate wordLimit 0 ⌝ }
 {
-    [0; 65535]
+    [0; WORD_LIMIT]
 }
 
 // Whether rooms of these lengths are exactly the largest.

@@ -1,13 +1,12 @@
 -- What C is handed: each promise has one answer and one content of each room; nothing of an entry's answer is lost on the way; and a
 -- summary that was written into lists is the summary that they lend. Assumes nothing.
 use Prim.Native.Nat.{ℕ}
-use mathlib.Core.Path.{_≡_, refl, sym, ap, _∙_}
+use mathlib.Core.Path.{_≡_, refl, sym, _∙_}
 use mathlib.Core.Bool.{cond}
 use mathlib.Core.List.{List}
 use lib.ListN.{length}
 use lib.Dec.{eqb}
 use Rattle.ground.specs.Limits.{countLimit}
-use Rattle.net.specs.declared.Cause.{Cause}
 use Rattle.net.specs.declared.Cause.the-variants.{Short, Over}
 use Rattle.replay.specs.Replay.{Ran}
 use Rattle.replay.specs.Entry as replay

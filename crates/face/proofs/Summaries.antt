@@ -5,7 +5,6 @@ use mathlib.Core.Bool.{Bool, true, false, _&&_, _||_, and-false}
 use mathlib.Core.List.{List}
 use lib.ListN.{length}
 use lib.Dec.{eqb}
-use Rattle.ground.specs.Limits.{countLimit}
 use Rattle.ground.proofs.Tests.{never, and-true}
 use Rattle.net.specs.Net.{Net}
 use Rattle.net.specs.Given.{refuse, orElse, outside, netFault, markingFault, firstFault, wordFault, stretch, inside}
@@ -16,14 +15,13 @@ use Rattle.slots.specs.declared.Slot.{Slot}
 use Rattle.summary.specs.Summary.{emptySummary, refusal, summed, Answers, emptyAnswer, summaryOf, partFault, wordAnswer, shapeFault}
 use Rattle.summary.specs.Join.{joinFault, joinSummary, joinAnswer}
 use Rattle.summary.specs.Ask as asked
-use Rattle.summary.specs.Ask.{Reply, askFault, judged, replied, askAnswer, Replied}
+use Rattle.summary.specs.Ask.{Reply, askFault, judged, replied, Replied}
 use Rattle.summary.specs.declared.Summary.{Summary}
 use Rattle.summary.specs.declared.Summed.{Summed}
 use Rattle.summary.specs.declared.Made.the-variants.{Done, Refused}
 use Rattle.summary.specs.declared.Asked.{Asked}
 use Rattle.summary.proofs.Answers.{answers-is}
-use Rattle.columns.specs.Columns.{Columns, lengthsFit, fits, slotsFrom, columnsFrom}
-use Rattle.columns.proofs.Columns.{fit-long}
+use Rattle.columns.specs.Columns.{Columns, fits, slotsFrom, columnsFrom}
 use Rattle.face.specs.Face.{handed}
 use Rattle.face.specs.Summaries.{handedSummary, HandedSummary, listFault, emptyFor, lentSummary, joinFor, askFor, HandedReply, unfitAsked}
 use Rattle.face.specs.declared.Answer.{Answer}

@@ -1,3 +1,4 @@
+use Prim.Native.Nat.{_*_}
 use denote.Ref.{now}
 use native.Mathlib.Omega.{arith}
 use Rattle.casefile.proofs.Fronts.{cells-fit, part-long, part-fits, rooms-same}
@@ -29,52 +30,52 @@ mul-cells c =
 slice-aggregate-lay-words : tie.Need-slice-aggregate-lay-words
 slice-aggregate-lay-words c =
     let s = at1 c in
-    part-long _ _ _ (s .pre .0 .places) (s .pre .1 .caps)
+    part-long _ _ (omega (arith, s .pre .0 .places, s .pre .1 .caps, s .pre .1 .initial))
 
 lay-words-requires : tie.Need-lay-words-requires
 lay-words-requires c κs =
     let s = at1 c in
-    part-fits _ _ _ (s .pre .0 .places) (s .pre .1 .caps) (now (s .args .caps)) (s .pre .2 .caps)
+    part-fits (s .args .s .places) _ (now (s .args .caps)) (omega (arith, s .pre .0 .places, s .pre .2 .caps))
 
 slice-aggregate-lay-words-2 : tie.Need-slice-aggregate-lay-words-2
 slice-aggregate-lay-words-2 c =
     let s = at2 c in
-    part-long _ _ _ (s .pre .0 .places) (s .pre .1 .initial)
+    part-long _ _ (omega (arith, s .pre .0 .places, s .pre .1 .caps, s .pre .1 .initial))
 
 lay-words-requires-2 : tie.Need-lay-words-requires-2
 lay-words-requires-2 c κs =
     let s = at2 c in
-    part-fits _ _ _ (s .pre .0 .places) (s .pre .1 .initial) (now (s .args .initial)) (s .pre .2 .initial)
+    part-fits (s .args .s .places) _ (now (s .args .initial)) (omega (arith, s .pre .0 .places, s .pre .2 .initial))
 
 slice-aggregate-lay-bytes : tie.Need-slice-aggregate-lay-bytes
 slice-aggregate-lay-bytes c =
     let s = at3 c in
-    part-long _ _ _ (cells-fit _ (s .pre .0)) (s .pre .1 .pre)
+    part-long _ _ (omega (arith, cells-fit _ (s .pre .0), s .pre .1 .pre, s .pre .1 .post))
 
 lay-bytes-requires : tie.Need-lay-bytes-requires
 lay-bytes-requires c κs =
     let s = at3 c in
-    part-fits _ _ _ (cells-fit _ (s .pre .0)) (s .pre .1 .pre) (now (s .args .pre)) (s .pre .2 .pre)
+    part-fits (s .args .s .transitions * s .args .s .places) _ (now (s .args .pre)) (omega (arith, cells-fit _ (s .pre .0), s .pre .2 .pre))
 
 slice-aggregate-lay-bytes-2 : tie.Need-slice-aggregate-lay-bytes-2
 slice-aggregate-lay-bytes-2 c =
     let s = at4 c in
-    part-long _ _ _ (cells-fit _ (s .pre .0)) (s .pre .1 .post)
+    part-long _ _ (omega (arith, cells-fit _ (s .pre .0), s .pre .1 .pre, s .pre .1 .post))
 
 lay-bytes-requires-2 : tie.Need-lay-bytes-requires-2
 lay-bytes-requires-2 c κs =
     let s = at4 c in
-    part-fits _ _ _ (cells-fit _ (s .pre .0)) (s .pre .1 .post) (now (s .args .post)) (s .pre .2 .post)
+    part-fits (s .args .s .transitions * s .args .s .places) _ (now (s .args .post)) (omega (arith, cells-fit _ (s .pre .0), s .pre .2 .post))
 
 slice-aggregate-lay-bytes-3 : tie.Need-slice-aggregate-lay-bytes-3
 slice-aggregate-lay-bytes-3 c =
     let s = at5 c in
-    part-long _ _ _ (s .pre .0 .letters) (s .pre .1 .word)
+    part-long _ _ (omega (arith, s .pre .0 .letters, s .pre .1 .word))
 
 lay-bytes-requires-3 : tie.Need-lay-bytes-requires-3
 lay-bytes-requires-3 c κs =
     let s = at5 c in
-    part-fits _ _ _ (s .pre .0 .letters) (s .pre .1 .word) (now (s .args .word)) (s .pre .2 .word)
+    part-fits (s .args .s .letters) _ (now (s .args .word)) (omega (arith, s .pre .0 .letters, s .pre .2 .word))
 
 same-length : tie.Need-same-length
 same-length c = search needs

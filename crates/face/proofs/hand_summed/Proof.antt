@@ -28,10 +28,10 @@ same-length-3 : tie.Need-same-length-3
 same-length-3 c = search needs
 
 returns : tie.Need-returns
-returns c = search (done-handed, refused-handed, needs)
+returns c = search (done-handed, needs)
 
 returns-2 : tie.Need-returns-2
-returns-2 c = search (done-handed, refused-handed, needs)
+returns-2 c = search (refused-handed, needs)
 
 pub hand-summed-spec : {M : Type 1} → statement M
 hand-summed-spec =
