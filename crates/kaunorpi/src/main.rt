@@ -13,8 +13,10 @@ use verdict::ANSWER_LIMIT;
 ghost use Prim.Native.Nat.{_≤_};
 ghost use lib.ListN.{length};
 ghost use Rattle.reading.specs.Read.{rooms, Large};
-ghost use Rattle.parts.specs.File.{Sound};
+ghost use Rattle.parts.specs.File.{both, caseOf, abs, Sound};
 ghost use Rattle.verdict.specs.Verdict.{answerLimit};
+ghost use Rattle.answering.specs.Answer.{answerFor};
+ghost use Rattle.kaunorpi.specs.Came.{Came, Shown, Made};
 
 // Whether there is more to read.
 enum Input {
@@ -57,7 +59,9 @@ fn read_some(
     word: &mut [u8],
 ) -> Fed
     requires { ⌜ (Sound h) × (Large (rooms (now caps) (now initial) (now pre) (now post) (now word))) ⌝ }
-    ensures { λ r. ⌜ Sound (r .held) ⌝ }
+    ensures sound { λ r. ⌜ Sound (r .held) ⌝ }
+    ensures came { λ r. ⌜ Came (both (abs h) (rooms (now (caps .entry)) (now (initial .entry)) (now (pre .entry)) (now (post .entry)) (now (word .entry))))
+        (both (abs (r .held)) (rooms (now (caps .exit)) (now (initial .exit)) (now (pre .exit)) (now (post .exit)) (now (word .exit)))) ⌝ }
 {
     let mut buf = io::large_buffer();
     let got = libc::read(STDIN_FILENO, &mut buf);
@@ -92,7 +96,9 @@ fn read_all(
     word: &mut [u8],
 ) -> Fed
     requires { ⌜ (Sound h) × (Large (rooms (now caps) (now initial) (now pre) (now post) (now word))) ⌝ }
-    ensures { λ r. ⌜ Sound (r .held) ⌝ }
+    ensures sound { λ r. ⌜ Sound (r .held) ⌝ }
+    ensures came { λ r. ⌜ Came (both (abs h) (rooms (now (caps .entry)) (now (initial .entry)) (now (pre .entry)) (now (post .entry)) (now (word .entry))))
+        (both (abs (r .held)) (rooms (now (caps .exit)) (now (initial .exit)) (now (pre .exit)) (now (post .exit)) (now (word .exit)))) ⌝ }
 {
     let mut r = h;
     let mut turns = u64::MAX;
@@ -126,6 +132,7 @@ fn show(
     out: &mut [u8],
 )
     requires { ⌜ (Sound h) × (Large (rooms (now caps) (now initial) (now pre) (now post) (now word))) × (answerLimit ≤ length (now out)) ⌝ }
+    ensures { λ _. ⌜ Shown (now (out .entry)) (answerFor (caseOf (abs h)) (rooms (now (caps .entry)) (now (initial .entry)) (now (pre .entry)) (now (post .entry)) (now (word .entry)))) (now (out .exit)) ⌝ }
 {
     let n = answering::answer_line(h, caps, initial, pre, post, word, out);
     if !io::write_all(STDOUT_FILENO, &out[..n]) {
@@ -143,6 +150,7 @@ fn answer(
     out: &mut [u8],
 )
     requires { ⌜ (Large (rooms (now caps) (now initial) (now pre) (now post) (now word))) × (answerLimit ≤ length (now out)) ⌝ }
+    ensures { λ _. ⌜ Made (rooms (now (caps .entry)) (now (initial .entry)) (now (pre .entry)) (now (post .entry)) (now (word .entry))) (now (out .entry)) (now (out .exit)) ⌝ }
 {
     let s = Reading::new();
     let h = parts::cleared(s);

@@ -1,3 +1,6 @@
+use mathlib.Core.Path.{refl}
+use Rattle.kaunorpi.specs.Came.{nothing}
+use Rattle.kaunorpi.proofs.Feeding.{made-answer}
 use Rattle.parts.proofs.Line.{large}
 use borrow.Author.Needs.{needs}
 use Rattle.kaunorpi.proofs.answer.Statement.{statement}
@@ -25,12 +28,21 @@ fail-requires c κs = search needs
 abbrev start : tie.After-read-all → tie.Start
 start c = search needs
 
+abbrev made : tie.After-read-all → tie.After-new
+made c = search needs
+
+abbrev held : tie.After-read-all → tie.After-cleared
+held c = search needs
+
+abbrev reads : tie.After-show → tie.After-read-all
+reads c = search needs
+
 show-requires : tie.Need-show-requires
 show-requires c κs =
     let k : tie.After-read-all = search needs in
     let s = start k in
     let m = k .read-all .kept in
-    (k .read-all .ensures, large _ _ (record { caps = m .1 .0; initial = m .1 .1 .0; pre = m .1 .1 .1 .0; post = m .1 .1 .1 .1 .0; word = m .1 .1 .1 .1 .1 .0 }) (s .pre .0), s .pre .1)
+    (k .read-all .ensures .0, large _ _ (record { caps = m .1 .0; initial = m .1 .1 .0; pre = m .1 .1 .1 .0; post = m .1 .1 .1 .1 .0; word = m .1 .1 .1 .1 .1 .0 }) (s .pre .0), s .pre .1)
 
 same-length : tie.Need-same-length
 same-length c = search needs
@@ -48,7 +60,7 @@ same-length-5 : tie.Need-same-length-5
 same-length-5 c = search needs
 
 returns : tie.Need-returns
-returns c = search needs
+returns c = nothing refl
 
 same-length-6 : tie.Need-same-length-6
 same-length-6 c = search needs
@@ -69,7 +81,12 @@ same-length-11 : tie.Need-same-length-11
 same-length-11 c = search needs
 
 returns-2 : tie.Need-returns-2
-returns-2 c = search needs
+returns-2 c =
+    let w : tie.After-show = search needs in
+    let k = reads w in
+    let n = made k in
+    let h = held k in
+    made-answer (n .new .result) (h .cleared .result) (k .read-all .result .held) _ _ _ _ (n .new .ensures .0) (h .cleared .ensures .0) (k .read-all .ensures .1) (w .show .ensures)
 
 pub answer-spec : {M : Type 1} → statement M
 answer-spec =

@@ -1,6 +1,8 @@
 use mathlib.Core.Path.{refl, _∙_}
 use Rattle.reading.specs.Read.{rooms}
-use Rattle.parts.specs.File.{Sound}
+use Rattle.parts.specs.File.{both, abs, Sound}
+use Rattle.kaunorpi.specs.Came.{Came}
+use Rattle.kaunorpi.proofs.Feeding.{came-none, came-then}
 use Rattle.parts.proofs.Line.{Same, large}
 use borrow.Author.Needs.{needs}
 use Rattle.kaunorpi.proofs.read_all.Statement.{statement}
@@ -9,6 +11,7 @@ use Rattle.kaunorpi.proofs.read_all.Tie as tie
 abbrev Inv-loop : tie.InvT-loop
 Inv-loop caps₀ initial₀ pre₀ post₀ word₀ r₀ turns₀ caps initial pre post word r turns =
     (Sound r) × (Same (rooms caps initial pre post word) (rooms caps₀ initial₀ pre₀ post₀ word₀))
+    × (Came (both (abs r₀) (rooms caps₀ initial₀ pre₀ post₀ word₀)) (both (abs r) (rooms caps initial pre post word)))
 
 abbrev μ-loop : tie.MeasureT-loop
 μ-loop caps₀ initial₀ pre₀ post₀ word₀ r₀ turns₀ caps initial pre post word r turns = turns
@@ -16,7 +19,7 @@ abbrev μ-loop : tie.MeasureT-loop
 loop-holds : tie.Need-loop-holds Inv-loop μ-loop
 loop-holds c =
     let s : tie.Start Inv-loop μ-loop = search needs in
-    (s .pre .0, record { caps = refl; initial = refl; pre = refl; post = refl; word = refl })
+    (s .pre .0, record { caps = refl; initial = refl; pre = refl; post = refl; word = refl }, came-none _)
 
 read-some-requires : tie.Need-read-some-requires Inv-loop μ-loop
 read-some-requires c κs =
@@ -39,7 +42,7 @@ loop-again c =
     let i : tie.In-loop Inv-loop μ-loop = search needs in
     let m = k .read-some .kept in
     let e = i .before .loop .inv .1 in
-    (k .read-some .ensures, record { caps = m .1 .0 ∙ e .caps; initial = m .1 .1 .0 ∙ e .initial; pre = m .1 .1 .1 .0 ∙ e .pre; post = m .1 .1 .1 .1 .0 ∙ e .post; word = m .1 .1 .1 .1 .1 .0 ∙ e .word })
+    (k .read-some .ensures .0, record { caps = m .1 .0 ∙ e .caps; initial = m .1 .1 .0 ∙ e .initial; pre = m .1 .1 .1 .0 ∙ e .pre; post = m .1 .1 .1 .1 .0 ∙ e .post; word = m .1 .1 .1 .1 .1 .0 ∙ e .word }, came-then _ _ _ (i .before .loop .inv .2) (k .read-some .ensures .1))
 
 same-length : tie.Need-same-length Inv-loop μ-loop
 same-length c =
@@ -74,7 +77,8 @@ same-length-5 c =
 returns : tie.Need-returns Inv-loop μ-loop
 returns c =
     let k : tie.After-read-some Inv-loop μ-loop = search needs in
-    k .read-some .ensures
+    let i : tie.In-loop Inv-loop μ-loop = search needs in
+    (k .read-some .ensures .0, came-then _ _ _ (i .before .loop .inv .2) (k .read-some .ensures .1))
 
 same-length-6 : tie.Need-same-length-6 Inv-loop μ-loop
 same-length-6 c = c .before .loop .inv .1 .caps
@@ -92,7 +96,7 @@ same-length-10 : tie.Need-same-length-10 Inv-loop μ-loop
 same-length-10 c = c .before .loop .inv .1 .word
 
 returns-2 : tie.Need-returns-2 Inv-loop μ-loop
-returns-2 c = c .before .loop .inv .0
+returns-2 c = (c .before .loop .inv .0, c .before .loop .inv .2)
 
 pub read-all-spec : {M : Type 1} → statement M
 read-all-spec =

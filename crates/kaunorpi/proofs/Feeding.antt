@@ -1,0 +1,33 @@
+-- Laws of what reads come to. Assumes nothing.
+use mathlib.Core.Path.{_≡_, refl, sym, subst, ap, _∙_}
+use mathlib.Core.List.{List, [], _++_}
+use Prim.Native.Nat.{ℕ}
+use Rattle.reading.specs.declared.Reading.{Reading}
+use Rattle.reading.specs.Read.{Rooms, fresh}
+use Rattle.parts.specs.declared.Held.{Held}
+use Rattle.parts.specs.File.{Run, going, Both, both, feedAll, caseOf, abs}
+use Rattle.parts.proofs.Line.{all-append}
+use Rattle.answering.specs.Answer.{answerFor}
+use Rattle.kaunorpi.specs.Came.{Came, Shown, Made, answer}
+
+pub came-none : (z : Both) → Came z z
+unfolding feedAll
+came-none z = record { bytes = []; fed = refl }
+
+pub came-part : (z w : Both) (part : List ℕ) → w ≡ feedAll z part → Came z w
+came-part z w part e = record { bytes = part; fed = e }
+
+pub came-then : (z w v : Both) → Came z w → Came w v → Came z v
+came-then z w v a b =
+    record {
+      bytes = a .bytes ++ b .bytes;
+      fed = b .fed ∙ ap (λ (y : Both). feedAll y (b .bytes)) (a .fed) ∙ sym (all-append z (a .bytes) (b .bytes));
+    }
+
+-- the line of what was read from the first state on
+pub made-answer : (s : Reading) (h held : Held) (x y : Rooms) (out out′ : List ℕ) → s ≡ fresh → abs h ≡ going s [] → Came (both (abs h) x) (both (abs held) y)
+    → Shown out (answerFor (caseOf (abs held)) y) out′ → Made x out out′
+made-answer s h held x y out out′ e a c w =
+    let b : abs h ≡ going fresh [] = a ∙ ap (λ (r : Reading). going r []) e in
+    let f = c .fed ∙ ap (λ (r : Run). feedAll (both r x) (c .bytes)) b in
+    answer (c .bytes) (subst (λ (z : Both). Shown out (answerFor (caseOf (z .run)) (z .rooms)) out′) f w)

@@ -1,0 +1,24 @@
+-- What the program's reads come to, and the line that it makes. No contract can say which bytes a read gives: whichever they
+-- are, they are fed in order, and the line is that of them all.
+use Prim.Native.Nat.{ℕ}
+use mathlib.Core.Path.{_≡_}
+use mathlib.Core.List.{List}
+use Rattle.reading.specs.Read.{Rooms}
+use Rattle.parts.specs.File.{Both, feedAll, caseOf}
+use Rattle.verdict.specs.Verdict.{WrittenBytes}
+use Rattle.answering.specs.Answer.{answerFor, comesTo}
+
+-- some bytes were fed from the state z on, one after another, and came to w
+pub record Came (z w : Both) : Type 0 where
+  pub bytes : List ℕ
+  pub fed : w ≡ feedAll z bytes
+
+-- the line of these bytes stands at the front of the room
+pub record Shown (out bytes out′ : List ℕ) : Type 0 where
+  pub long : ℕ
+  pub line : WrittenBytes out bytes long out′
+
+-- what the program has made: nothing, where a read failed; else the line of the bytes that were read
+pub data Made (x : Rooms) (out out′ : List ℕ) : Type 0 where
+  nothing : out′ ≡ out → Made x out out′
+  answer : (f : List ℕ) → Shown out (answerFor (caseOf (comesTo f x .run)) (comesTo f x .rooms)) out′ → Made x out out′
