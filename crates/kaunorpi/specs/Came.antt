@@ -4,9 +4,9 @@ use Prim.Native.Nat.{ℕ}
 use mathlib.Core.Path.{_≡_}
 use mathlib.Core.List.{List}
 use Rattle.reading.specs.Read.{Rooms}
-use Rattle.parts.specs.File.{Both, feedAll, caseOf}
+use Rattle.parts.specs.File.{Both, feedAll, readOf, caseOf}
 use Rattle.verdict.specs.Verdict.{WrittenBytes}
-use Rattle.answering.specs.Answer.{answerFor, comesTo}
+use Rattle.answering.specs.Answer.{answerFor}
 
 -- some bytes were fed from the state z on, one after another, and came to w
 pub record Came (z w : Both) : Type 0 where
@@ -21,4 +21,4 @@ pub record Shown (out bytes out′ : List ℕ) : Type 0 where
 -- what the program has made: nothing, where a read failed; else the line of the bytes that were read
 pub data Made (x : Rooms) (out out′ : List ℕ) : Type 0 where
   nothing : out′ ≡ out → Made x out out′
-  answer : (f : List ℕ) → Shown out (answerFor (caseOf (comesTo f x .run)) (comesTo f x .rooms)) out′ → Made x out out′
+  answer : (f : List ℕ) → Shown out (answerFor (caseOf (readOf x f .run)) (readOf x f .rooms)) out′ → Made x out out′
