@@ -1,6 +1,6 @@
 -- The number of a refusal is one byte. Assumes nothing.
 use Prim.Native.Nat.{ℕ, _+_, _*_, _%_, _<_}
-use mathlib.Core.Path.{_≡_, refl}
+use mathlib.Core.Path.{_≡_}
 use mathlib.Core.Bool.{Bool, true, false, cond}
 use mathlib.Core.List.{List, [], _∷_, _++_}
 use native.Mathlib.Omega.{arith}
@@ -11,7 +11,6 @@ use Rattle.frames.specs.Frame.{lineFeed, lineLimit, block, byteAt}
 use Rattle.reading.specs.declared.Reading.{Reading}
 use Rattle.reading.specs.declared.Took.the-variants as took
 use Rattle.reading.specs.Read.{Rooms, countsOf, capsOf, rowOf, fitTokens, tokensOf, fitLetters, lettersIn, lettersOf, judgeKind, judgeOf, ruleOf, advanced, lineOf, roomsOf}
-use Rattle.parts.specs.declared.Case.{Case}
 use Rattle.parts.specs.declared.Case.the-variants.{Whole, Refused}
 use Rattle.parts.specs.File.{Run, going, stopped, Both, both, ended, fedTo, feedOf, feedAll, finishOf, caseOf}
 

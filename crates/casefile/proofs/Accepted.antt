@@ -7,9 +7,8 @@ use lib.ListN.{length, take}
 use Rattle.net.specs.Net.{Net, netOf}
 use Rattle.reading.specs.Read.{Rooms, Large}
 use Rattle.parts.specs.declared.Case.{Case}
-use Rattle.parts.specs.declared.Case.the-variants as case
-use Rattle.parts.specs.File.{caseOf}
-use Rattle.written.specs.Text.{fileOf, Limited, Written, readOf, markingIn, wordIn, endOf, filled}
+use Rattle.parts.specs.File.{readOf, caseOf}
+use Rattle.written.specs.Text.{fileOf, Limited, Written, markingIn, wordIn, endOf, filled}
 use Rattle.written.proofs.Meaning.{accepted-exactly, those, file-read, filled-net, filled-marking, filled-word}
 use Rattle.casefile.specs.declared.CaseFile.{CaseFile}
 use Rattle.casefile.specs.declared.CaseFile.the-variants.{Read}

@@ -11,7 +11,6 @@ use Rattle.ground.specs.Limits.{countLimit, tokenLimit, wordLimit}
 use Rattle.frames.specs.Frame.{lineLimit, lineFeed, block, digitsOf, lineText, byteAt, wordAt, bytesFrom, wordsFrom}
 use Rattle.frames.proofs.Round.{Below, none, more, canon, digits-long}
 use Rattle.reading.specs.declared.Reading.{Reading}
-use Rattle.reading.specs.declared.Took.the-variants as took
 use Rattle.reading.specs.Read.{Rooms, rooms, ruleOf, judgeOf, lettersIn, advanced, advancedKind, stored, storedKind}
 use Rattle.reading.specs.Line.{Ruled, Formed, frame01, frame02, frame03, frame04, frame05, Counted, Marked, Short, Named}
 use Rattle.reading.proofs.Digits.{rule-all, rule-exactly}

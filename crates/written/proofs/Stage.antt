@@ -18,7 +18,6 @@ use Rattle.net.specs.Letter.{row}
 use Rattle.net.specs.Given.{Fine}
 use Rattle.net.proofs.Rows.{row-end}
 use Rattle.reading.specs.declared.Reading.{Reading}
-use Rattle.reading.specs.declared.Took.the-variants as took
 use Rattle.reading.specs.Read.{Rooms, rooms, fresh, Large, judgeOf, lettersIn, advanced, advancedKind, stored, storedKind}
 use Rattle.parts.specs.File.{going, Both, both, feedOf, feedAll}
 use Rattle.parts.proofs.Line.{feed-push, feed-long, never-goes, line-taken, line-stopped}
