@@ -50,6 +50,7 @@ static void keep(struct written *o, uint8_t kind, uint8_t number, size_t positio
     o->answer[3] = more;
 }
 
+/* Each question put to a side, its answer and rooms kept in that side's memory. */
 static void ask_replay(int side) {
     struct written *o = &out[side];
     kaunorpi_replay a = side_replay_word[side](NET, initial, P, word, letters, o->room, P);
@@ -173,6 +174,7 @@ static void make_switches(size_t bits, int last) {
     }
 }
 
+/* The lists of the table. */
 static void make_256(void) { make_switches(8, 1); }
 static void make_1024(void) { make_switches(10, 1); }
 static void make_1024_first(void) { make_switches(10, 0); }

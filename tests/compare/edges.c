@@ -28,6 +28,7 @@ static int two_faults(const struct given *g) {
     return refused(g, 2) && in.initial.count > 0 && in.places <= 64 && *(const uint16_t *)own(&in.initial) == 65535;
 }
 
+/* One test for each edge; the table below says in words what it is. */
 static int all_fired_long(const struct given *g) { return answered(g, 0) && g->field[0] == 65535; }
 static int short_late(const struct given *g) { return answered(g, 1) && g->field[0] > 1000; }
 static int over_late(const struct given *g) { return answered(g, 2) && g->field[0] > 1000; }
