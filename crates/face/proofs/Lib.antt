@@ -1,4 +1,0 @@
-pub mod Handed
-pub mod Summaries
-pub mod Cases
-pub mod Meaning
