@@ -9,14 +9,11 @@ here=$(cd "$(dirname "$(readlink -f "${BASH_SOURCE[0]}")")/.." && pwd)
 [ $# -ge 2 ] || { echo "use: tests/link.sh OUT SOURCES.." >&2; exit 2; }
 out=$1
 shift
-archive=$here/target/staticlib/libface.a
+archive=$here/target/libkaunorpi.a
 room=$(mktemp -d)
 trap 'rm -rf "$room"' EXIT
 
-# The archive is made anew where a crate's source is younger than it.
-if [ ! -f "$archive" ] || [ -n "$(find "$here/crates" "$here/crates.txt" -newer "$archive" \( -name '*.rt' -o -name '*.antt' -o -name crates.txt \) -print -quit)" ]; then
-    (cd "$here" && rt staticlib face) >"$room/said" 2>&1 || { cat "$room/said" >&2; exit 1; }
-fi
+"$here/library" >/dev/null || exit 1
 
 objects=()
 for source in "$@"; do
