@@ -27,7 +27,6 @@ use Rattle.weighting.specs.declared.PlaceWeighting.the-variants as place
 use Rattle.weighting.specs.Transition.{transitionOf}
 use Rattle.weighting.specs.declared.TransitionWeighting.the-variants as transition
 use Rattle.weighting.specs.Bound.{WholePart, Judged, boundFault, foundBound, boundOf}
-use Rattle.weighting.specs.declared.NoBoundCause.the-variants.{NotInvariant}
 use Rattle.weighting.specs.declared.Bound.the-variants.{Bounded, Refused}
 use Rattle.weighting.proofs.Sums.{mul-plus, sum-same, sum-both, sum-none, sum-at, total-at}
 use Rattle.weighting.proofs.Entries.{no-negative, weight-is}
