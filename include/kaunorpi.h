@@ -35,9 +35,9 @@
  *   11  a line of a case file breaks the digit rules or lacks its line feed. position: the line, from 1
  *   12  a frame of unknown kind, in the wrong order, of wrong length or index, or missing. position: the line
  *   13  a place number that is not below the place count
- * position is 0 where nothing else is said, but in a case file it is always the line. Of several refusals the
- * lowest number is given, and of one number the lowest position, the initial marking before a list before a
- * target.
+ * position is 0 where nothing else is said. Of several refusals the lowest number is given, and of one number
+ * the lowest position, the initial marking before a list before a target. A case file (kaunorpi_read_case) is
+ * different: the first faulty line decides, on it 11 and 12 come before 1, 3, 4 and 5, and position is that line.
  */
 #ifndef KAUNORPI_H
 #define KAUNORPI_H

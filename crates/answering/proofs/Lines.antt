@@ -1,16 +1,15 @@
 -- Laws of the line that answers a file. Assumes nothing.
-use Prim.Native.Nat.{ℕ, _*_, _≤_, _<_}
+use Prim.Native.Nat.{ℕ, _≤_, _<_}
 use mathlib.Core.Path.{_≡_, refl, sym, subst, _∙_}
 use mathlib.Core.Bool.{Bool, true, _&&_}
 use mathlib.Core.List.{List, []}
 use native.Mathlib.Omega.{arith}
-use native.Mathlib.Nat.{mul-le-mul}
 use lib.ListN.{length}
 use lib.Dec.{eqb}
 use Rattle.ground.specs.Limits.{countLimit}
 use Rattle.ground.proofs.Fill.{table-length}
 use Rattle.reading.specs.declared.Reading.{Reading}
-use Rattle.reading.specs.Read.{Rooms, Good, cellLimit}
+use Rattle.reading.specs.Read.{Rooms}
 use Rattle.parts.specs.declared.Case.{Case}
 use Rattle.parts.specs.declared.Case.the-variants as file
 use Rattle.parts.specs.File.{GoodCase}
@@ -29,10 +28,6 @@ use Rattle.verdict.specs.Verdict.{bytesOf, answerLimit, Placed, WrittenBytes}
 use Rattle.verdict.proofs.Answers.{line-few}
 use Rattle.written.specs.Text.{netIn, markingIn, wordIn}
 use Rattle.answering.specs.Answer.{roomFor, answerFor}
-
--- the net's cells are inside their rooms
-pub cells-few : (s : Reading) → Good s → s .transitions * s .places ≤ cellLimit
-cells-few s g = mul-le-mul (g .transitions) (g .places)
 
 -- a cause names one of the net's places
 named-place : (net : Net) (m : List ℕ) (t : ℕ) (why : Cause) → Names net m t why → causePlace why < net .places

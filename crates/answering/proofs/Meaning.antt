@@ -7,7 +7,7 @@ use native.Mathlib.Omega.{arith}
 use lib.ListN.{length}
 use Rattle.ground.proofs.Fill.{table-length}
 use Rattle.frames.specs.Frame.{allDigits, digitsOf, lineFeed, lineText}
-use Rattle.frames.proofs.Round.{Below, none, more, value-digit}
+use Rattle.frames.proofs.Round.{Below, none, more}
 use Rattle.reading.specs.declared.Reading.{Reading}
 use Rattle.reading.specs.Read.{Rooms, Large, fresh}
 use Rattle.parts.specs.declared.Case.{Case}
@@ -22,6 +22,7 @@ use Rattle.replay.specs.declared.Replay.the-variants.{Fired, Blocked, Refused}
 use Rattle.replay.proofs.Meaning.{allowed-answered, fires-fired}
 use Rattle.verdict.specs.Verdict.{four, fours, bytesOf, Placed}
 use Rattle.written.specs.Text.{netIn, markingIn, wordIn}
+use Rattle.written.proofs.Bytes.{digits-all}
 use Rattle.written.proofs.Meaning.{limited-allowed, read-file}
 use Rattle.answering.specs.Answer.{roomFor, ranRead, answerFor, lineFor, lineAt, fileLine}
 use Rattle.answering.proofs.Lines.{placed}
@@ -57,14 +58,6 @@ pub record OneLine (l : List ℕ) : Type 0 where
   pub ends : l ≡ digits ++ (lineFeed ∷ [])
   pub only : allDigits digits ≡ true
 
-digits-only : (bs : List ℕ) → Below 256 bs → allDigits (digitsOf bs) ≡ true
-unfolding allDigits digitsOf
-digits-only [] b = refl
-digits-only (x ∷ bs) (more h b) =
-    let hi = value-digit (x / 16) (omega arith) .1 in
-    let lo = value-digit (x % 16) (omega arith) .1 in
-    simp (hi, lo) (digits-only bs b)
-
 -- one more byte
 cons : (b : ℕ) (bs : List ℕ) → b < 256 → Below 256 bs → Below 256 (b ∷ bs)
 cons b bs h w = more h w
@@ -88,7 +81,7 @@ bytes-below (Refused n at) m p r =
     cons 0x82 _ (omega arith) (cons n _ (r n at refl) (rw append-nil at w))
 
 line-of-bytes : (bs : List ℕ) → Below 256 bs → OneLine (lineText bs)
-line-of-bytes bs b = record { digits = digitsOf bs; ends = refl; only = digits-only bs b }
+line-of-bytes bs b = record { digits = digitsOf bs; ends = refl; only = digits-all bs b }
 
 -- what the line is written for: a case that document 01 allows, or a refusal whose number is one byte
 abbrev pub Told : Case → Rooms → Type 0

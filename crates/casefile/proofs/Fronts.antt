@@ -2,17 +2,15 @@
 use mathlib.Core.Path.{_≡_, sym, _∙_}
 use mathlib.Core.Bool.{true, false}
 use mathlib.Core.List.{List}
-use Prim.Native.Nat.{ℕ, _+_, _*_, _≤_, _<_}
+use Prim.Native.Nat.{ℕ, _+_, _≤_, _<_}
 use native.Mathlib.Omega.{arith}
-use native.Mathlib.Nat.{mul-le-mul}
 use lib.ListN.{length, getD, set, take, length-take}
 use lib.Seq.{sets, length-take-le}
 use lib.Dec.{eqb}
 use borrow.Author.Tests.{eq-eqb, ne-eqb, eqb-true}
 use Rattle.ground.specs.Limits.{countLimit, wordLimit}
 use Rattle.ground.proofs.Tests.{and-true}
-use Rattle.reading.specs.declared.Reading.{Reading}
-use Rattle.reading.specs.Read.{cellLimit, Good, Rooms, rooms, Large}
+use Rattle.reading.specs.Read.{cellLimit, Rooms, rooms, Large}
 use Rattle.parts.proofs.Buffer.{Filling, filling-start, filling-next, filling-end}
 use Rattle.casefile.specs.Entry.{largestOf, largest, Largest}
 
@@ -46,10 +44,6 @@ part-fits n list room h = omega (arith, length-take n list)
 
 pub rooms-same : {a b c d e a′ b′ c′ d′ e′ : List ℕ} → a ≡ a′ → b ≡ b′ → c ≡ c′ → d ≡ d′ → e ≡ e′ → rooms a b c d e ≡ rooms a′ b′ c′ d′ e′
 rooms-same p q r s t = rw (p, q, r, s, t)
-
--- the entries of Pre, and of Post, fit their room
-pub cells-fit : (s : Reading) → Good s → s .transitions * s .places ≤ cellLimit
-cells-fit s g = mul-le-mul (g .transitions) (g .places)
 
 -- the lengths are compared one by one
 module _ (a b c d e : ℕ) where

@@ -5,8 +5,8 @@ use mathlib.Core.Bool.{Bool, true, false, cond}
 use mathlib.Core.List.{List, [], _∷_, _++_, append-nil}
 use mathlib.Core.Logic.{_↔_}
 use native.Mathlib.Omega.{arith}
-use lib.ListN.{length, take, drop}
-use lib.Seq.{sets, sets-eq, take-at, drop-at, length-take-le}
+use lib.ListN.{length, take}
+use lib.Seq.{sets, length-take-le}
 use lib.Dec.{eqb}
 use borrow.Author.Tests.{ne-eqb, eqb-true}
 use Rattle.ground.specs.Limits.{countLimit, wordLimit}
@@ -14,15 +14,17 @@ use Rattle.frames.specs.Frame.{lineFeed}
 use Rattle.reading.specs.declared.Reading.{Reading}
 use Rattle.reading.specs.declared.Took.the-variants as took
 use Rattle.reading.specs.Read.{cellLimit, fresh, Good, Rooms, lineOf, judgeOf, Large}
+use Rattle.reading.proofs.Meaning.{refused-here}
 use Rattle.parts.specs.declared.Case.{Case}
 use Rattle.parts.specs.declared.Case.the-variants as case
 use Rattle.parts.specs.File.{Run, going, stopped, Both, both, feedAll, together, feedParts, finishOf, caseOf, NoFeed}
 use Rattle.parts.proofs.Line.{all-append, any-cutting, holds, refused-line, large}
+use Rattle.written.proofs.Fronts.{cells-few, front-of, rest-of}
 use Rattle.casefile.specs.declared.CaseFile.{CaseFile}
 use Rattle.casefile.specs.declared.CaseFile.the-variants.{Read, Refused}
 use Rattle.casefile.specs.Entry.{Came, came, largest, Largest, blank, readAll, laid, answered, filledOf, caseFileOf, numbers, CaseRead}
 use Rattle.casefile.specs.Cut.{feeds, Front}
-use Rattle.casefile.proofs.Fronts.{largest-of, of-largest, cells-fit}
+use Rattle.casefile.proofs.Fronts.{largest-of, of-largest}
 use Rattle.casefile.proofs.Ends.{blank-large, end-cut, left-over}
 use Rattle.casefile.proofs.Fold.{Counted, fed-file}
 
@@ -41,15 +43,13 @@ unique file x r r′ y y′ a b = (numbers-apart r r′ (a .answer ∙ sym (b .a
 laid-front : (n limit : ℕ) (y x : List ℕ) → n ≤ limit → limit ≤ length y → limit ≤ length x → Front n y x (sets x 0 (take n y))
 laid-front n limit y x a b c =
     let l : length (take n y) ≡ n = length-take-le n y (omega arith) in
-    let e : 0 + length (take n y) ≡ n = omega arith in
-    let q : sets x 0 (take n y) ≡ take n y ++ drop n x = sets-eq (take n y) x 0 (omega arith) ∙ ap (λ (k : ℕ). take n y ++ drop k x) e in
-    record { front = ap (take n) q ∙ take-at (take n y) (drop n x) n l; rest = ap (drop n) q ∙ drop-at (take n y) (drop n x) n l }
+    record { front = front-of (take n y) x n l (omega arith); rest = rest-of (take n y) x n l (omega arith) }
 
 laid-fronts : (s : Reading) (y x x′ : Rooms) → Good s → Large y → Largest x → x′ ≡ laid s y x → (P T n : ℕ) → s .places ≡ P → s .transitions ≡ T → s .letters ≡ n
     → Front P (y .caps) (x .caps) (x′ .caps) × Front P (y .initial) (x .initial) (x′ .initial) × Front (T * P) (y .pre) (x .pre) (x′ .pre) × Front (T * P) (y .post) (x .post) (x′ .post)
     × Front n (y .word) (x .word) (x′ .word)
 laid-fronts s y x x′ g h l e P T n p t k =
-    let c = cells-fit s g in
+    let c = cells-few s g in
     rw (e, ← p, ← t, ← k) (
       laid-front (s .places) countLimit (y .caps) (x .caps) (g .places) (h .caps) (omega (arith, l .caps)),
       laid-front (s .places) countLimit (y .initial) (x .initial) (g .places) (h .initial) (omega (arith, l .initial)),
@@ -80,8 +80,7 @@ refused-line-is (going t (b ∷ d)) k n l c e = let i : t .line + 1 ≡ l = cc i
 refused-line-is (stopped m j) k n l c e = let i : j ≡ l = cc in (omega (arith, c .0), omega (arith, c .1))
 
 judged-refused : (s : Reading) (d caps : List ℕ) (n : ℕ) → judgeOf s d caps ≡ n → (n ≡ 0 → ⊥) → took.Refused n (s .line + 1) ≡ lineOf s d caps
-unfolding lineOf
-judged-refused s d caps n e m = rw e (simp (ne-eqb _ _ m))
+judged-refused s d caps n e m = ap (λ (k : ℕ). took.Refused k (s .line + 1)) (sym e) ∙ sym (refused-here s d caps (λ z. m (sym e ∙ z)))
 
 module _ (file : List ℕ) (x : Rooms) (r : CaseFile) (x′ : Rooms) (p : CaseRead file x r x′) where
   answer-is : r ≡ caseFileOf file x .answer

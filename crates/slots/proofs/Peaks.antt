@@ -34,10 +34,6 @@ module _ (x l g : ℕ → ℕ) where
   peak [] = 0
   peak (t ∷ w) = step (x t) (peak w) (l t) (g t)
 
-  pub peak-nil : peak [] ≡ 0
-  unfolding peak
-  peak-nil = refl
-
   pub peak-more : (w : List ℕ) (i : ℕ) → step (most i (heightAt w)) (x (getD w i 0)) (total l (take i w)) (total g (take i w)) ≡ most (i + 1) (heightAt w)
   peak-more w i = rw (add-one i, most-more i (heightAt w)) (sym (step-is (most i (heightAt w)) _ _ _ _ refl))
 

@@ -4,7 +4,8 @@ use native.Mathlib.Omega.{arith}
 use mathlib.Core.Path.{sym}
 use lib.Seq.{length-take-le}
 use Rattle.reading.specs.Read.{rooms}
-use Rattle.answering.proofs.Lines.{cells-few, placed, played-line}
+use Rattle.written.proofs.Fronts.{cells-few}
+use Rattle.answering.proofs.Lines.{placed, played-line}
 use borrow.Author.Needs.{needs}
 use Rattle.answering.proofs.play_line.Statement.{statement}
 use Rattle.answering.proofs.play_line.Tie as tie

@@ -1,7 +1,8 @@
 use Prim.Native.Nat.{_*_}
 use denote.Ref.{now}
 use native.Mathlib.Omega.{arith}
-use Rattle.casefile.proofs.Fronts.{cells-fit, part-long, part-fits, rooms-same}
+use Rattle.written.proofs.Fronts.{cells-few}
+use Rattle.casefile.proofs.Fronts.{part-long, part-fits, rooms-same}
 use borrow.Author.Needs.{needs}
 use Rattle.casefile.proofs.lay_out.Statement.{statement}
 use Rattle.casefile.proofs.lay_out.Tie as tie
@@ -25,7 +26,7 @@ at5 c = at4 (c .before .before .before .before .before)
 mul-cells : tie.Need-mul-cells
 mul-cells c =
     let s : tie.Start = search needs in
-    omega (arith, cells-fit (s .args .s) (s .pre .0))
+    omega (arith, cells-few (s .args .s) (s .pre .0))
 
 slice-aggregate-lay-words : tie.Need-slice-aggregate-lay-words
 slice-aggregate-lay-words c =
@@ -50,22 +51,22 @@ lay-words-requires-2 c κs =
 slice-aggregate-lay-bytes : tie.Need-slice-aggregate-lay-bytes
 slice-aggregate-lay-bytes c =
     let s = at3 c in
-    part-long _ _ (omega (arith, cells-fit _ (s .pre .0), s .pre .1 .pre, s .pre .1 .post))
+    part-long _ _ (omega (arith, cells-few _ (s .pre .0), s .pre .1 .pre, s .pre .1 .post))
 
 lay-bytes-requires : tie.Need-lay-bytes-requires
 lay-bytes-requires c κs =
     let s = at3 c in
-    part-fits (s .args .s .transitions * s .args .s .places) _ (now (s .args .pre)) (omega (arith, cells-fit _ (s .pre .0), s .pre .2 .pre))
+    part-fits (s .args .s .transitions * s .args .s .places) _ (now (s .args .pre)) (omega (arith, cells-few _ (s .pre .0), s .pre .2 .pre))
 
 slice-aggregate-lay-bytes-2 : tie.Need-slice-aggregate-lay-bytes-2
 slice-aggregate-lay-bytes-2 c =
     let s = at4 c in
-    part-long _ _ (omega (arith, cells-fit _ (s .pre .0), s .pre .1 .pre, s .pre .1 .post))
+    part-long _ _ (omega (arith, cells-few _ (s .pre .0), s .pre .1 .pre, s .pre .1 .post))
 
 lay-bytes-requires-2 : tie.Need-lay-bytes-requires-2
 lay-bytes-requires-2 c κs =
     let s = at4 c in
-    part-fits (s .args .s .transitions * s .args .s .places) _ (now (s .args .post)) (omega (arith, cells-fit _ (s .pre .0), s .pre .2 .post))
+    part-fits (s .args .s .transitions * s .args .s .places) _ (now (s .args .post)) (omega (arith, cells-few _ (s .pre .0), s .pre .2 .post))
 
 slice-aggregate-lay-bytes-3 : tie.Need-slice-aggregate-lay-bytes-3
 slice-aggregate-lay-bytes-3 c =
