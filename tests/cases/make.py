@@ -223,4 +223,5 @@ def main():
         print("%d case files" % len(made))
 
 
-main()
+if __name__ == "__main__":
+    main()

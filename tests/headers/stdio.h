@@ -5,4 +5,10 @@
 int printf(const char *form, ...) __attribute__((format(printf, 1, 2)));
 int puts(const char *line);
 int putchar(int c);
+/* files, as the C library of the kit has them */
+typedef struct _IO_FILE FILE;
+extern FILE *stdin;
+FILE *fopen(const char *name, const char *mode);
+char *fgets(char *line, int most, FILE *file);
+int fclose(FILE *file);
 #endif

@@ -1,16 +1,15 @@
 #!/usr/bin/env python3
-"""What crates/weighting_runs must print: its file stdout is this script's output.
+"""The edges of weightings, bounds and sets: the table weighting.calls is this script's output.
 
-    python3 tests/expected/weighting.py > crates/weighting_runs/stdout
+    python3 tests/edges/weighting.py > tests/edges/weighting.calls
 
-Written from document 01 alone, without the program's code: numbers are unbounded and signed, sums are taken as 01 words
-them, sets are sets, and arcs are read from dictionaries. A line a case: its number, then the answer's numbers in decimal:
-129 0 (invariant, yes) or 129 0 bound; 129 1 with the lowest failing transition or place, or with the number of the cause for
-which there is no bound (1 not invariant, 2 a negative entry, 3 y(p) not positive); 129 2 (proper); 130 refusal position.
+Written from document 01 alone, without the library's code: numbers are unbounded and signed, sums are taken as 01 words
+them, sets are sets, and arcs are read from dictionaries. Answers: 129 0 (invariant, yes) or 129 0 0 bound; 129 1 with the
+lowest failing transition or place, or with the number of the cause for which there is no bound (1 not invariant, 2 a negative
+entry, 3 y(p) not positive); 129 2 (proper); 130 refusal position.
 """
 
-NONE = 65535  # "65,535 means none"
-HUGE = 2**64 - 1  # the largest count or place number that can be lent
+from shared.calls import HUGE, NONE, call, group, heading, net
 
 
 class Refused(Exception):
@@ -77,7 +76,7 @@ def place_bound(P, T, pre, post, caps, initial, y, place):
         if (bound + step) * y[place] <= weighed:
             bound += step
         step >>= 1
-    return [129, 0, bound]
+    return [129, 0, 0, bound]
 
 
 def arcs_of(P, T, table, members):
@@ -103,12 +102,22 @@ def trap_set(P, T, pre, post, caps, lent):
     return [129, 1, min(taking - putting)] if taking - putting else [129, 0]
 
 
-def case(number, ask, *lent):
+# What each question is lent beside its net.
+LENT = {
+    place_weighting: ["y"],
+    transition_weighting: ["x"],
+    place_bound: ["initial", "y", "place"],
+    siphon_set: ["set"],
+    trap_set: ["set"],
+}
+
+
+def case(number, ask, P, T, pre, post, caps, *lent):
     try:
-        answer = ask(*lent)
+        answer = ask(P, T, pre, post, caps, *lent)
     except Refused as refused:
         answer = [130, *refused.args]
-    print(number, *answer)
+    call(number, ask.__name__, {**net(P, T, pre, post, caps), **dict(zip(LENT[ask], lent))}, answer)
 
 
 # the net of 01's case
@@ -126,24 +135,35 @@ def both_weightings(number, net, y):
 
 
 def samples():
+    group("the net of 01's case")
+    heading("sample 8")
     case(1, place_weighting, *SAMPLE, [1, 1, 0])
     case(2, place_bound, *SAMPLE, [1, 0, 0], [1, 1, 0], 0)
+    heading("sample 9")
     case(3, place_weighting, *SAMPLE, [0, 0, 1])
+    heading("sample 10")
     case(4, transition_weighting, *SAMPLE, [3, 3, 2])
+    heading("sample 11")
     both_sets(5, SAMPLE, [1, 1, 0])
     both_sets(7, SAMPLE, [0, 0, 1])
+    heading("negative entries: invariant and not proper")
     case(9, place_weighting, *SAMPLE, [-1, -1, 0])
     case(10, transition_weighting, *SAMPLE, [-3, -3, -2])
+    heading("fails at the first transition, and at the second")
     case(11, place_weighting, *SAMPLE, [1, 0, 0])
     case(12, place_weighting, *SAMPLE, [2, 2, 1])
+    heading("fails at place 0, and at the last place only")
     case(13, transition_weighting, *SAMPLE, [3, 2, 2])
     case(14, transition_weighting, *SAMPLE, [3, 3, 1])
     case(15, transition_weighting, *SAMPLE, [-3, -3, 2])
+    heading("all zero, and no place")
     case(16, place_weighting, *SAMPLE, [0, 0, 0])
     case(17, transition_weighting, *SAMPLE, [0, 0, 0])
     both_sets(18, SAMPLE, [0, 0, 0])
+    heading("all places, any byte but 0 for in; one place")
     both_sets(20, SAMPLE, [255, 1, 128])
     both_sets(22, SAMPLE, [1, 0, 0])
+    heading("another length")
     case(24, place_weighting, *SAMPLE, [1, 1])
     case(25, transition_weighting, *SAMPLE, [3, 3, 2, 1])
     both_sets(26, SAMPLE, [1, 1, 0, 0])
@@ -160,24 +180,31 @@ def bounds():
         arcs = [255] * 4096
         case(number, place_bound, 64, 64, arcs, arcs, [NONE] * 64, [65534] * 64, [own] + [others] * 63, place)
 
+    group("bounds")
+    heading("the causes in their order: not invariant and negative; negative; negative and not positive; not positive")
     sample(31, 1, 0, [0, 0, -1], 2)
     sample(32, 1, 0, [-1, -1, 0], 0)
     sample(33, 1, 0, [-1, -1, 0], 2)
     sample(34, 1, 0, [1, 1, 0], 2)
     sample(35, 1, 0, [0, 0, 1], 0)
+    heading("place numbers up to P and above")
     sample(36, 1, 0, [1, 1, 0], 1)
     sample(37, 1, 0, [1, 1, 0], 3)
     sample(38, 1, 0, [1, 1, 0], HUGE)
+    heading("8 before 13, 3 before 8, 2 before 3; 3 at the lowest place")
     sample(39, 1, 0, [0, 0, 0], 3)
     sample(40, 1, 6, [0, 0, 0], 3)
     sample(41, 1, 6, [0, 0], 3)
     sample(42, 65535, 6, [1, 1, 0], 0)
+    heading("y(p) = 1; what is left over by the division")
     two_places(43, 1, 1, [65534, 65534], [1, 1], 0)
     two_places(44, 3, 2, [4, 1], [2, 3], 0)
     two_places(45, 3, 2, [4, 1], [2, 3], 1)
     two_places(46, 3, 2, [4, 0], [2, 3], 0)
     two_places(47, 255, 1, [65534, 65534], [128, 32640], 1)
+    heading("no tokens")
     two_places(48, 1, 1, [0, 0], [7, 7], 0)
+    heading("64 places and 64 transitions: the largest sums")
     largest(49, 32767, 32767, 63)
     largest(50, 1, 32767, 0)
     largest(51, 1, 32767, 1)
@@ -201,23 +228,30 @@ def extremes():
         net = 64, 64, [255] * 4095 + [last], [255] * 4096, [NONE] * 64
         both_sets(number, net, [1 if p == place else 0 for p in range(64)])
 
+    group("one place and one transition: the largest entries and weights")
     both_weightings(61, one(255, 255), [-32768])
     both_weightings(63, one(255, 0), [-32768])
     both_weightings(65, one(0, 255), [32767])
     both_weightings(67, one(0, 0), [1])
     both_weightings(69, one(1, 2), [0])
+    heading("its place as a siphon and as a trap")
     one_set(71, 255, 255)
     one_set(73, 255, 0)
     one_set(75, 0, 255)
     one_set(77, 0, 0)
+    group("64 places and 64 transitions")
+    heading("every sum is 0")
     sixty_four(81, -32768, -32768, 255)
     sixty_four(83, 32767, 32767, 255)
     sixty_four(85, 32767, -32768, 255)
+    heading("only the last transition and the last place fail")
     sixty_four(87, -32768, -32768, 254)
     sixty_four(89, 32767, -32768, 0)
     sixty_four(91, 0, 1, 254)
+    heading("they are weighed by 0; all zero")
     sixty_four(93, 1, 0, 254)
     sixty_four(95, 0, 0, 254)
+    heading("sets: only the last transition fails; none does")
     largest_set(97, 63, 0)
     largest_set(99, 62, 0)
     largest_set(101, 63, 255)
@@ -233,21 +267,27 @@ def refusals():
     def faulty_set(number, P, T, pre, post, lent):
         both_sets(number, (P, T, pre, post, [9]), lent)
 
+    group("refusals 1 and 2, one capacity lent")
+    heading("nothing wrong")
     faulty(111, 1, 1, [1], [1], [1])
+    heading("counts of 0 and of 65, and as many as can be said")
     faulty(113, 0, 1, [], [], [1])
     faulty(115, 1, 0, [], [], [1])
     faulty(117, 65, 1, [1], [1], [1])
     faulty(119, 1, HUGE, [1], [1], [0])
+    heading("lengths: the weighting's, Pre's, Post's, the capacities'")
     faulty(121, 1, 2, [1, 1], [1, 1], [1])
     faulty(123, 1, 2, [1, 1], [1, 1], [1, 1])
     faulty(125, 1, 1, [1, 1], [1], [1])
     faulty(127, 1, 1, [1], [], [0])
     faulty(129, 2, 1, [1, 1], [1, 1], [1, 1])
+    heading("a bound: nothing wrong, counts, lengths")
     faulty_bound(131, 1, 1, [1], [1], [1])
     faulty_bound(132, 0, 1, [], [], [1])
     faulty_bound(133, 1, 65, [1], [1], [1])
     faulty_bound(134, 1, 1, [1], [1, 1], [1])
     faulty_bound(135, 2, 1, [1, 1], [1, 1], [1, 1])
+    heading("sets: nothing wrong, counts, lengths, and a transition that puts and does not take")
     faulty_set(136, 1, 1, [1], [1], [7])
     faulty_set(138, 65, 65, [1], [1], [7])
     faulty_set(140, 1, 2, [1, 1], [1], [7])

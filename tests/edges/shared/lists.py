@@ -1,7 +1,6 @@
-"""What tests/expected/closed.py and cover.py share, from document 01's "Marking lists" and its refusal table. It prints nothing by
-itself, and stands in a folder of its own since tests/run takes every tests/expected/*.py for a script with a program."""
+"""What closed.py and cover.py share, from document 01's "Marking lists" and its refusal table."""
 
-NONE = 65535  # "65,535 means none"
+from shared.calls import NONE, call, net as lent_net
 
 
 class Net:
@@ -54,15 +53,14 @@ def failure(net, initial, markings, fired, held):
     return None
 
 
-def tell(case, refused, failed, shown):
+def tell(case, question, net, lent, refused, failed, shown):
     """A case's line; `failed` and `shown` are asked only where nothing before them answers."""
     if refused is not None:
-        print(case, 130, *refused)
-        return
-    numbers = failed()
-    if numbers is None:
-        numbers = [0 if shown() else 3]
-    print(case, 129, *numbers)
+        answer = [130, *refused]
+    else:
+        numbers = failed()
+        answer = [129, *(numbers if numbers is not None else [0 if shown() else 3])]
+    call(case, question, {**lent_net(net.P, net.T, net.pre, net.post, net.caps), **lent}, answer)
 
 
 SAMPLE = Net(3, 3, [1, 0, 0, 0, 1, 0, 0, 0, 3], [0, 1, 0, 1, 0, 2, 0, 0, 0], [NONE, NONE, 5])

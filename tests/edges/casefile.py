@@ -1,0 +1,115 @@
+#!/usr/bin/env python3
+"""The edges of reading a case file from C: the table casefile.calls is this script's output.
+
+    python3 tests/edges/casefile.py > tests/edges/casefile.calls
+
+What a file holds or which line is faulty is judged by tests/cases/make.py, written from document 01 alone. Many more files are
+in tests/cases, where the program reads them; here are those that fill the rooms, or must not. Answers: 129 0 0 places
+transitions letters; 130 refusal line. Rooms hold 7s at entry.
+"""
+
+import sys
+from itertools import groupby
+from pathlib import Path
+
+sys.path.insert(0, str(Path(__file__).resolve().parents[1] / "cases"))
+from make import WHOLE, Refused, big, judge, text
+
+from shared.calls import call, group, heading
+
+SIZES = {"caps": 64, "initial": 64, "pre": 4096, "post": 4096, "word": 65535}
+
+
+def quoted(data):
+    """The bytes of a file as a table has them: in quotes, and lines that repeat once, with their number."""
+    runs = [(line, len(list(same))) for line, same in groupby(data.decode("ascii").splitlines(keepends=True))]
+    parts = []
+    for once, some in groupby(runs, key=lambda run: run[1] == 1):
+        parts += [("".join(line for line, _ in some), 1)] if once else list(some)
+    assert not set(b' "\\\r') & set(data), "a table's text has no such byte"
+    form = lambda part: '"' + part.replace("\n", "\\n") + '"'
+    return ",".join(form(part) + (f"*{times}" if times > 1 else "") for part, times in parts)
+
+
+def flat(rows):
+    return [entry for row in rows for entry in row]
+
+
+def read(case, edge, data, sizes={}):
+    """A file read into rooms, of which some have another size."""
+    heading(edge)
+    found = {name: [7] * size for name, size in {**SIZES, **sizes}.items()}
+    try:
+        if sizes:
+            raise Refused(2, 0)
+        held = judge(data)
+        answer = [129, 0, 0, held["P"], held["T"], len(held["word"])]
+        net = {**held, "pre": flat(held["pre"]), "post": flat(held["post"])}
+        left = {name: net[name] + room[len(net[name]) :] for name, room in found.items()}
+    except Refused as refused:
+        answer, left = [130, *refused.args], found
+    call(case, "read_case", {"file": quoted(data), **found}, answer, left)
+
+
+def whole():
+    group("01's whole case, and reading R12")
+    read(1, "the whole case", text(WHOLE))
+    read(2, "the first line without its line feed", b"010303")
+    read(3, "the empty file", b"")
+    read(4, "a lone line feed", b"\n")
+    read(5, "the whole case without its last byte", text(WHOLE)[:-1])
+    read(6, "its first five lines", text(WHOLE[:5]))
+    read(7, "its first six lines: the empty word", text(WHOLE[:6]))
+
+
+def rooms():
+    group("rooms of another length: refusal 2, before the file is looked at")
+    for k, (name, size) in enumerate(SIZES.items()):
+        read(11 + 3 * k, f"{name} one too short", text(WHOLE), {name: size - 1})
+        read(12 + 3 * k, f"{name} one too long", text(WHOLE), {name: size + 1})
+        read(13 + 3 * k, f"no room for {name}", text(WHOLE), {name: 0})
+    read(26, "a room too short, and an empty file", b"", {"caps": 63})
+
+
+def digits():
+    group("the length of a line")
+    row = big(64, 1, 5, None)
+    read(31, "260 digits, the row of a net of 64 places", row)
+    read(32, "262 digits", row.replace(b"\n05", b"00\n05"))
+    read(33, "260 digits of a frame that is too long: 12", text(["01" + "00" * 129]))
+    read(34, "262 digits of it: 11", text(["01" + "00" * 130]))
+
+
+def counts():
+    group("counts")
+    read(41, "64 transitions", big(1, 64, 130, None))
+    read(42, "65 places", text(["014103"] + WHOLE[1:]))
+    read(43, "65 transitions", text(["010341"] + WHOLE[1:]))
+    read(44, "no place", text(["010003"] + WHOLE[1:]))
+
+
+def words():
+    one = ["010101", "02FFFF", "030000", "04000001"] + ["05" + "00" * 64] * 1023
+    group("words")
+    read(51, "65,535 letters", text(one + ["05" + "00" * 63]))
+    read(52, "65,536 letters", text(one + ["05" + "00" * 64]))
+    read(53, "65,536 letters, the last one wrong", text(one + ["05" + "00" * 63 + "09"]))
+    read(54, "a letter that names no transition", text(WHOLE[:6] + ["0500010003"]))
+    read(55, "a line of fewer than 64 letters before another", text(WHOLE[:6] + ["05" + "00" * 63, "0500"]))
+
+
+def faults():
+    group("faults of other lines")
+    read(61, "tokens exactly at capacity", text(WHOLE[:2] + ["03000100000005"] + WHOLE[3:]))
+    read(62, "tokens above capacity", text(WHOLE[:2] + ["03000100000006"] + WHOLE[3:]))
+    read(63, "the index of a transition", text(WHOLE[:4] + ["0402000100010002"] + WHOLE[5:]))
+    read(64, "an unknown kind", text(WHOLE[:6] + ["060001000102"]))
+    read(65, "a lower-case digit", text([WHOLE[0], "02ffffFFFF0005"] + WHOLE[2:]))
+
+
+whole()
+rooms()
+digits()
+counts()
+words()
+faults()

@@ -1,0 +1,165 @@
+#!/usr/bin/env python3
+"""The edges of closed lists: the table closed.calls is this script's output.
+
+    python3 tests/edges/closed.py > tests/edges/closed.calls
+
+Written from document 01 alone, without the library's code: markings are tuples of unbounded numbers, a list is a set of them
+with its order beside it, and every rule is spelled out as 01 words it (refusals and the search in shared/lists.py). Answers:
+129 0 (accepted, never reached, never stalls), 129 1 (initial missing), 129 2 marking transition, 129 3 (not shown), or 130
+refusal position.
+"""
+
+from shared.calls import NONE, group, heading
+from shared.lists import SAMPLE, START, counted_net, failure, markings_of, one_place, refusal, tell
+
+
+def fired(net, m, t):
+    """The marking after t at m, or None where t is not enabled."""
+    takes, puts = net.arcs(t)
+    after = tuple(m[p] + puts[p] - takes[p] for p in range(net.P))
+    for p in range(net.P):
+        if takes[p] > m[p] or (net.caps[p] != NONE and after[p] > net.caps[p]):
+            return None
+    return after
+
+
+def line(case, net, initial, flat, target=None, stall=False):
+    def failed():
+        held = set(markings_of(net, flat))
+        return failure(net, initial, markings_of(net, flat), fired, lambda m: m in held)
+
+    def shown():
+        markings = markings_of(net, flat)
+        if stall:
+            return all(any(fired(net, m, t) is not None for t in range(net.T)) for m in markings)
+        return target is None or tuple(target) not in markings
+
+    lent = {"initial": initial, "list": flat, **({} if target is None else {"target": target})}
+    question = "closed_stall" if stall else "closed_list" if target is None else "closed_target"
+    tell(case, question, net, lent, refusal(net, initial, flat, target, (initial, flat)), failed, shown)
+
+
+ALL = [x for a, b in ((1, 0), (0, 1)) for c in range(6) for x in (a, b, c)]
+
+
+def one(case, takes, puts, cap, tokens, flat, stall=False):
+    line(case, one_place(takes, puts, cap), [tokens], flat, stall=stall)
+
+
+def counted(case, P, T, arcs, flat):
+    line(case, counted_net(P, T, arcs), [0], flat)
+
+
+def whole_lists():
+    group("whole lists")
+    heading("all 12 markings: one of places 0 and 1 marked, place 2 from 0 to 5")
+    line(1, SAMPLE, START, ALL)
+    heading("(0,1,5) is struck out")
+    line(2, SAMPLE, START, ALL[:33])
+    heading("(1,0,0), the initial marking, is struck out")
+    line(3, SAMPLE, START, ALL[3:])
+    heading("repeats are harmless")
+    one(4, 1, 0, NONE, 1, [1, 0, 0, 1, 1])
+    heading("repeats do not hide a failure: the first of two is named")
+    one(5, 1, 0, NONE, 2, [2, 2, 1, 1])
+    heading("more than the reachable markings")
+    one(6, 1, 0, NONE, 1, [0, 1, 2, 3])
+    heading("a result may be missing from a marking that is not reachable")
+    one(7, 2, 0, NONE, 2, [2, 0, 4, 7])
+
+
+def refusals():
+    group("refusals")
+    heading("no marking; no multiple of P")
+    line(11, SAMPLE, START, [])
+    line(12, SAMPLE, START, ALL[:35])
+    line(13, SAMPLE, START, ALL[:1])
+    heading("65,535 in a list")
+    line(14, SAMPLE, START, [1, 0, 0, 1, 65535, 0])
+    heading("a token above capacity at the last place of the last marking; exactly at capacity is no fault")
+    line(15, SAMPLE, START, [1, 0, 0, 0, 1, 0, 1, 0, 6])
+    line(16, SAMPLE, START, [1, 0, 0, 0, 1, 0, 1, 0, 5])
+    heading("the initial marking: 65,535, above capacity, before the list, another length")
+    line(17, SAMPLE, [65535, 0, 0], ALL)
+    line(18, SAMPLE, [1, 0, 6], ALL)
+    line(19, SAMPLE, [1, 0, 6], [65535, 0, 0])
+    line(20, SAMPLE, [1, 0], ALL)
+    heading("counts outside 1 to 64, before everything else")
+    counted(21, 0, 1, 0, [0])
+    counted(22, 65, 1, 65, [0])
+    counted(23, 1, 65, 65, [0])
+    counted(24, 1, 0, 0, [0])
+    heading("Pre and Post have another length, and the list is empty; the list alone is empty; 64 transitions")
+    counted(25, 1, 2, 1, [])
+    counted(26, 1, 2, 2, [])
+    counted(27, 1, 64, 64, [0])
+
+
+def targets():
+    group("targets")
+    heading("listed: not shown; not listed: never reached; above capacity: allowed, and never reached")
+    line(31, SAMPLE, START, ALL, [0, 1, 5])
+    line(32, SAMPLE, START, ALL, [1, 1, 0])
+    line(33, SAMPLE, START, ALL, [1, 0, 6])
+    heading("65,535 in a target; another length")
+    line(34, SAMPLE, START, ALL, [1, 65535, 0])
+    line(35, SAMPLE, START, ALL, [1, 0])
+    line(36, SAMPLE, START, ALL, [1, 0, 0, 0])
+    heading("the list's failures")
+    line(37, SAMPLE, START, ALL[:33], [1, 1, 0])
+    line(38, SAMPLE, START, ALL[3:], [1, 1, 0])
+    heading("3: initial, then list, then target; then 9")
+    line(39, SAMPLE, [1, 0, 6], [65535, 0, 0], [0, 65535, 0])
+    line(40, SAMPLE, START, [0, 65535, 0], [65535, 0, 0])
+    line(41, SAMPLE, START, [], [0, 0, 65535])
+    line(42, SAMPLE, START, [], [0, 0, 0])
+
+
+def stalls():
+    group("stalls")
+    heading("every listed marking enables something")
+    line(51, SAMPLE, START, ALL, stall=True)
+    heading("the list's failures, and no marking")
+    line(52, SAMPLE, START, ALL[:33], stall=True)
+    line(53, SAMPLE, START, ALL[3:], stall=True)
+    line(54, SAMPLE, START, [], stall=True)
+    heading("a listed marking enables nothing, and is reached; and is never reached: not shown all the same")
+    one(55, 1, 0, NONE, 1, [1, 0], stall=True)
+    one(56, 1, 1, NONE, 1, [1, 0], stall=True)
+    heading("a capacity disables the last transition; a loop at a full place is enabled")
+    one(57, 0, 1, 2, 0, [0, 1, 2], stall=True)
+    one(58, 1, 1, 2, 2, [2], stall=True)
+
+
+def results():
+    group("results that a list of 16 bits cannot hold, and capacities")
+    heading("65,535 is absent; 65,536 is not 0")
+    one(61, 0, 1, NONE, 65534, [65534])
+    one(62, 10, 12, NONE, 65534, [65534, 0])
+    heading("a capacity disables; without one the result is missing")
+    one(63, 0, 1, 2, 0, [0, 1, 2])
+    one(64, 0, 1, NONE, 0, [0, 1, 2])
+    heading("the rule adds Change: with Post the loop would be disabled")
+    one(65, 2, 3, 3, 2, [2, 3])
+
+
+def long_lists():
+    counting = list(range(4098))
+    group("the longest lists")
+    heading("4,096 markings, closed; the result of the last is missing; the last enables nothing")
+    one(71, 0, 1, 4095, 0, counting[:4096])
+    one(72, 0, 1, 4096, 0, counting[:4096])
+    one(73, 0, 1, 4095, 0, counting[:4096], stall=True)
+    heading("4,097 markings")
+    one(74, 0, 1, 4096, 0, counting[:4097])
+    heading("3 comes before 9: above capacity in an over-long list")
+    one(75, 0, 1, 4096, 0, counting)
+    one(76, 0, 1, 4095, 0, counting[:4097])
+
+
+whole_lists()
+refusals()
+targets()
+stalls()
+results()
+long_lists()

@@ -1,0 +1,137 @@
+#!/usr/bin/env python3
+"""The edges of cover lists: the table cover.calls is this script's output.
+
+    python3 tests/edges/cover.py > tests/edges/cover.calls
+
+Written from document 01 alone, without the library's code: markings are tuples of unbounded numbers, any number is a thing of
+its own, and every rule is spelled out as 01 words it (refusals and the search in shared/lists.py). Answers: 129 0 (accepted, or
+never covered), 129 1 (initial missing), 129 2 marking transition, 129 3 (not shown), or 130 refusal position.
+"""
+
+from shared.calls import NONE, group, heading
+from shared.lists import SAMPLE, START, counted_net, failure, markings_of, one_place, refusal, tell
+
+ANY = None  # "65,535 for any number", in a list only
+
+
+def fired(net, m, t):
+    """The result of t at the listed marking m, capacities ignored, or None where t is not enabled."""
+    takes, puts = net.arcs(t)
+    if any(m[p] is not ANY and takes[p] > m[p] for p in range(net.P)):
+        return None
+    return tuple(ANY if m[p] is ANY else m[p] + puts[p] - takes[p] for p in range(net.P))
+
+
+def covers(c, m):
+    """c covers m: any number covers everything, and a number only a number that is not larger."""
+    return all(a is ANY or (b is not ANY and b <= a) for a, b in zip(c, m))
+
+
+def line(case, net, initial, flat, target=None):
+    listed = markings_of(net, [ANY if x == 65535 else x for x in flat]) if net.P else []
+
+    def held(m):
+        return any(covers(c, m) for c in listed)
+
+    lent = {"initial": initial, "list": flat, **({} if target is None else {"target": target})}
+    tell(
+        case,
+        "cover_list" if target is None else "cover_target",
+        net,
+        lent,
+        refusal(net, initial, flat, target, (initial,)),
+        lambda: failure(net, initial, listed, fired, held),
+        lambda: target is None or not held(target),
+    )
+
+
+COVER = [1, 0, 65535, 0, 1, 65535]
+
+
+def one(case, takes, puts, cap, tokens, flat):
+    line(case, one_place(takes, puts, cap), [tokens], flat)
+
+
+def counted(case, P, T, arcs, flat):
+    line(case, counted_net(P, T, arcs), [0], flat)
+
+
+def whole_lists():
+    group("the net of 01's case, and what makes a list fail")
+    heading("sample 12: (1,0,any), (0,1,any) accepted, (1,1,0) never covered")
+    line(1, SAMPLE, START, COVER)
+    line(2, SAMPLE, START, COVER, [1, 1, 0])
+    heading("what a listed marking covers is not shown")
+    line(3, SAMPLE, START, COVER, [0, 1, 9])
+    heading("a number where any number is wanted: capacities are ignored, so place 2 grows")
+    line(4, SAMPLE, START, [1, 0, 5, 0, 1, 5])
+    heading("the initial marking is not covered; the result of transition 0 is not")
+    line(5, SAMPLE, START, [0, 1, 65535])
+    line(6, SAMPLE, START, [1, 0, 65535])
+    heading("repeats are harmless; any number everywhere")
+    line(7, SAMPLE, START, [0, 1, 65535, 1, 0, 65535, 0, 1, 65535])
+    line(8, SAMPLE, START, [65535, 65535, 65535])
+    heading("the list's failures, asked a target")
+    line(9, SAMPLE, START, [1, 0, 65535], [1, 1, 0])
+    line(10, SAMPLE, START, [0, 1, 65535], [1, 1, 0])
+
+
+def refusals():
+    group("refusals")
+    heading("no marking, and no multiple of P")
+    line(11, SAMPLE, START, [])
+    line(12, SAMPLE, START, [1, 0])
+    heading("a list's tokens above capacity are no fault; the initial marking's are, 65,535, another length")
+    line(13, SAMPLE, START, [1, 0, 6, 0, 1, 6])
+    line(14, SAMPLE, [1, 0, 6], COVER)
+    line(15, SAMPLE, [65535, 0, 0], COVER)
+    line(16, SAMPLE, [1, 0], [1, 0, 65535])
+    heading("65,535 in a target, another length, and above capacity")
+    line(17, SAMPLE, START, COVER, [0, 0, 65535])
+    line(18, SAMPLE, START, COVER, [0, 0])
+    line(19, SAMPLE, START, COVER, [0, 0, 6])
+    heading("3 in a target comes before 9")
+    line(20, SAMPLE, START, [], [0, 65535, 0])
+    line(21, SAMPLE, START, [], [0, 0, 0])
+    heading("counts outside 1 to 64; 64 transitions; Pre and Post have another length")
+    counted(22, 0, 1, 0, [0])
+    counted(23, 65, 1, 65, [0])
+    counted(24, 1, 65, 65, [0])
+    counted(25, 1, 64, 64, [0])
+    counted(26, 1, 2, 1, [0])
+
+
+def results():
+    group("one place and one transition: results, capacities and any number")
+    heading("capacities are ignored: the result is not covered; any number covers it, and stays so")
+    one(31, 0, 1, 2, 0, [2])
+    one(32, 0, 1, 2, 0, [65535])
+    heading("any number minus one is any number")
+    one(33, 1, 0, NONE, 0, [0, 65535])
+    one(34, 1, 0, NONE, 3, [65535])
+    heading("a finite result of 65,535 is covered by any number only")
+    one(35, 0, 1, NONE, 65534, [65534])
+    one(36, 0, 1, NONE, 65534, [65534, 65535])
+    heading("2 covers 1, and not the other way")
+    one(37, 1, 0, NONE, 1, [2])
+    one(38, 1, 0, NONE, 2, [1])
+    heading("a transition that is short at the listed marking has no result; at a fuller one it has")
+    one(39, 3, 9, NONE, 2, [2])
+    one(40, 3, 9, NONE, 2, [3])
+    heading("65,536 is not 0")
+    one(41, 10, 12, NONE, 65534, [65534, 0])
+
+
+def long_lists():
+    group("the longest lists")
+    heading("4,096 markings; 4,097; the first of them fails; 3 of the initial marking comes before 9")
+    one(51, 1, 0, NONE, 9, [9] * 4096)
+    one(52, 1, 0, NONE, 9, [9] * 4097)
+    one(53, 0, 1, NONE, 9, [9] * 4096)
+    one(54, 1, 0, 5, 9, [9] * 4097)
+
+
+whole_lists()
+refusals()
+results()
+long_lists()

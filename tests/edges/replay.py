@@ -1,0 +1,295 @@
+#!/usr/bin/env python3
+"""The edges of replay: the table replay.calls is this script's output.
+
+    python3 tests/edges/replay.py > tests/edges/replay.calls
+
+Written from document 01 alone, without the library's code: the nets are dictionaries from (place, transition) to a
+weight, the numbers are unbounded, and every rule is spelled out as 01 words it. Answers: 129 0 letters fired; 129 1
+position place, short; 129 2 position place, over; 130 refusal position. The room holds 7s at entry.
+"""
+
+from shared.calls import HUGE, NONE, call, group, heading, net
+
+
+def refusal(P, T, pre, post, caps, initial, word, stretch, room):
+    """The first refusal in number order as (number, position), or None. `stretch` is None for a whole word."""
+    # 1: a place or transition count outside 1..64
+    if not (1 <= P <= 64 and 1 <= T <= 64):
+        return 1, 0
+    # 2: a lent list's or room's length disagrees with the counts, or a stretch ends before its start or past its word
+    if [len(pre), len(post), len(caps), len(initial), len(room)] != [P * T, P * T, P, P, P]:
+        return 2, 0
+    if stretch is not None:
+        start, end = stretch
+        if end < start or end > len(word):
+            return 2, 0
+        word = word[start:end]
+    # 3: 65,535 tokens where not allowed, or tokens above capacity
+    for p in range(P):
+        if initial[p] == 65535 or (caps[p] != NONE and initial[p] > caps[p]):
+            return 3, p
+    # 4: a word over 65,535 letters; 5: a letter names no transition
+    if len(word) > 65535:
+        return 4, 0
+    for position, letter in enumerate(word):
+        if letter not in range(T):
+            return 5, position
+    return None
+
+
+def replay(P, T, pre, post, caps, initial, word, stretch, room):
+    """The answer's numbers, and the room afterwards."""
+    refused = refusal(P, T, pre, post, caps, initial, word, stretch, room)
+    if refused is not None:
+        return [130, *refused], room  # "A refusal leaves lent memory as found."
+    if stretch is not None:
+        word = word[stretch[0] : stretch[1]]
+    Pre = {(p, t): pre[t * P + p] for p in range(P) for t in range(T)}
+    Post = {(p, t): post[t * P + p] for p in range(P) for t in range(T)}
+    capacity = {p: caps[p] for p in range(P) if caps[p] != NONE}
+    m = dict(enumerate(initial))
+    for position, t in enumerate(word):
+        after = {p: m[p] + Post[p, t] - Pre[p, t] for p in m}
+        short = {p for p in m if not Pre[p, t] <= m[p]}
+        over = {p for p in capacity if not after[p] <= capacity[p]}
+        if short:  # "If any place is short, the lowest short place is named; else the lowest place over."
+            return [129, 1, position, min(short)], list(m.values())
+        if over:
+            return [129, 2, position, min(over)], list(m.values())
+        m = after
+    return [129, 0, len(word)], list(m.values())
+
+
+def say(case, edge, P, T, pre, post, caps, initial, word, stretch=None, room=None):
+    """A case's line, and above it which edge it is."""
+    heading(edge)
+    found = [7] * (P if room is None else room)
+    numbers, left = replay(P, T, pre, post, caps, initial, word, stretch, found)
+    lent = {**net(P, T, pre, post, caps), "initial": initial, "word": word}
+    if stretch is not None:
+        lent["start"], lent["end"] = stretch
+    question = "replay_word" if stretch is None else "replay_stretch"
+    call(case, question, {**lent, "room": found}, numbers, {"room": left})
+
+
+def frames(text):
+    """P, T, Pre, Post, capacities and tokens of a case file's frames 01 to 04."""
+    lines = [bytes.fromhex(line) for line in text.split()]
+    pairs = lambda line: [256 * line[k] + line[k + 1] for k in range(1, len(line), 2)]
+    P, T = lines[0][1:]
+    arcs = [line[2:] for line in lines if line[0] == 4]
+    pre = [w for a in arcs for w in a[:P]]
+    post = [w for a in arcs for w in a[P:]]
+    return P, T, pre, post, pairs(lines[1]), pairs(lines[2])
+
+
+# The net of 01's case, as its frames give it.
+SAMPLE = frames(
+    """010303 02FFFFFFFF0005 03000100000000
+    0400010000000100 0401000100010002 0402000003000000"""
+)
+
+
+def samples():
+    group("the net of 01's case")
+    for case, edge, word in [
+        (1, "sample 1", [0, 1, 0, 1]),
+        (2, "sample 2", [0, 1, 0, 1, 0, 1]),
+        (3, "sample 3", [2]),
+        (4, "sample 4", []),
+        (5, "the word of the case file", [0, 1, 0, 1, 2]),
+    ]:
+        say(case, edge, *SAMPLE, word)
+
+
+def counts():
+    group("64 places and 64 transitions, Pre and Post by the number of the entry; then counts outside 1 to 64")
+    # an entry's number is t x 64 + p
+    pre = [k % 6 for k in range(64 * 64)]
+    post = [k % 7 for k in range(64 * 64)]
+    for case, edge, cap, tokens, word in [
+        (11, "fires", NONE, 20, [0, 63, 31, 62]),
+        (12, "short at the last place, at the last transition", NONE, 2, [1, 63]),
+        (13, "over at the last place", 22, 20, [4, 63]),
+        (14, "letter 64 names no transition", NONE, 20, [0, 63, 64]),
+    ]:
+        say(case, edge, 64, 64, pre, post, [NONE] * 63 + [cap], [20] * 63 + [tokens], word)
+    say(15, "65 places", 65, 1, [0] * 65, [0] * 65, [NONE] * 65, [0] * 65, [0])
+    say(16, "65 transitions", 1, 65, [0] * 65, [0] * 65, [4], [0], [0])
+    say(17, "no places", 0, 1, [], [], [], [], [])
+    say(18, "no transitions", 1, 0, [], [], [4], [0], [])
+    say(19, "as many places as can be said", HUGE, 1, [], [], [], [], [], room=0)
+    say(20, "as many transitions", 1, HUGE, [], [], [4], [0], [])
+    say(21, "a product that 64 bits would cut to 0", 2**32, 2**32, [], [], [], [], [], room=0)
+
+
+def one_place():
+    group("one place and one transition: capacities, tokens, weights")
+    for case, edge, takes, puts, cap, tokens, word in [
+        (31, "exactly at capacity", 0, 2, 5, 3, [0]),
+        (32, "one above", 0, 2, 4, 3, [0]),
+        (33, "the capacity rule adds Change; with Post it would stop", 3, 4, 5, 4, [0]),
+        (34, "capacity 0, nothing put", 0, 0, 0, 0, [0]),
+        (35, "capacity 0, one token put", 0, 1, 0, 0, [0]),
+        (36, "capacity 0, one token there", 0, 0, 0, 1, [0]),
+        (37, "no capacity: past 65,535", 0, 255, NONE, 65534, [0]),
+        (38, "the largest capacity, full, a loop", 1, 1, 65534, 65534, [0]),
+        (39, "the largest capacity, full, one more", 0, 1, 65534, 65534, [0]),
+        (40, "65,534 tokens are allowed", 0, 0, NONE, 65534, []),
+        (41, "65,535 are not, without capacity", 0, 0, NONE, 65535, []),
+        (42, "nor with one", 0, 0, 65534, 65535, []),
+        (43, "tokens at capacity", 0, 0, 5, 5, []),
+        (44, "tokens above capacity", 0, 0, 5, 6, []),
+        (45, "a loop on a full place", 1, 1, 5, 5, [0, 0]),
+        (46, "a loop on an empty place", 1, 1, 5, 0, [0]),
+        (47, "the largest weight, just enough", 255, 0, NONE, 255, [0]),
+        (48, "the largest weight, one short", 255, 0, NONE, 254, [0]),
+        (49, "the second letter is short", 2, 0, NONE, 3, [0, 0]),
+        (50, "two letters fire, the third is over", 2, 3, 5, 3, [0, 0, 0, 0]),
+        (51, "letter 1 with one transition", 0, 1, NONE, 0, [1]),
+    ]:
+        say(case, edge, 1, 1, [takes], [puts], [cap], [tokens], word)
+
+
+def three_places():
+    group("three places and one transition: which place and cause are named")
+    for case, edge, pre, post, caps, initial in [
+        (61, "short at 2, though 0 is over", [0, 0, 1], [1, 0, 0], [4, 9, 9], [4, 0, 0]),
+        (62, "short at 1 and 2", [0, 2, 2], [0, 0, 0], [9, 9, 9], [5, 1, 1]),
+        (63, "over at 1 and 2", [0, 0, 0], [0, 1, 1], [9, 3, 3], [0, 3, 3]),
+        (64, "short and over at 1", [0, 3, 0], [0, 9, 0], [9, 4, 9], [0, 2, 0]),
+        (65, "short at 1, over at 0 and 2", [0, 1, 0], [5, 0, 5], [4, 4, 4], [0, 0, 0]),
+        (66, "over at 2 alone", [1, 1, 0], [0, 1, 1], [9, 9, 6], [1, 1, 6]),
+        (67, "fires, each place just so", [1, 1, 1], [2, 0, 1], [2, 1, 3], [1, 1, 3]),
+        (68, "two bad markings: the lowest", [0, 0, 0], [0, 0, 0], [9, NONE, 9], [0, 65535, 10]),
+        (69, "above capacity at the last place", [0, 0, 0], [0, 0, 0], [9, 9, 9], [9, 9, 10]),
+        (70, "above capacity at the first place", [0, 0, 0], [0, 0, 0], [9, 0, 9], [10, 1, 0]),
+    ]:
+        say(case, edge, 3, 1, pre, post, caps, initial, [0])
+
+
+def stretches():
+    group("stretches of a word on 01's net")
+    word = [0, 1, 0, 1, 2, 0, 1]
+    for case, edge, w, start, end in [
+        (71, "at the start", word, 0, 2),
+        (72, "at the end", word, 5, 7),
+        (73, "in the middle: blocked at its third letter", word, 2, 5),
+        (74, "in the middle: blocked at its first letter", word, 1, 3),
+        (75, "whole", word, 0, 7),
+        (76, "empty at the start", word, 0, 0),
+        (77, "empty in the middle", word, 3, 3),
+        (78, "empty at the end", word, 7, 7),
+        (79, "one letter", word, 4, 5),
+        (80, "the empty word's only stretch", [], 0, 0),
+        (81, "sample 2 as a stretch", [2, 2, 0, 1, 0, 1, 0, 1, 2], 2, 8),
+        (82, "reversed", word, 5, 2),
+        (83, "reversed by one", word, 3, 2),
+        (84, "past the end", word, 5, 8),
+        (85, "empty past the end", word, 8, 8),
+        (86, "start past the end, and reversed", word, 9, 3),
+        (87, "far past the end", word, 0, HUGE),
+        (88, "empty, far past the end", word, HUGE, HUGE),
+        (89, "reversed, as far as can be", word, HUGE, 0),
+        (90, "past the empty word", [], 0, 1),
+        (91, "both ends past the end", word, 8, 9),
+    ]:
+        say(case, edge, *SAMPLE, w, (start, end))
+
+
+def letters():
+    group("letters that name no transition")
+    say(101, "wrong letters on both sides of the stretch", *SAMPLE, [3, 0, 1, 3], (1, 3))
+    say(102, "at the stretch's first letter", *SAMPLE, [3, 0, 1, 3], (0, 3))
+    say(103, "at its last letter", *SAMPLE, [3, 0, 1, 3], (1, 4))
+    say(104, "two inside: the lowest", *SAMPLE, [0, 0, 255, 1, 3], (1, 5))
+    say(105, "an empty stretch between two", *SAMPLE, [3, 3], (1, 1))
+    say(106, "after a letter that is blocked", *SAMPLE, [2, 3])
+    say(107, "at the first position", *SAMPLE, [3, 0])
+    say(108, "at the last position", *SAMPLE, [0, 1, 0, 3])
+    say(109, "the largest letter", *SAMPLE, [0, 255, 1])
+
+
+def lengths():
+    group("two places and two transitions: each length wrong by one in turn")
+    for case, edge, pre, post, caps, initial, room in [
+        (121, "all as they should be", 4, 4, 2, 2, 2),
+        (122, "Pre too short", 3, 4, 2, 2, 2),
+        (123, "Pre too long", 5, 4, 2, 2, 2),
+        (124, "Post too short", 4, 3, 2, 2, 2),
+        (125, "Post too long", 4, 5, 2, 2, 2),
+        (126, "capacities too short", 4, 4, 1, 2, 2),
+        (127, "capacities too long", 4, 4, 3, 2, 2),
+        (128, "initial marking too short", 4, 4, 2, 1, 2),
+        (129, "initial marking too long", 4, 4, 2, 3, 2),
+        (130, "room too short", 4, 4, 2, 2, 1),
+        (131, "room too long", 4, 4, 2, 2, 3),
+        (132, "no room", 4, 4, 2, 2, 0),
+        (133, "Pre and Post, as long as they should be together", 3, 5, 2, 2, 2),
+    ]:
+        say(case, edge, 2, 2, [1] * pre, [2] * post, [9] * caps, [4] * initial, [0, 1], room=room)
+
+
+LONG = [0] * 65537 + [9]  # 65,538 letters, the last of which is wrong on every net below
+
+
+def pairs():
+    group("two faults at once: the lower number is given")
+    # one place of capacity 4
+    for case, edge, T, arcs, tokens, word in [
+        (141, "1 and 2", 65, 64, 0, [0]),
+        (142, "1 and 3", 65, 65, 5, [0]),
+        (143, "1 and 4", 65, 65, 0, LONG[:65536]),
+        (144, "1 and 5", 65, 65, 0, [65]),
+        (145, "2 and 3", 1, 2, 5, [0]),
+        (146, "2 and 4", 1, 2, 0, LONG[:65536]),
+        (147, "2 and 5", 1, 2, 0, [1]),
+        (148, "3 and 4", 1, 1, 5, LONG[:65536]),
+        (149, "3 and 5", 1, 1, 5, [1]),
+        (150, "4 and 5", 1, 1, 0, LONG),
+    ]:
+        say(case, edge, 1, T, [0] * arcs, [0] * arcs, [4], [tokens], word)
+    for case, edge, T, tokens, start, end in [
+        (151, "1, and 2 for a reversed stretch", 65, 0, 2, 1),
+        (152, "2 for a reversed stretch, and 3", 1, 5, 2, 1),
+        (153, "2 for a stretch past the end, and 3", 1, 5, 0, 3),
+        (154, "3, and 5 in the stretch", 1, 5, 1, 2),
+        (155, "2 for a stretch past the end, and 5 in the word", 1, 0, 1, 3),
+    ]:
+        say(case, edge, 1, T, [0] * T, [0] * T, [4], [tokens], [9, 9], (start, end))
+
+
+def long_words():
+    group("65,535 letters and more")
+    for case, edge, takes, puts, cap, tokens, letters in [
+        (161, "the most tokens that a replay reaches", 0, 255, NONE, 65534, 65535),
+        (162, "one letter too many", 0, 255, NONE, 65534, 65536),
+        (163, "short at the last letter", 1, 0, NONE, 65534, 65535),
+        (164, "over at the last letter", 0, 1, 65534, 0, 65535),
+    ]:
+        say(case, edge, 1, 1, [takes], [puts], [cap], [tokens], LONG[:letters])
+    for case, edge, start, end in [
+        (171, "65,535 letters of a longer word", 1, 65536),
+        (172, "65,536 letters", 0, 65536),
+        (173, "65,535 letters, the last one wrong", 3, 65538),
+        (174, "65,536 letters, the last one wrong", 2, 65538),
+        (175, "the whole of a word too long", 0, 65538),
+        (176, "one letter near the end", 65536, 65537),
+        (177, "the wrong letter alone", 65537, 65538),
+        (178, "empty at the end", 65538, 65538),
+        (179, "past the end", 65538, 65539),
+        (180, "reversed", 65538, 0),
+    ]:
+        say(case, edge, 1, 1, [0], [1], [NONE], [0], LONG, (start, end))
+
+
+if __name__ == "__main__":
+    samples()
+    counts()
+    one_place()
+    three_places()
+    stretches()
+    letters()
+    lengths()
+    pairs()
+    long_words()
