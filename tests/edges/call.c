@@ -1,4 +1,4 @@
-/* A line of a table, taken apart. README of the form:
+/* A line of a table, taken apart. Its form:
  *
  *   CASE QUESTION NAME=VALUE .. -> NUMBER NUMBER .. NAME=VALUE ..
  *
@@ -107,8 +107,8 @@ static void read_entries(struct reading *r) {
 static void repeat(struct reading *r, size_t since) {
     size_t bytes = r->used - since;
     uint64_t times = read_number(&r->at, TYPE(size_t));
-    if (times == 0 || (bytes > 0 && times > (r->most - since) / bytes))
-        malformed("repeated too often, or never", call.number);
+    if (times == 0 || bytes == 0 || times > (r->most - since) / bytes)
+        malformed("repeated never, or too often for the runner", call.number);
     for (; times > 1; times--, r->used += bytes)
         memcpy(r->to + r->used, r->to + since, bytes);
 }
@@ -196,14 +196,12 @@ static void take_named(struct side *side, char *word) {
     side->names[side->count++] = (struct named){word, equals + 1, 0};
 }
 
-/* Is the word the number of a case: digits, and more behind points? */
+/* Is the word the number of a case: digits, with points between them? */
 static int is_case(const char *word) {
-    for (; is_digit(*word); word++)
-        if (!is_digit(word[1]) && word[1] != '.')
-            return word[1] == 0;
-        else
-            word += word[1] == '.';
-    return 0;
+    const char *at = word;
+    while (is_digit(*at) || (*at == '.' && at > word && is_digit(at[1])))
+        at++;
+    return at > word && *at == 0;
 }
 
 /* Takes a line apart into the call. */
@@ -218,7 +216,7 @@ void take_apart(char *line) {
         take_named(&call.lent, word);
     if (word == NULL)
         malformed("no answer", call.number);
-    while ((word = next_word(&rest)) != NULL && (is_digit(*word) || *word == '-') && call.left.count == 0) {
+    while ((word = next_word(&rest)) != NULL && is_digit(*word)) {
         if (call.answer_count == FIELDS)
             malformed("more numbers than any answer has", word);
         call.answer[call.answer_count++] = whole_number(word, TYPE(uint64_t));

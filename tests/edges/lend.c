@@ -91,13 +91,15 @@ static void report_guard(size_t from, size_t to, const char *side, const char *n
 
 /* Is the memory what it must be? Says where it is not. */
 int right_memory(void) {
+    size_t from = 0;
     if (memcmp(memory, wanted, used) == 0)
         return 1;
     for (size_t k = 0; k < piece_count; k++) {
         size_t end = pieces[k].offset + pieces[k].count * pieces[k].type.size;
-        report_guard(pieces[k].offset - GUARD, pieces[k].offset, "before", pieces[k].name);
+        report_guard(from, pieces[k].offset, "before", pieces[k].name);
         report_piece(&pieces[k]);
         report_guard(end, end + GUARD, "behind", pieces[k].name);
+        from = end + GUARD;
     }
     return 0;
 }

@@ -315,7 +315,7 @@ def rooms():
 
 
 def list_lengths():
-    group("a summary's lists have exactly 64 entries: each of another length in turn")
+    group("for C a summary's lists have exactly 64 entries: each of another length in turn is refusal 2")
     cases = [(name, length) for name in ("need", "climb", "change") for length in (63, 65, 0)]
     for k, (name, length) in enumerate(cases):
         heading(f"{name} of {length} entries")

@@ -1,11 +1,15 @@
 """What the scripts of tests/edges share: how a call and what must come of it stand in a table. call.c has the form."""
 
+import sys
+from pathlib import Path
+
 NONE = 65535  # "65,535 means none"
 HUGE = 2**64 - 1  # the largest count, position or place number that can be lent
 
 # How many fields the answer of each question has in include/kaunorpi.h.
 FIELDS = {
-    **dict.fromkeys(["ask_summary", "place_weighting", "transition_weighting", "siphon_set", "trap_set", "complement_net"], 3),
+    **dict.fromkeys(["ask_summary", "complement_net"], 3),
+    **dict.fromkeys(["place_weighting", "transition_weighting", "siphon_set", "trap_set"], 3),
     **dict.fromkeys(["replay_word", "replay_stretch", "place_bound", "complement_places"], 4),
     **dict.fromkeys(["closed_list", "closed_target", "closed_stall", "cover_list", "cover_target"], 4),
     **dict.fromkeys(["empty_summary", "summary_word", "summary_stretch", "join_summaries"], 5),
@@ -83,3 +87,6 @@ def call(case, question, lent, answer, rooms=None):
     fields = list(answer) + [0] * (FIELDS[question] - len(answer))
     names = lambda of: [f"{name}={value(held)}" for name, held in of.items()]
     print(case, question, *names(lent), "->", *fields, *names(rooms or {}))
+
+
+print(f"# What tests/edges/{Path(sys.argv[0]).name} prints. The form of a line is in tests/edges/call.c.")
