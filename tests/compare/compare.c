@@ -1,6 +1,7 @@
-/* compare [N [SEED [QUESTION [INPUT]]]]: N inputs for each question (or the one named), drawn from SEED; with INPUT that
- * one alone, shown in full. Prints nothing if library and reference agree in all of them and every answer and refusal
- * that can come did come. Built with -DSELF_CHECK it looks instead whether each broken rule is noticed.
+/* compare N SEED [QUESTION [INPUT]]: N inputs for each question (or the one named), drawn from SEED; with INPUT that one
+ * alone, shown in full. Prints nothing if library and reference agree in all of them and every answer and refusal that
+ * can come did come. compare --questions prints the questions' names. Built with -DSELF_CHECK it looks instead whether
+ * each broken rule is noticed.
  * Ends with 0, 1 (a difference), 2 (wrong use) or 3 (something never came). */
 #include "compare.h"
 
@@ -118,26 +119,51 @@ static void print_counts(size_t q) {
                            came[q][refused][k][further]);
 }
 
+/* Prints the names of all questions, a line each. */
+static int print_questions(void) {
+    for (size_t q = 0; q < question_count; q++)
+        puts(questions[q].name);
+    return 0;
+}
+
+/* The inputs of every question, or of the one named; 2 if there is none of that name. */
+static int compare_questions(size_t inputs, uint64_t seed, const char *name) {
+    int result = 2;
+    for (size_t q = 0; q < question_count; q++) {
+        int found;
+        if (name != NULL && strcmp(name, questions[q].name) != 0)
+            continue;
+        found = compare_question(q, inputs, seed);
+        result = result == 2 || (result != 1 && found != 0) ? found : result;
+        if (COUNTS)
+            print_counts(q);
+    }
+    return result;
+}
+
+/* One input of the question named, shown in full; 2 if there is none of that name. */
+static int show_input(uint64_t seed, const char *name, size_t input) {
+    for (size_t q = 0; q < question_count; q++)
+        if (strcmp(name, questions[q].name) == 0)
+            return agrees(q, seed, input, 1) ? 0 : 1;
+    return 2;
+}
+
 /* Reads the arguments and runs. */
 int main(int count, char **words) {
-    size_t inputs = count > 1 ? strtoul(words[1], NULL, 10) : 30000;
-    uint64_t seed = count > 2 ? strtoul(words[2], NULL, 10) : 20261115;
-    int result = 0, known = count <= 3;
+    size_t inputs;
+    uint64_t seed;
+    if (count == 2 && strcmp(words[1], "--questions") == 0)
+        return print_questions();
+    if (count < 3)
+        return 2;
+    inputs = strtoul(words[1], NULL, 10);
+    seed = strtoul(words[2], NULL, 10);
     start_edges();
 #ifdef SELF_CHECK
     return self_check(inputs, seed);
 #endif
-    for (size_t q = 0; q < question_count; q++) {
-        int found;
-        if (count > 3 && strcmp(words[3], questions[q].name) != 0)
-            continue;
-        known = 1;
-        if (count > 4)
-            return agrees(q, seed, strtoul(words[4], NULL, 10), 1) ? 0 : 1;
-        found = compare_question(q, inputs, seed);
-        result = result == 1 || found == 0 ? result : found;
-        if (COUNTS)
-            print_counts(q);
-    }
-    return known ? result : 2;
+    if (count > 4)
+        return show_input(seed, words[3], strtoul(words[4], NULL, 10));
+    return compare_questions(inputs, seed, count > 3 ? words[3] : NULL);
 }
