@@ -1,6 +1,6 @@
 -- Laws of the three lists: loops that fill one, their lengths, and that the slots read are the slots written. Assumes nothing.
 use Prim.Native.Nat.{ℕ, _≤_, _<_}
-use mathlib.Core.Path.{_≡_, sym, _∙_}
+use mathlib.Core.Path.{_≡_, sym, ap, _∙_}
 use mathlib.Core.Bool.{Bool, true}
 use mathlib.Core.List.{List}
 use native.Mathlib.Omega.{arith}
@@ -21,6 +21,13 @@ made-end d f r₀ p r m e h = make-end d f r₀ p r m h ∙ rw e
 
 pub slots-end : (f : ℕ → Slot) (l₀ : List Slot) (p : ℕ) (l : List Slot) → Made nil f l₀ p l → l₀ ≡ replicate countLimit nil → countLimit ≤ p → l ≡ table f countLimit
 slots-end f l₀ p l m e h = let x : length l₀ ≡ countLimit = rw e in made-end nil f l₀ p l m x (omega (arith, m .filled .long))
+
+-- a slot is its three numbers, however each was come by
+pub slot-is : (s t : Slot) → s .need ≡ t .need → s .climb ≡ t .climb → s .change ≡ t .change → s ≡ t
+slot-is s t p q r =
+    ap (λ (a : ℕ). record { need = a; climb = s .climb; change = s .change }) p
+    ∙ ap (λ (a : ℕ). record { need = t .need; climb = a; change = s .change }) q
+    ∙ ap (λ (a : ℤ). record { need = t .need; climb = t .climb; change = a }) r
 
 -- what a test of the lengths says
 pub fit-long : (a b c : ℕ) (r : Bool) → r ≡ lengthsFit a b c → r ≡ true → (a ≡ countLimit) × ((b ≡ countLimit) × (c ≡ countLimit))

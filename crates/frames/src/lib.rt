@@ -69,10 +69,12 @@ pub fn byte_at(d: &[u8], i: usize) -> u8
     value(d[2 * i]) * 16 + value(d[2 * i + 1])
 }
 
-fn widen(b: u8) -> u16
-    ensures { λ r. ⌜ r ≡ b ⌝ }
+// The number of two bytes; a leaf of its own, so that a must-fail edit can exchange the two and
+// change nothing else.
+fn word_of(high: u8, low: u8) -> u16
+    ensures { λ r. ⌜ r ≡ high * 256 + low ⌝ }
 {
-    b as u16
+    high as u16 * 256 + low as u16
 }
 
 // The number of two bytes from byte i on, the high byte first.
@@ -80,7 +82,7 @@ pub fn word_at(d: &[u8], i: usize) -> u16
     requires { ⌜ 2 * i + 3 < length (now d) ⌝ }
     ensures { λ r. ⌜ r ≡ wordAt (now (d .entry)) i ⌝ }
 {
-    widen(byte_at(d, i)) * 256 + widen(byte_at(d, i + 1))
+    word_of(byte_at(d, i), byte_at(d, i + 1))
 }
 
 // Bytes of the frame, count of them from number from on, into the room at number at.
