@@ -18,7 +18,7 @@ use Rattle.parts.specs.declared.Case.{Case}
 use Rattle.parts.specs.declared.Case.the-variants.{Refused}
 use Rattle.parts.specs.declared.Lines.{Lines}
 use Rattle.parts.specs.declared.Lines.the-variants.{Rest, Broken}
-use Rattle.parts.specs.File.{Run, going, stopped, Both, both, ended, fedTo, feedOf, feedAll, finishOf, caseOf, abs, Sound, lineLen, NoFeed, holdOf, Went}
+use Rattle.parts.specs.File.{Run, going, stopped, Both, both, ended, fedTo, feedOf, feedAll, finishOf, caseOf, abs, Sound, lineLen, NoFeed, holdOf, Went, GoodLines, heldRest}
 use Rattle.parts.proofs.Line.{stays, holds, len-most, len-take, len-split}
 
 -- a piece of a line is stored up to entry i
@@ -113,18 +113,34 @@ module _ (f : List ℕ) (z : Both) (at : ℕ) (r : Lines) (y : Rooms) (w : Went 
   pub went-broken : (n l : ℕ) → r ≡ Broken n l → (1 ≤ n) × (feedAll z (drop at f) ≡ both (stopped n l) y)
   went-broken n l q = rw q at w
 
-  pub rest-held : (t : Reading) (e : ℕ) (h : Held) (a : Run) → r ≡ Rest t e → h .reading ≡ t → h .len ≡ 0 → a ≡ holdOf (h .reading) (take (h .len) (h .line)) (take (length f - e) (drop e f))
-      → both a y ≡ feedAll z (drop at f)
-  unfolding feedAll
+-- what the whole lines come to may be held, and is what the part comes to
+pub went-good : (f : List ℕ) (z : Both) (at : ℕ) (r : Lines) (y : Rooms) → Went f z at r y → GoodLines f r
+went-good f z at (Rest t e) y w = (w .0, w .1)
+went-good f z at (Broken n l) y w = w .0
+
+pub went-held : (f : List ℕ) (z : Both) (at : ℕ) (r : Lines) (y : Rooms) (a : Run) → Went f z at r y → a ≡ heldRest f r → both a y ≡ feedAll z (drop at f)
+unfolding feedAll
+went-held f z at (Rest t e) y a w k =
+    let o = holds t y (drop e f) [] [] (omega arith) (w .2) in
+    ap (λ (b : Run). both b y) k ∙ sym (w .3 ∙ ap (feedAll (both (going t []) y)) (sym (append-nil (drop e f))) ∙ o)
+went-held f z at (Broken n l) y a w k = ap (λ (b : Run). both b y) k ∙ sym (w .1)
+
+-- the rest of a part, by the whole lines' answer
+module _ (f : List ℕ) (r : Lines) where
+  pub good-rest : GoodLines f r → (t : Reading) (e : ℕ) → r ≡ Rest t e → (Good t) × (e ≤ length f)
+  good-rest g t e q = rw q at g
+
+  pub good-broken : GoodLines f r → (n l : ℕ) → r ≡ Broken n l → 1 ≤ n
+  good-broken g n l q = rw q at g
+
+  pub rest-held : (t : Reading) (e : ℕ) (h : Held) (a : Run) → r ≡ Rest t e → h .reading ≡ t → h .len ≡ 0 → a ≡ holdOf (h .reading) (take (h .len) (h .line)) (take (length f - e) (drop e f)) → a ≡ heldRest f r
   rest-held t e h a q i j k =
-      let g = went-rest t e q in
       let b : take (length f - e) (drop e f) ≡ drop e f = take-all (length f - e) (drop e f) (omega (arith, length-drop e f)) in
       let m : a ≡ holdOf t [] (drop e f) = rw (i, j, b) at k in
-      let o = holds t y (drop e f) [] [] (omega arith) (g .2) in
-      ap (λ (b : Run). both b y) m ∙ sym (g .3 ∙ ap (feedAll (both (going t []) y)) (sym (append-nil (drop e f))) ∙ o)
+      m ∙ rw q
 
-  pub rest-broken : (n l : ℕ) (a : Run) → r ≡ Broken n l → a ≡ stopped n l → both a y ≡ feedAll z (drop at f)
-  rest-broken n l a q k = ap (λ (b : Run). both b y) k ∙ sym (went-broken n l q .1)
+  pub rest-broken : (n l : ℕ) (a : Run) → r ≡ Broken n l → a ≡ stopped n l → a ≡ heldRest f r
+  rest-broken n l a q k = k ∙ rw q
 
 -- what holds of a refused state, and of one that goes on
 pub abs-stopped : (h : Held) → (h .refusal ≡ 0 → ⊥) → abs h ≡ stopped (h .refusal) (h .at)

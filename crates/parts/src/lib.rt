@@ -10,7 +10,7 @@ ghost use lib.ListN.{length, take, drop};
 ghost use lib.Seq.{sets};
 ghost use Rattle.frames.specs.Frame.{lineFeed};
 ghost use Rattle.reading.specs.Read.{Good, rooms, Large, GoodTook};
-ghost use Rattle.parts.specs.File.{going, stopped, both, ended, feedOf, feedAll, finishOf, caseOf, GoodCase, abs, Sound, lineLen, holdOf, Went};
+ghost use Rattle.parts.specs.File.{going, stopped, both, ended, feedOf, feedAll, finishOf, caseOf, GoodCase, abs, Sound, lineLen, holdOf, Went, GoodLines, heldRest};
 
 // What the whole lines of a part come to: the state after them and where the rest starts, or a refusal.
 pub enum Lines {
@@ -196,23 +196,12 @@ fn end_line(
     after(k)
 }
 
-// What a part comes to from its byte from on, with no line held before it.
-fn read_rest(
-    s: Reading,
-    part: &[u8],
-    from: usize,
-    caps: &mut [u16],
-    initial: &mut [u16],
-    pre: &mut [u8],
-    post: &mut [u8],
-    word: &mut [u8],
-) -> Held
-    requires { ⌜ (Good s) × (from ≤ length (now part)) × (Large (rooms (now caps) (now initial) (now pre) (now post) (now word))) ⌝ }
-    ensures value { λ r. ⌜ both (abs r) (rooms (now (caps .exit)) (now (initial .exit)) (now (pre .exit)) (now (post .exit)) (now (word .exit)))
-        ≡ feedAll (both (going s []) (rooms (now (caps .entry)) (now (initial .entry)) (now (pre .entry)) (now (post .entry)) (now (word .entry)))) (drop from (now (part .entry))) ⌝ }
+// What the whole lines of a part come to, with what is left of the part held.
+fn hold_rest(lines: Lines, part: &[u8]) -> Held
+    requires { ⌜ GoodLines (now part) lines ⌝ }
+    ensures value { λ r. ⌜ abs r ≡ heldRest (now (part .entry)) lines ⌝ }
     ensures sound { λ r. ⌜ Sound r ⌝ }
 {
-    let lines = read_lines(s, part, from, caps, initial, pre, post, word);
     match lines {
         Lines::Rest(t, e) => hold(cleared(t), &part[e..]),
         Lines::Broken(number, line) => broken(number, line),
@@ -239,7 +228,8 @@ fn read_on(
     if t.refusal != 0 {
         return t;
     }
-    read_rest(t.reading, part, e + 1, caps, initial, pre, post, word)
+    let lines = read_lines(t.reading, part, e + 1, caps, initial, pre, post, word);
+    hold_rest(lines, part)
 }
 
 // One part of a file more.
