@@ -18,7 +18,7 @@ use Rattle.parts.specs.declared.Case.{Case}
 use Rattle.parts.specs.declared.Case.the-variants.{Refused}
 use Rattle.parts.specs.declared.Lines.{Lines}
 use Rattle.parts.specs.declared.Lines.the-variants.{Rest, Broken}
-use Rattle.parts.specs.File.{Run, going, stopped, Both, both, ended, fedTo, feedOf, feedAll, finishOf, caseOf, abs, Sound, lineLen, NoFeed, holdOf, Went}
+use Rattle.parts.specs.File.{Run, going, stopped, Both, both, ended, fedTo, feedOf, feedAll, finishOf, caseOf, abs, Sound, lineLen, NoFeed, holdOf, Went, GoodLines, heldRest}
 use Rattle.parts.proofs.Line.{stays, holds, len-most, len-take, len-split}
 
 -- a piece of a line is stored up to entry i
@@ -91,19 +91,13 @@ pub ended-line : (h : Held) (x y : Rooms) (k : Took) (a : Run) → h .refusal �
 unfolding fedTo
 ended-line h x y k a r e f g = rw (g, e, f) (simp (eq-eqb _ _ r))
 
--- the state after a line, by what the line came to
+-- what the line came to is good
 module _ (k : Took) where
   pub after-good : (t : Reading) → k ≡ took.Next t → GoodTook k → Good t
   after-good t e g = rw e at g
 
   pub after-some : (n l : ℕ) → k ≡ took.Refused n l → GoodTook k → 1 ≤ n
   after-some n l e g = rw e at g
-
-  pub after-next : (t : Reading) (a : Run) → k ≡ took.Next t → a ≡ going t [] → a ≡ ended k
-  after-next t a e f = f ∙ rw e
-
-  pub after-refused : (n l : ℕ) (a : Run) → k ≡ took.Refused n l → a ≡ stopped n l → a ≡ ended k
-  after-refused n l a e f = f ∙ rw e
 
 -- what a part comes to
 module _ (f : List ℕ) (z : Both) (at : ℕ) (r : Lines) (y : Rooms) (w : Went f z at r y) where
@@ -113,18 +107,34 @@ module _ (f : List ℕ) (z : Both) (at : ℕ) (r : Lines) (y : Rooms) (w : Went 
   pub went-broken : (n l : ℕ) → r ≡ Broken n l → (1 ≤ n) × (feedAll z (drop at f) ≡ both (stopped n l) y)
   went-broken n l q = rw q at w
 
-  pub rest-held : (t : Reading) (e : ℕ) (h : Held) (a : Run) → r ≡ Rest t e → h .reading ≡ t → h .len ≡ 0 → a ≡ holdOf (h .reading) (take (h .len) (h .line)) (take (length f - e) (drop e f))
-      → both a y ≡ feedAll z (drop at f)
-  unfolding feedAll
+-- what the whole lines come to may be held, and is what the part comes to
+pub went-good : (f : List ℕ) (z : Both) (at : ℕ) (r : Lines) (y : Rooms) → Went f z at r y → GoodLines f r
+went-good f z at (Rest t e) y w = (w .0, w .1)
+went-good f z at (Broken n l) y w = w .0
+
+pub went-held : (f : List ℕ) (z : Both) (at : ℕ) (r : Lines) (y : Rooms) (a : Run) → Went f z at r y → a ≡ heldRest f r → both a y ≡ feedAll z (drop at f)
+unfolding feedAll
+went-held f z at (Rest t e) y a w k =
+    let o = holds t y (drop e f) [] [] (omega arith) (w .2) in
+    ap (λ (b : Run). both b y) k ∙ sym (w .3 ∙ ap (feedAll (both (going t []) y)) (sym (append-nil (drop e f))) ∙ o)
+went-held f z at (Broken n l) y a w k = ap (λ (b : Run). both b y) k ∙ sym (w .1)
+
+-- the rest of a part, by the whole lines' answer
+module _ (f : List ℕ) (r : Lines) where
+  pub good-rest : GoodLines f r → (t : Reading) (e : ℕ) → r ≡ Rest t e → (Good t) × (e ≤ length f)
+  good-rest g t e q = rw q at g
+
+  pub good-broken : GoodLines f r → (n l : ℕ) → r ≡ Broken n l → 1 ≤ n
+  good-broken g n l q = rw q at g
+
+  pub rest-held : (t : Reading) (e : ℕ) (h : Held) (a : Run) → r ≡ Rest t e → h .reading ≡ t → h .len ≡ 0 → a ≡ holdOf (h .reading) (take (h .len) (h .line)) (take (length f - e) (drop e f)) → a ≡ heldRest f r
   rest-held t e h a q i j k =
-      let g = went-rest t e q in
       let b : take (length f - e) (drop e f) ≡ drop e f = take-all (length f - e) (drop e f) (omega (arith, length-drop e f)) in
       let m : a ≡ holdOf t [] (drop e f) = rw (i, j, b) at k in
-      let o = holds t y (drop e f) [] [] (omega arith) (g .2) in
-      ap (λ (b : Run). both b y) m ∙ sym (g .3 ∙ ap (feedAll (both (going t []) y)) (sym (append-nil (drop e f))) ∙ o)
+      m ∙ rw q
 
-  pub rest-broken : (n l : ℕ) (a : Run) → r ≡ Broken n l → a ≡ stopped n l → both a y ≡ feedAll z (drop at f)
-  rest-broken n l a q k = ap (λ (b : Run). both b y) k ∙ sym (went-broken n l q .1)
+  pub rest-broken : (n l : ℕ) (a : Run) → r ≡ Broken n l → a ≡ stopped n l → a ≡ heldRest f r
+  rest-broken n l a q k = k ∙ rw q
 
 -- what holds of a refused state, and of one that goes on
 pub abs-stopped : (h : Held) → (h .refusal ≡ 0 → ⊥) → abs h ≡ stopped (h .refusal) (h .at)
@@ -166,18 +176,21 @@ module _ (h : Held) (f : List ℕ) (x : Rooms) (s : Sound h) (z : h .refusal ≡
   pub part-on : (w : Both) → (e ≡ length f → ⊥) → w ≡ feedAll (both (abs r) x) (lineFeed ∷ drop (e + 1) f) → w ≡ feedAll (both (abs h) x) f
   part-on w k q = q ∙ sym (begun (lineFeed ∷ drop (e + 1) f) (split k))
 
-module _ (h : Held) (f : List ℕ) (x : Rooms) (t : Held) (y : Rooms) (g : both (abs t) y ≡ feedOf (both (abs h) x) lineFeed) where
-  line-done : feedAll (both (abs h) x) (lineFeed ∷ f) ≡ feedAll (both (abs t) y) f
+-- the held line's answer k and the rooms y after it, and the bytes f after the line
+module _ (h : Held) (f : List ℕ) (x y : Rooms) (k : Took) (r : h .refusal ≡ 0) (e : k ≡ lineOf (h .reading) (take (h .len) (h .line)) (x .caps)) (g : y ≡ roomsOf (h .reading) (take (h .len) (h .line)) x) where
+  line-done : feedAll (both (abs h) x) (lineFeed ∷ f) ≡ feedAll (both (ended k) y) f
   unfolding feedAll
-  line-done = ap (λ (b : Both). feedAll b f) (sym g)
+  line-done = ap (λ (b : Both). feedAll b f) (sym (ended-line h x y k (ended k) r e g refl))
 
-  pub on-refused : (t .refusal ≡ 0 → ⊥) → both (abs t) y ≡ feedAll (both (abs h) x) (lineFeed ∷ f)
-  on-refused n = part-stopped t f y n ∙ sym line-done
+  pub line-refused : (n l : ℕ) (a : Run) → k ≡ took.Refused n l → a ≡ stopped n l → both a y ≡ feedAll (both (abs h) x) (lineFeed ∷ f)
+  line-refused n l a q p =
+      let d : feedAll (both (abs h) x) (lineFeed ∷ f) ≡ feedAll (both (stopped n l) y) f = rw q at line-done in
+      ap (λ (b : Run). both b y) p ∙ sym (d ∙ stays n l y f)
 
-  pub on-rest : (w : Both) → t .refusal ≡ 0 → t .len ≡ 0 → w ≡ feedAll (both (going (t .reading) []) y) f → w ≡ feedAll (both (abs h) x) (lineFeed ∷ f)
-  on-rest w n l q =
-      let a : abs t ≡ going (t .reading) [] = abs-going t n ∙ rw l in
-      q ∙ ap (λ (b : Run). feedAll (both b y) f) (sym a) ∙ sym line-done
+  pub line-next : (t : Reading) (w : Both) → k ≡ took.Next t → w ≡ feedAll (both (going t []) y) f → w ≡ feedAll (both (abs h) x) (lineFeed ∷ f)
+  line-next t w q p =
+      let d : feedAll (both (abs h) x) (lineFeed ∷ f) ≡ feedAll (both (going t []) y) f = rw q at line-done in
+      p ∙ sym d
 
 -- the end of a file, by its state
 module _ (h : Held) (s : Sound h) where

@@ -101,3 +101,12 @@ holdOf s d piece = cond (leb (length d + length piece) lineLimit) (going s (d ++
 abbrev pub Went : List ℕ → Both → ℕ → Lines → Rooms → Type 0
 Went f z at (Rest t e) y = (Good t) × (e ≤ length f) × (NoFeed (drop e f)) × (feedAll z (drop at f) ≡ feedAll (both (going t []) y) (drop e f))
 Went f z at (Broken n l) y = (1 ≤ n) × (feedAll z (drop at f) ≡ both (stopped n l) y)
+
+-- what is asked of the whole lines' answer before the rest of the part f is held, and what then is held
+abbrev pub GoodLines : List ℕ → Lines → Type 0
+GoodLines f (Rest t e) = (Good t) × (e ≤ length f)
+GoodLines f (Broken n l) = 1 ≤ n
+
+abbrev pub heldRest : List ℕ → Lines → Run
+heldRest f (Rest t e) = holdOf t [] (drop e f)
+heldRest f (Broken n l) = stopped n l

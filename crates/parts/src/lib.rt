@@ -9,8 +9,8 @@ ghost use Prim.Native.Nat.{_+_, _<_, _≤_};
 ghost use lib.ListN.{length, take, drop};
 ghost use lib.Seq.{sets};
 ghost use Rattle.frames.specs.Frame.{lineFeed};
-ghost use Rattle.reading.specs.Read.{Good, rooms, Large, GoodTook};
-ghost use Rattle.parts.specs.File.{going, stopped, both, ended, feedOf, feedAll, finishOf, caseOf, GoodCase, abs, Sound, lineLen, holdOf, Went};
+ghost use Rattle.reading.specs.Read.{Good, rooms, Large};
+ghost use Rattle.parts.specs.File.{going, stopped, both, feedAll, finishOf, caseOf, GoodCase, abs, Sound, lineLen, holdOf, Went, GoodLines, heldRest};
 
 // What the whole lines of a part come to: the state after them and where the rest starts, or a refusal.
 pub enum Lines {
@@ -164,55 +164,12 @@ fn hold(h: Held, piece: &[u8]) -> Held
     }
 }
 
-// The state after a line.
-fn after(k: Took) -> Held
-    requires { ⌜ GoodTook k ⌝ }
-    ensures value { λ r. ⌜ abs r ≡ ended k ⌝ }
-    ensures sound { λ r. ⌜ (Sound r) × (r .len ≡ 0) ⌝ }
-{
-    match k {
-        Took::Next(t) => cleared(t),
-        Took::Refused { number, line } => broken(number, line),
-    }
-}
-
-// The line that is held, ended by its line feed.
-fn end_line(
-    h: Held,
-    caps: &mut [u16],
-    initial: &mut [u16],
-    pre: &mut [u8],
-    post: &mut [u8],
-    word: &mut [u8],
-) -> Held
-    requires { ⌜ (Sound h) × (h .refusal ≡ 0) × (Large (rooms (now caps) (now initial) (now pre) (now post) (now word))) ⌝ }
-    ensures value { λ r. ⌜ both (abs r) (rooms (now (caps .exit)) (now (initial .exit)) (now (pre .exit)) (now (post .exit)) (now (word .exit)))
-        ≡ feedOf (both (abs h) (rooms (now (caps .entry)) (now (initial .entry)) (now (pre .entry)) (now (post .entry)) (now (word .entry)))) lineFeed ⌝ }
-    ensures sound { λ r. ⌜ (Sound r) × (r .len ≡ 0) ⌝ }
-{
-    let n = h.len;
-    let d = h.line;
-    let k = reading::read_line(h.reading, &d[..n], caps, initial, pre, post, word);
-    after(k)
-}
-
-// What a part comes to from its byte from on, with no line held before it.
-fn read_rest(
-    s: Reading,
-    part: &[u8],
-    from: usize,
-    caps: &mut [u16],
-    initial: &mut [u16],
-    pre: &mut [u8],
-    post: &mut [u8],
-    word: &mut [u8],
-) -> Held
-    requires { ⌜ (Good s) × (from ≤ length (now part)) × (Large (rooms (now caps) (now initial) (now pre) (now post) (now word))) ⌝ }
-    ensures value { λ r. ⌜ both (abs r) (rooms (now (caps .exit)) (now (initial .exit)) (now (pre .exit)) (now (post .exit)) (now (word .exit)))
-        ≡ feedAll (both (going s []) (rooms (now (caps .entry)) (now (initial .entry)) (now (pre .entry)) (now (post .entry)) (now (word .entry)))) (drop from (now (part .entry))) ⌝ }
+// What the whole lines of a part come to, with what is left of the part held.
+fn hold_rest(lines: Lines, part: &[u8]) -> Held
+    requires { ⌜ GoodLines (now part) lines ⌝ }
+    ensures value { λ r. ⌜ abs r ≡ heldRest (now (part .entry)) lines ⌝ }
     ensures sound { λ r. ⌜ Sound r ⌝ }
 {
-    let lines = read_lines(s, part, from, caps, initial, pre, post, word);
     match lines {
         Lines::Rest(t, e) => hold(cleared(t), &part[e..]),
         Lines::Broken(number, line) => broken(number, line),
@@ -235,11 +192,16 @@ fn read_on(
         ≡ feedAll (both (abs h) (rooms (now (caps .entry)) (now (initial .entry)) (now (pre .entry)) (now (post .entry)) (now (word .entry)))) (lineFeed ∷ drop (e + 1) (now (part .entry))) ⌝ }
     ensures sound { λ r. ⌜ Sound r ⌝ }
 {
-    let t = end_line(h, caps, initial, pre, post, word);
-    if t.refusal != 0 {
-        return t;
+    let n = h.len;
+    let d = h.line;
+    let k = reading::read_line(h.reading, &d[..n], caps, initial, pre, post, word);
+    match k {
+        Took::Next(t) => {
+            let lines = read_lines(t, part, e + 1, caps, initial, pre, post, word);
+            hold_rest(lines, part)
+        }
+        Took::Refused { number, line } => broken(number, line),
     }
-    read_rest(t.reading, part, e + 1, caps, initial, pre, post, word)
 }
 
 // One part of a file more.

@@ -79,19 +79,19 @@ lay-bytes-requires-3 c κs =
     part-fits (s .args .s .letters) _ (now (s .args .word)) (omega (arith, s .pre .0 .letters, s .pre .2 .word))
 
 same-length : tie.Need-same-length
-same-length c = search needs
+same-length c = c .before .before .before .before .before .before .before .before .before .before .before .before .before .before .before .before .before .before .before .before .before .before .lay-words .kept .0
 
 same-length-2 : tie.Need-same-length-2
-same-length-2 c = search needs
+same-length-2 c = c .before .before .before .before .before .before .before .before .before .before .before .before .before .before .before .before .before .lay-words2 .kept .0
 
 same-length-3 : tie.Need-same-length-3
-same-length-3 c = search needs
+same-length-3 c = c .before .before .before .before .before .before .before .before .before .before .before .before .lay-bytes .kept .0
 
 same-length-4 : tie.Need-same-length-4
-same-length-4 c = search needs
+same-length-4 c = c .before .before .before .before .before .before .before .lay-bytes2 .kept .0
 
 same-length-5 : tie.Need-same-length-5
-same-length-5 c = search needs
+same-length-5 c = c .before .before .lay-bytes3 .kept .0
 
 returns : tie.Need-returns
 returns c = rooms-same (c .before .before .before .before .before .before .before .before .before .before .before .before .before .before .before .before .before .before .before .before .before .before .lay-words .ensures) (c .before .before .before .before .before .before .before .before .before .before .before .before .before .before .before .before .before .lay-words2 .ensures) (c .before .before .before .before .before .before .before .before .before .before .before .before .lay-bytes .ensures) (c .before .before .before .before .before .before .before .lay-bytes2 .ensures) (c .before .before .lay-bytes3 .ensures)

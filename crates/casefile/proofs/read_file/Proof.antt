@@ -9,6 +9,13 @@ use Rattle.casefile.proofs.read_file.Tie as tie
 abbrev begun : tie.After-read-lines → tie.After-new
 begun l = l .before .before .before .before .before .before
 
+-- the whole lines, before either answer
+abbrev rested : tie.After-end-of → tie.After-read-lines
+rested c = c .before .before .before .before .before .before .before .before .before .before .before .before .before .before
+
+abbrev broken : tie.After-known-told2 → tie.After-read-lines
+broken c = c .before .before .before .before .before .before .before .before .before .before .before .before .before
+
 new-requires : tie.Need-new-requires
 new-requires c κs = search needs
 
@@ -33,43 +40,43 @@ enum-known-lines-2 : tie.Need-enum-known-lines-2
 enum-known-lines-2 c = search needs
 
 same-length : tie.Need-same-length
-same-length c = search needs
+same-length c = rested c .read-lines .kept .1 .1 .1 .0
 
 same-length-2 : tie.Need-same-length-2
-same-length-2 c = search needs
+same-length-2 c = rested c .read-lines .kept .1 .1 .1 .1 .0
 
 same-length-3 : tie.Need-same-length-3
-same-length-3 c = search needs
+same-length-3 c = rested c .read-lines .kept .1 .1 .1 .1 .1 .0
 
 same-length-4 : tie.Need-same-length-4
-same-length-4 c = search needs
+same-length-4 c = rested c .read-lines .kept .1 .1 .1 .1 .1 .1 .0
 
 same-length-5 : tie.Need-same-length-5
-same-length-5 c = search needs
+same-length-5 c = rested c .read-lines .kept .1 .1 .1 .1 .1 .1 .1 .0
 
 returns : tie.Need-returns
 returns c =
-    let l = c .before .before .before .before .before .before .before .before .before .before .before .before .before .before in
+    let l = rested c in
     (file-rest _ _ _ _ _ (begun l .new .ensures .0) (l .read-lines .ensures) _ _ _ (c .before .before .lines .given .1) (c .end-of .ensures .0), c .end-of .ensures .1)
 
 same-length-6 : tie.Need-same-length-6
-same-length-6 c = search needs
+same-length-6 c = broken c .read-lines .kept .1 .1 .1 .0
 
 same-length-7 : tie.Need-same-length-7
-same-length-7 c = search needs
+same-length-7 c = broken c .read-lines .kept .1 .1 .1 .1 .0
 
 same-length-8 : tie.Need-same-length-8
-same-length-8 c = search needs
+same-length-8 c = broken c .read-lines .kept .1 .1 .1 .1 .1 .0
 
 same-length-9 : tie.Need-same-length-9
-same-length-9 c = search needs
+same-length-9 c = broken c .read-lines .kept .1 .1 .1 .1 .1 .1 .0
 
 same-length-10 : tie.Need-same-length-10
-same-length-10 c = search needs
+same-length-10 c = broken c .read-lines .kept .1 .1 .1 .1 .1 .1 .1 .0
 
 returns-2 : tie.Need-returns-2
 returns-2 c =
-    let l = c .before .before .before .before .before .before .before .before .before .before .before .before .before in
+    let l = broken c in
     (file-broken _ _ _ _ _ (begun l .new .ensures .0) (l .read-lines .ensures) _ _ (c .before .lines2 .given .1), tt)
 
 pub read-file-spec : {M : Type 1} → statement M

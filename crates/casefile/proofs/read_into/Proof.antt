@@ -1,3 +1,4 @@
+use denote.Ref.{now}
 use mathlib.Core.Path.{_≡_}
 use Rattle.reading.specs.Read.{rooms}
 use Rattle.parts.proofs.Line.{large}
@@ -11,6 +12,10 @@ use Rattle.casefile.proofs.read_into.Tie as tie
 -- the rooms of our own, before the file is read
 blanks : (l : tie.After-read-file) → rooms (l .before .before .before .before .before .before .before .before .before .before .blank-counts .result) (l .before .before .before .before .before .before .before .before .before .blank-counts2 .result) (l .before .before .before .before .before .before .before .before .blank-cells .result) (l .before .before .before .before .before .before .before .blank-cells2 .result) (l .before .before .before .before .before .before .blank-word .result) ≡ blank
 blanks l = rooms-same (l .before .before .before .before .before .before .before .before .before .before .blank-counts .ensures) (l .before .before .before .before .before .before .before .before .before .blank-counts2 .ensures) (l .before .before .before .before .before .before .before .before .blank-cells .ensures) (l .before .before .before .before .before .before .before .blank-cells2 .ensures) (l .before .before .before .before .before .before .blank-word .ensures)
+
+-- the answer, before a need after it
+abbrev answered : tie.After-slice-known10 → tie.After-answer
+answered c = c .before .before .before .before .before .before .before .before .before .before
 
 blank-counts-requires : tie.Need-blank-counts-requires
 blank-counts-requires c κs = search needs
@@ -68,25 +73,26 @@ answer-requires c κs =
     (l .read-file .ensures .1, large _ _ (record { caps = k .1 .0; initial = k .1 .1 .0; pre = k .1 .1 .1 .0; post = k .1 .1 .1 .1 .0; word = k .1 .1 .1 .1 .1 .0 }) (blank-large _ (blanks l)), s .pre)
 
 same-length : tie.Need-same-length
-same-length c = search needs
+same-length c = answered c .answer .kept .1 .1 .1 .1 .1 .1 .0
 
 same-length-2 : tie.Need-same-length-2
-same-length-2 c = search needs
+same-length-2 c = answered c .answer .kept .1 .1 .1 .1 .1 .1 .1 .0
 
 same-length-3 : tie.Need-same-length-3
-same-length-3 c = search needs
+same-length-3 c = answered c .answer .kept .1 .1 .1 .1 .1 .1 .1 .1 .0
 
 same-length-4 : tie.Need-same-length-4
-same-length-4 c = search needs
+same-length-4 c = answered c .answer .kept .1 .1 .1 .1 .1 .1 .1 .1 .1 .0
 
 same-length-5 : tie.Need-same-length-5
-same-length-5 c = search needs
+same-length-5 c = answered c .answer .kept .1 .1 .1 .1 .1 .1 .1 .1 .1 .1 .0
 
 returns : tie.Need-returns
 returns c =
-    let a = c .before .before .before .before .before .before .before .before .before .before in
+    let a = answered c in
     let l = a .before .before .before .before .before .before .before .before .before .before .before .before .before .before .before .before in
-    filled-is _ _ _ _ _ _ (blanks l) (l .read-file .ensures .0) (a .answer .ensures)
+    let s = l .before .before .before .before .before .before .before .before .before .before .before .before .before .before .before .before .before .args in
+    filled-is (now (s .file)) _ (rooms (now (s .caps)) (now (s .initial)) (now (s .pre)) (now (s .post)) (now (s .word))) _ (l .read-file .result) _ (blanks l) (l .read-file .ensures .0) (a .answer .ensures)
 
 pub read-into-spec : {M : Type 1} → statement M
 read-into-spec =
