@@ -121,7 +121,3 @@ module _ (P n : ℕ) (list : List ℕ) (k : ℕ) (long : length list ≡ n * P) 
 pub not-failure : (why : Failure) (n : ℕ) → (n ≡ 1 → ⊥) → n ∷ [] ≡ failureNumbers why → ⊥
 not-failure InitialMissing n h e = h (cc)
 not-failure (ResultMissing k t) n h e = let z : _≡_ {A = ℕ} 0 1 = cc in absurd (omega arith)
-
--- a part from the front is as long as it says
-pub part-long : (n : ℕ) (l : List ℕ) → n ≤ length l → n ≡ length (take n l)
-part-long n l h = sym (length-take-le n l h)
