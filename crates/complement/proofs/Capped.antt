@@ -7,15 +7,10 @@ use native.Mathlib.Omega.{arith}
 use native.Mathlib.Nat.{not-suc-le-zero, le-of-suc-le-suc}
 use lib.ListN.{length, getD}
 use lib.Dec.{ltb}
-use borrow.Author.Tests.{ltb-true, lt-ltb, le-ltb}
+use borrow.Author.Tests.{ltb-true, lt-ltb}
 use Rattle.ground.specs.Limits.{noCapacity}
 use Rattle.ground.proofs.Tests.{never}
 use Rattle.complement.specs.Complement.{cappedFrom}
-
--- a test is the one asked for if it holds and fails where that does, however it is written
-pub below-is : (t : Bool) (a b : ℕ) → (t ≡ true → a < b) → (t ≡ false → b ≤ a) → t ≡ ltb a b
-below-is true a b p q = sym (lt-ltb a b (p refl))
-below-is false a b p q = sym (le-ltb a b (q refl))
 
 -- no more than there are places
 pub capped-few : (p : ℕ) (caps : List ℕ) → length (cappedFrom p caps) ≤ length caps

@@ -1,7 +1,7 @@
 use native.Mathlib.Omega.{arith}
 use borrow.Author.Tests.{ltb-true, ltb-false, leb-true, leb-false}
 use Rattle.ground.specs.Limits.{noCapacity}
-use Rattle.complement.proofs.Capped.{below-is}
+use Rattle.ground.proofs.Tests.{below-is}
 use Rattle.complement.proofs.is_capped.Statement.{statement}
 use Rattle.complement.proofs.is_capped.Tie as tie
 

@@ -1,4 +1,8 @@
-use Rattle.ground.proofs.Tests.{tests}
+use Prim.Native.Nat.{_+_}
+use native.Mathlib.Omega.{arith}
+use borrow.Author.Tests.{ltb-true, ltb-false, leb-true, leb-false, lt-ltb}
+use Rattle.ground.specs.Limits.{noCapacity}
+use Rattle.ground.proofs.Tests.{tests, below-is, and-next}
 use borrow.Author.Needs.{needs}
 use Rattle.net.proofs.is_over.Statement.{statement}
 use Rattle.net.proofs.is_over.Tie as tie
@@ -10,7 +14,12 @@ add-result-2 : tie.Need-add-result-2
 add-result-2 c = search needs
 
 returns : tie.Need-returns
-returns c = search (tests, needs)
+returns c =
+    let s : tie.Start = search needs in
+    and-next _ _ _ (lt-ltb (s .args .cap) noCapacity (omega arith))
+    (below-is _ (s .args .cap + s .args .takes) (s .args .tokens + s .args .puts)
+    (λ h. omega (arith, ltb-true, leb-true))
+    (λ h. omega (arith, ltb-false, leb-false)))
 
 returns-2 : tie.Need-returns-2
 returns-2 c = search (tests, needs)
