@@ -1,21 +1,24 @@
 // Inner: the line that answers a case file, made from what the file has come to: a refusal's, or the
 // verdict of the replay of what was read.
+use ground::COUNT_LIMIT;
+use ground::Weight;
 use parts::Case;
 use parts::Held;
 use reading::Reading;
 ghost use mathlib.Core.Path.{_≡_};
 ghost use Prim.Native.Nat.{_≤_};
 ghost use lib.ListN.{length};
+ghost use Rattle.ground.specs.Limits.{countLimit};
 ghost use Rattle.reading.specs.Read.{Good, rooms, Large};
 ghost use Rattle.parts.specs.File.{caseOf, abs, Sound};
 ghost use Rattle.verdict.specs.Verdict.{answerLimit, WrittenBytes};
 ghost use Rattle.answering.specs.Answer.{answerFor};
 
 // A number for each of the most places.
-fn fresh_room() -> [u32; 64]
-    ensures { λ r. ⌜ length r ≡ 64 ⌝ }
+fn fresh_room() -> [u32; COUNT_LIMIT]
+    ensures { λ r. ⌜ length r ≡ countLimit ⌝ }
 {
-    [0; 64]
+    [0; COUNT_LIMIT]
 }
 
 // The verdict line of the replay of what was read; the room has a number for each place.
@@ -23,8 +26,8 @@ fn play_line(
     s: Reading,
     caps: &[u16],
     initial: &[u16],
-    pre: &[u8],
-    post: &[u8],
+    pre: &[Weight],
+    post: &[Weight],
     word: &[u8],
     room: &mut [u32],
     out: &mut [u8],
@@ -55,8 +58,8 @@ fn whole_line(
     s: Reading,
     caps: &[u16],
     initial: &[u16],
-    pre: &[u8],
-    post: &[u8],
+    pre: &[Weight],
+    post: &[Weight],
     word: &[u8],
     out: &mut [u8],
 ) -> usize
@@ -74,8 +77,8 @@ pub fn answer_line(
     h: Held,
     caps: &[u16],
     initial: &[u16],
-    pre: &[u8],
-    post: &[u8],
+    pre: &[Weight],
+    post: &[Weight],
     word: &[u8],
     out: &mut [u8],
 ) -> usize

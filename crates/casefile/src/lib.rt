@@ -2,6 +2,7 @@
 // line. The counts are not known before the file is read, so the rooms have the largest sizes.
 use ground::COUNT_LIMIT;
 use ground::WORD_LIMIT;
+use ground::Weight;
 use parts::Case;
 use parts::Lines;
 use reading::CELL_LIMIT;
@@ -30,7 +31,7 @@ fn blank_counts() -> [u16; COUNT_LIMIT]
     [0; COUNT_LIMIT]
 }
 
-fn blank_cells() -> [u8; CELL_LIMIT]
+fn blank_cells() -> [Weight; CELL_LIMIT]
     ensures { λ r. ⌜ r ≡ replicate cellLimit 0 ⌝ }
 {
     [0; CELL_LIMIT]
@@ -78,8 +79,8 @@ fn read_file(
     file: &[u8],
     caps: &mut [u16],
     initial: &mut [u16],
-    pre: &mut [u8],
-    post: &mut [u8],
+    pre: &mut [Weight],
+    post: &mut [Weight],
     word: &mut [u8],
 ) -> Case
     requires { ⌜ Large (rooms (now caps) (now initial) (now pre) (now post) (now word)) ⌝ }
@@ -128,8 +129,8 @@ fn lay_out(
     w: &[u8],
     caps: &mut [u16],
     initial: &mut [u16],
-    pre: &mut [u8],
-    post: &mut [u8],
+    pre: &mut [Weight],
+    post: &mut [Weight],
     word: &mut [u8],
 )
     requires { ⌜ (Good s) × (Large (rooms (now c) (now m) (now a) (now b) (now w))) × (Large (rooms (now caps) (now initial) (now pre) (now post) (now word))) ⌝ }
@@ -157,8 +158,8 @@ fn answer(
     w: &[u8],
     caps: &mut [u16],
     initial: &mut [u16],
-    pre: &mut [u8],
-    post: &mut [u8],
+    pre: &mut [Weight],
+    post: &mut [Weight],
     word: &mut [u8],
 ) -> CaseFile
     requires { ⌜ (GoodCase case) × (Large (rooms (now c) (now m) (now a) (now b) (now w))) × (Large (rooms (now caps) (now initial) (now pre) (now post) (now word))) ⌝ }
@@ -181,8 +182,8 @@ fn read_into(
     file: &[u8],
     caps: &mut [u16],
     initial: &mut [u16],
-    pre: &mut [u8],
-    post: &mut [u8],
+    pre: &mut [Weight],
+    post: &mut [Weight],
     word: &mut [u8],
 ) -> CaseFile
     requires { ⌜ Large (rooms (now caps) (now initial) (now pre) (now post) (now word)) ⌝ }
@@ -204,8 +205,8 @@ pub fn read_case(
     file: &[u8],
     caps: &mut [u16],
     initial: &mut [u16],
-    pre: &mut [u8],
-    post: &mut [u8],
+    pre: &mut [Weight],
+    post: &mut [Weight],
     word: &mut [u8],
 ) -> CaseFile
     ensures { λ r. ⌜ CaseRead (now (file .entry)) (rooms (now (caps .entry)) (now (initial .entry)) (now (pre .entry)) (now (post .entry)) (now (word .entry))) r

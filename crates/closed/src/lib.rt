@@ -1,5 +1,6 @@
 // Closed lists: a list of markings that holds the initial marking and every result of its own
 // markings holds every reachable one, so what it lacks is never reached.
+use ground::Weight;
 use lists::Failure;
 use net::Fault;
 ghost use mathlib.Core.Path.{_≡_};
@@ -117,8 +118,8 @@ fn is_absent(
     places: usize,
     count: usize,
     list: &[u16],
-    takes: &[u8],
-    puts: &[u8],
+    takes: &[Weight],
+    puts: &[Weight],
     caps: &[u16],
     listed: &[u16],
     room: &mut [u32],
@@ -141,8 +142,8 @@ fn is_absent(
 fn is_missing(
     places: usize,
     transitions: usize,
-    pre: &[u8],
-    post: &[u8],
+    pre: &[Weight],
+    post: &[Weight],
     caps: &[u16],
     list: &[u16],
     count: usize,
@@ -174,8 +175,8 @@ fn is_missing(
 fn first_missing(
     places: usize,
     transitions: usize,
-    pre: &[u8],
-    post: &[u8],
+    pre: &[Weight],
+    post: &[Weight],
     caps: &[u16],
     list: &[u16],
     count: usize,
@@ -206,8 +207,8 @@ fn first_missing(
 fn look_through(
     places: usize,
     transitions: usize,
-    pre: &[u8],
-    post: &[u8],
+    pre: &[Weight],
+    post: &[Weight],
     caps: &[u16],
     initial: &[u16],
     list: &[u16],
@@ -260,8 +261,8 @@ fn list_fault(places: usize, caps: &[u16], list: &[u16], next: Fault) -> Fault
 fn find_fault(
     places: usize,
     transitions: usize,
-    pre: &[u8],
-    post: &[u8],
+    pre: &[Weight],
+    post: &[Weight],
     caps: &[u16],
     initial: &[u16],
     list: &[u16],
@@ -282,8 +283,8 @@ fn find_fault(
 fn check_list(
     places: usize,
     transitions: usize,
-    pre: &[u8],
-    post: &[u8],
+    pre: &[Weight],
+    post: &[Weight],
     caps: &[u16],
     initial: &[u16],
     list: &[u16],
@@ -310,7 +311,13 @@ fn check_list(
 }
 
 // Whether a transition, by its rows, is enabled at a listed marking.
-fn is_enabled(takes: &[u8], puts: &[u8], caps: &[u16], listed: &[u16], room: &mut [u32]) -> bool
+fn is_enabled(
+    takes: &[Weight],
+    puts: &[Weight],
+    caps: &[u16],
+    listed: &[u16],
+    room: &mut [u32],
+) -> bool
     requires { ⌜ length (now listed) ≡ length (now room) ⌝ }
     requires { ⌜ Rows (arcsOf (now takes) (now puts) (now caps)) (now listed) ⌝ }
     ensures { λ r. ⌜ r ≡ passes (arcsOf (now (takes .entry)) (now (puts .entry)) (now (caps .entry))) (now (listed .entry)) ⌝ }
@@ -323,8 +330,8 @@ fn is_enabled(takes: &[u8], puts: &[u8], caps: &[u16], listed: &[u16], room: &mu
 fn is_enabling(
     places: usize,
     transitions: usize,
-    pre: &[u8],
-    post: &[u8],
+    pre: &[Weight],
+    post: &[Weight],
     caps: &[u16],
     list: &[u16],
     count: usize,
@@ -353,8 +360,8 @@ fn is_enabling(
 fn is_dead(
     places: usize,
     transitions: usize,
-    pre: &[u8],
-    post: &[u8],
+    pre: &[Weight],
+    post: &[Weight],
     caps: &[u16],
     list: &[u16],
     count: usize,
@@ -378,8 +385,8 @@ fn is_dead(
 fn some_dead(
     places: usize,
     transitions: usize,
-    pre: &[u8],
-    post: &[u8],
+    pre: &[Weight],
+    post: &[Weight],
     caps: &[u16],
     list: &[u16],
     count: usize,
@@ -402,8 +409,8 @@ fn some_dead(
 pub fn closed_list(
     places: usize,
     transitions: usize,
-    pre: &[u8],
-    post: &[u8],
+    pre: &[Weight],
+    post: &[Weight],
     caps: &[u16],
     initial: &[u16],
     list: &[u16],
@@ -427,8 +434,8 @@ pub fn closed_list(
 pub fn closed_target(
     places: usize,
     transitions: usize,
-    pre: &[u8],
-    post: &[u8],
+    pre: &[Weight],
+    post: &[Weight],
     caps: &[u16],
     initial: &[u16],
     list: &[u16],
@@ -467,8 +474,8 @@ pub fn closed_target(
 pub fn closed_stall(
     places: usize,
     transitions: usize,
-    pre: &[u8],
-    post: &[u8],
+    pre: &[Weight],
+    post: &[Weight],
     caps: &[u16],
     initial: &[u16],
     list: &[u16],

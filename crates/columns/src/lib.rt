@@ -34,7 +34,7 @@ fn slot_at(need: &[u32], climb: &[u32], change: &[i32], p: usize) -> Slot
 }
 
 // The slots that three lists spell.
-pub fn read_slots(need: &[u32], climb: &[u32], change: &[i32]) -> [Slot; 64]
+pub fn read_slots(need: &[u32], climb: &[u32], change: &[i32]) -> [Slot; COUNT_LIMIT]
     requires { ⌜ length (now need) ≡ countLimit ⌝ }
     requires { ⌜ length (now climb) ≡ countLimit ⌝ }
     requires { ⌜ length (now change) ≡ countLimit ⌝ }
@@ -50,7 +50,7 @@ pub fn read_slots(need: &[u32], climb: &[u32], change: &[i32]) -> [Slot; 64]
     slots
 }
 
-fn write_needs(slots: [Slot; 64], room: &mut [u32])
+fn write_needs(slots: [Slot; COUNT_LIMIT], room: &mut [u32])
     requires { ⌜ length (now room) ≡ countLimit ⌝ }
     ensures { λ r. ⌜ now (room .exit) ≡ needsOf slots ⌝ }
 {
@@ -62,7 +62,7 @@ fn write_needs(slots: [Slot; 64], room: &mut [u32])
     }
 }
 
-fn write_climbs(slots: [Slot; 64], room: &mut [u32])
+fn write_climbs(slots: [Slot; COUNT_LIMIT], room: &mut [u32])
     requires { ⌜ length (now room) ≡ countLimit ⌝ }
     ensures { λ r. ⌜ now (room .exit) ≡ climbsOf slots ⌝ }
 {
@@ -74,7 +74,7 @@ fn write_climbs(slots: [Slot; 64], room: &mut [u32])
     }
 }
 
-fn write_changes(slots: [Slot; 64], room: &mut [i32])
+fn write_changes(slots: [Slot; COUNT_LIMIT], room: &mut [i32])
     requires { ⌜ length (now room) ≡ countLimit ⌝ }
     ensures { λ r. ⌜ now (room .exit) ≡ changesOf slots ⌝ }
 {
@@ -88,7 +88,12 @@ fn write_changes(slots: [Slot; 64], room: &mut [i32])
 }
 
 // All slots, into three lists.
-pub fn write_slots(slots: [Slot; 64], need: &mut [u32], climb: &mut [u32], change: &mut [i32])
+pub fn write_slots(
+    slots: [Slot; COUNT_LIMIT],
+    need: &mut [u32],
+    climb: &mut [u32],
+    change: &mut [i32],
+)
     requires { ⌜ length (now need) ≡ countLimit ⌝ }
     requires { ⌜ length (now climb) ≡ countLimit ⌝ }
     requires { ⌜ length (now change) ≡ countLimit ⌝ }

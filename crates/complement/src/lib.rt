@@ -2,6 +2,7 @@
 // rooms.
 use ground::COUNT_LIMIT;
 use ground::NO_CAPACITY;
+use ground::Weight;
 use net::Fault;
 ghost use mathlib.Core.Path.{_≡_};
 ghost use Prim.Native.Nat.{_+_, _-_, _*_, _≤_};
@@ -51,14 +52,14 @@ fn count_capped(caps: &[u16]) -> usize
 }
 
 // The part of one weight that is above the other.
-fn more(other: u8, kept: u8) -> u8
+fn more(other: Weight, kept: Weight) -> Weight
     ensures { λ r. ⌜ r ≡ other - kept ⌝ }
 {
     if other < kept { 0 } else { other - kept }
 }
 
 // The old places' weights of one transition, into the room from `to` on.
-fn copy_row(kept: &[u8], to: usize, room: &mut [u8])
+fn copy_row(kept: &[Weight], to: usize, room: &mut [Weight])
     requires { ⌜ to + length (now kept) ≤ length (now room) ⌝ }
     ensures { λ r. ⌜ now (room .exit) ≡ sets (now (room .entry)) to (now (kept .entry)) ⌝ }
 {
@@ -70,7 +71,7 @@ fn copy_row(kept: &[u8], to: usize, room: &mut [u8])
 }
 
 // The new places' weights of one transition, into the room from `to` on.
-fn add_row(kept: &[u8], other: &[u8], caps: &[u16], to: usize, room: &mut [u8])
+fn add_row(kept: &[Weight], other: &[Weight], caps: &[u16], to: usize, room: &mut [Weight])
     requires { ⌜ length (now kept) ≡ length (now caps) ⌝ }
     requires { ⌜ length (now other) ≡ length (now caps) ⌝ }
     requires { ⌜ to + length (cappedFrom 0 (now caps)) ≤ length (now room) ⌝ }
@@ -89,7 +90,7 @@ fn add_row(kept: &[u8], other: &[u8], caps: &[u16], to: usize, room: &mut [u8])
 
 // One transition's weights: what it keeps at the old places, then at each new one what the other
 // row has more.
-fn write_row(kept: &[u8], other: &[u8], caps: &[u16], to: usize, room: &mut [u8])
+fn write_row(kept: &[Weight], other: &[Weight], caps: &[u16], to: usize, room: &mut [Weight])
     requires { ⌜ length (now kept) ≡ length (now caps) ⌝ }
     requires { ⌜ length (now other) ≡ length (now caps) ⌝ }
     requires { ⌜ to + (length (now caps) + length (cappedFrom 0 (now caps))) ≤ length (now room) ⌝ }
@@ -105,10 +106,10 @@ fn write_rows(
     places: usize,
     transitions: usize,
     wide: usize,
-    kept: &[u8],
-    other: &[u8],
+    kept: &[Weight],
+    other: &[Weight],
     caps: &[u16],
-    room: &mut [u8],
+    room: &mut [Weight],
 )
     requires { ⌜ length (now kept) ≡ transitions * places ⌝ }
     requires { ⌜ length (now other) ≡ transitions * places ⌝ }
@@ -224,8 +225,8 @@ fn limit_fault(wide: usize) -> Fault
 fn later_fault(
     places: usize,
     transitions: usize,
-    pre: &[u8],
-    post: &[u8],
+    pre: &[Weight],
+    post: &[Weight],
     caps: &[u16],
     initial: &[u16],
     wide: usize,
@@ -245,8 +246,8 @@ fn later_fault(
 fn find_fault(
     places: usize,
     transitions: usize,
-    pre: &[u8],
-    post: &[u8],
+    pre: &[Weight],
+    post: &[Weight],
     caps: &[u16],
     initial: &[u16],
     pres: usize,
@@ -273,12 +274,12 @@ fn find_fault(
 fn write_net(
     places: usize,
     transitions: usize,
-    pre: &[u8],
-    post: &[u8],
+    pre: &[Weight],
+    post: &[Weight],
     caps: &[u16],
     initial: &[u16],
-    pre2: &mut [u8],
-    post2: &mut [u8],
+    pre2: &mut [Weight],
+    post2: &mut [Weight],
     caps2: &mut [u16],
     initial2: &mut [u16],
 )
@@ -296,8 +297,8 @@ fn write_net(
 pub fn complement_places(
     places: usize,
     transitions: usize,
-    pre: &[u8],
-    post: &[u8],
+    pre: &[Weight],
+    post: &[Weight],
     caps: &[u16],
 ) -> ComplementPlaces
     ensures { λ r. ⌜ Told (netOf places transitions (now (pre .entry)) (now (post .entry)) (now (caps .entry))) r ⌝ }
@@ -322,12 +323,12 @@ pub fn complement_places(
 pub fn complement_net(
     places: usize,
     transitions: usize,
-    pre: &[u8],
-    post: &[u8],
+    pre: &[Weight],
+    post: &[Weight],
     caps: &[u16],
     initial: &[u16],
-    pre2: &mut [u8],
-    post2: &mut [u8],
+    pre2: &mut [Weight],
+    post2: &mut [Weight],
     caps2: &mut [u16],
     initial2: &mut [u16],
 ) -> ComplementNet

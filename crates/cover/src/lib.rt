@@ -1,6 +1,7 @@
 // Cover lists: a list of markings, with 65,535 for any number, that covers the initial marking and
 // every result of its own markings covers every reachable one, so what it does not cover never is.
 use ground::TOKEN_LIMIT;
+use ground::Weight;
 use lists::Failure;
 use net::Fault;
 ghost use mathlib.Core.Path.{_≡_};
@@ -105,7 +106,7 @@ fn has_cover(places: usize, count: usize, list: &[u16], given: &[u16]) -> bool
 }
 
 // One place is a number, and less than is taken.
-fn is_lacking(takes: u8, entry: u16) -> bool
+fn is_lacking(takes: Weight, entry: u16) -> bool
     ensures { λ r. ⌜ r ≡ lacks takes entry ⌝ }
 {
     if entry <= TOKEN_LIMIT {
@@ -115,7 +116,7 @@ fn is_lacking(takes: u8, entry: u16) -> bool
 }
 
 // Whether a transition is enabled at a listed marking, capacities ignored.
-fn is_able(takes: &[u8], listed: &[u16]) -> bool
+fn is_able(takes: &[Weight], listed: &[u16]) -> bool
     requires { ⌜ length (now takes) ≡ length (now listed) ⌝ }
     ensures { λ r. ⌜ r ≡ able (now (takes .entry)) (now (listed .entry)) ⌝ }
 {
@@ -130,7 +131,7 @@ fn is_able(takes: &[u8], listed: &[u16]) -> bool
 }
 
 // One place after the transition; any number stays so.
-fn moved(takes: u8, puts: u8, entry: u16) -> u32
+fn moved(takes: Weight, puts: Weight, entry: u16) -> u32
     requires { ⌜ lacks takes entry ≡ false ⌝ }
     ensures { λ r. ⌜ r ≡ afterAny takes puts entry ⌝ }
 {
@@ -141,7 +142,7 @@ fn moved(takes: u8, puts: u8, entry: u16) -> u32
 }
 
 // The result of a transition at a listed marking, into the room.
-fn fire_any(takes: &[u8], puts: &[u8], listed: &[u16], room: &mut [u32])
+fn fire_any(takes: &[Weight], puts: &[Weight], listed: &[u16], room: &mut [u32])
     requires { ⌜ (length (now takes) ≡ length (now listed)) × (length (now puts) ≡ length (now listed)) ⌝ }
     requires { ⌜ length (now room) ≡ length (now listed) ⌝ }
     requires { ⌜ able (now takes) (now listed) ≡ true ⌝ }
@@ -160,8 +161,8 @@ fn is_uncovered(
     places: usize,
     count: usize,
     list: &[u16],
-    takes: &[u8],
-    puts: &[u8],
+    takes: &[Weight],
+    puts: &[Weight],
     listed: &[u16],
     room: &mut [u32],
 ) -> bool
@@ -181,8 +182,8 @@ fn is_uncovered(
 fn is_missing(
     places: usize,
     transitions: usize,
-    pre: &[u8],
-    post: &[u8],
+    pre: &[Weight],
+    post: &[Weight],
     caps: &[u16],
     list: &[u16],
     count: usize,
@@ -213,8 +214,8 @@ fn is_missing(
 fn first_missing(
     places: usize,
     transitions: usize,
-    pre: &[u8],
-    post: &[u8],
+    pre: &[Weight],
+    post: &[Weight],
     caps: &[u16],
     list: &[u16],
     count: usize,
@@ -245,8 +246,8 @@ fn first_missing(
 fn look_through(
     places: usize,
     transitions: usize,
-    pre: &[u8],
-    post: &[u8],
+    pre: &[Weight],
+    post: &[Weight],
     caps: &[u16],
     initial: &[u16],
     list: &[u16],
@@ -277,8 +278,8 @@ fn list_fault(places: usize, list: &[u16], next: Fault) -> Fault
 fn find_fault(
     places: usize,
     transitions: usize,
-    pre: &[u8],
-    post: &[u8],
+    pre: &[Weight],
+    post: &[Weight],
     caps: &[u16],
     initial: &[u16],
     list: &[u16],
@@ -299,8 +300,8 @@ fn find_fault(
 fn check_list(
     places: usize,
     transitions: usize,
-    pre: &[u8],
-    post: &[u8],
+    pre: &[Weight],
+    post: &[Weight],
     caps: &[u16],
     initial: &[u16],
     list: &[u16],
@@ -331,8 +332,8 @@ fn check_list(
 pub fn cover_list(
     places: usize,
     transitions: usize,
-    pre: &[u8],
-    post: &[u8],
+    pre: &[Weight],
+    post: &[Weight],
     caps: &[u16],
     initial: &[u16],
     list: &[u16],
@@ -356,8 +357,8 @@ pub fn cover_list(
 pub fn cover_target(
     places: usize,
     transitions: usize,
-    pre: &[u8],
-    post: &[u8],
+    pre: &[Weight],
+    post: &[Weight],
     caps: &[u16],
     initial: &[u16],
     list: &[u16],

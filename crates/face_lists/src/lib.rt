@@ -6,6 +6,7 @@ use closed::ClosedStall;
 use closed::ClosedTarget;
 use cover::Cover;
 use cover::CoverTarget;
+use ground::Weight;
 use handing::ANSWERED;
 use handing::REFUSED;
 use lists::Failure;
@@ -76,8 +77,8 @@ fn of_closed(answer: Closed) -> ListAnswer
 pub extern "C" fn kaunorpi_closed_list(
     places: usize,
     transitions: usize,
-    pre: &[u8],
-    post: &[u8],
+    pre: &[Weight],
+    post: &[Weight],
     caps: &[u16],
     initial: &[u16],
     list: &[u16],
@@ -119,8 +120,8 @@ fn of_closed_target(answer: ClosedTarget) -> ListAnswer
 pub extern "C" fn kaunorpi_closed_target(
     places: usize,
     transitions: usize,
-    pre: &[u8],
-    post: &[u8],
+    pre: &[Weight],
+    post: &[Weight],
     caps: &[u16],
     initial: &[u16],
     list: &[u16],
@@ -163,8 +164,8 @@ fn of_stall(answer: ClosedStall) -> ListAnswer
 pub extern "C" fn kaunorpi_closed_stall(
     places: usize,
     transitions: usize,
-    pre: &[u8],
-    post: &[u8],
+    pre: &[Weight],
+    post: &[Weight],
     caps: &[u16],
     initial: &[u16],
     list: &[u16],
@@ -200,8 +201,8 @@ fn of_cover(answer: Cover) -> ListAnswer
 pub extern "C" fn kaunorpi_cover_list(
     places: usize,
     transitions: usize,
-    pre: &[u8],
-    post: &[u8],
+    pre: &[Weight],
+    post: &[Weight],
     caps: &[u16],
     initial: &[u16],
     list: &[u16],
@@ -243,8 +244,8 @@ fn of_cover_target(answer: CoverTarget) -> ListAnswer
 pub extern "C" fn kaunorpi_cover_target(
     places: usize,
     transitions: usize,
-    pre: &[u8],
-    post: &[u8],
+    pre: &[Weight],
+    post: &[Weight],
     caps: &[u16],
     initial: &[u16],
     list: &[u16],

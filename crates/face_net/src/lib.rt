@@ -4,6 +4,7 @@
 use casefile::CaseFile;
 use complement::ComplementNet;
 use complement::ComplementPlaces;
+use ground::Weight;
 use handing::ANSWERED;
 use handing::Answer;
 use handing::REFUSED;
@@ -62,8 +63,8 @@ fn of_places(answer: ComplementPlaces) -> PlacesAnswer
 pub extern "C" fn kaunorpi_complement_places(
     places: usize,
     transitions: usize,
-    pre: &[u8],
-    post: &[u8],
+    pre: &[Weight],
+    post: &[Weight],
     caps: &[u16],
 ) -> PlacesAnswer
     ensures { λ r. ⌜ r ≡ handedPlaces (placesNumbers (placesOf (netOf places transitions (now (pre .entry)) (now (post .entry)) (now (caps .entry))))) ⌝ }
@@ -94,12 +95,12 @@ fn of_net(answer: ComplementNet) -> Answer
 pub extern "C" fn kaunorpi_complement_net(
     places: usize,
     transitions: usize,
-    pre: &[u8],
-    post: &[u8],
+    pre: &[Weight],
+    post: &[Weight],
     caps: &[u16],
     initial: &[u16],
-    pre2: &mut [u8],
-    post2: &mut [u8],
+    pre2: &mut [Weight],
+    post2: &mut [Weight],
     caps2: &mut [u16],
     initial2: &mut [u16],
 ) -> Answer
@@ -149,8 +150,8 @@ pub extern "C" fn kaunorpi_read_case(
     file: &[u8],
     caps: &mut [u16],
     initial: &mut [u16],
-    pre: &mut [u8],
-    post: &mut [u8],
+    pre: &mut [Weight],
+    post: &mut [Weight],
     word: &mut [u8],
 ) -> CaseAnswer
     ensures { λ r. ⌜ HandedCase (casefile.caseFileOf (now (file .entry)) (rooms (now (caps .entry)) (now (initial .entry)) (now (pre .entry)) (now (post .entry)) (now (word .entry)))) r (rooms (now (caps .exit)) (now (initial .exit)) (now (pre .exit)) (now (post .exit)) (now (word .exit))) ⌝ }

@@ -1,6 +1,7 @@
 // Replays for C, as include/kaunorpi.h declares them: a list passes
 // as its pointer and its number of entries, and an answer is a struct of document 01's numbers. Each
 // export asks the entry of its name; a function of_.. puts an answer's numbers into the struct.
+use ground::Weight;
 use handing::ANSWERED;
 use handing::REFUSED;
 use net::Cause;
@@ -68,8 +69,8 @@ fn of_replay(answer: Replay) -> ReplayAnswer
 pub extern "C" fn kaunorpi_replay_word(
     places: usize,
     transitions: usize,
-    pre: &[u8],
-    post: &[u8],
+    pre: &[Weight],
+    post: &[Weight],
     caps: &[u16],
     initial: &[u16],
     word: &[u8],
@@ -86,8 +87,8 @@ pub extern "C" fn kaunorpi_replay_word(
 pub extern "C" fn kaunorpi_replay_stretch(
     places: usize,
     transitions: usize,
-    pre: &[u8],
-    post: &[u8],
+    pre: &[Weight],
+    post: &[Weight],
     caps: &[u16],
     initial: &[u16],
     word: &[u8],

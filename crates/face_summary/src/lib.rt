@@ -1,6 +1,7 @@
 // Summaries for C, as include/kaunorpi.h declares them: a list passes
 // as its pointer and its number of entries, and an answer is a struct of document 01's numbers. Each
 // export asks the entry of its name; a function of_.. puts an answer's numbers into the struct.
+use ground::Weight;
 use handing::ANSWERED;
 use handing::Answer;
 use handing::REFUSED;
@@ -147,8 +148,8 @@ pub extern "C" fn kaunorpi_empty_summary(
 pub extern "C" fn kaunorpi_summary_word(
     places: usize,
     transitions: usize,
-    pre: &[u8],
-    post: &[u8],
+    pre: &[Weight],
+    post: &[Weight],
     caps: &[u16],
     word: &[u8],
     need: &mut [u32],
@@ -171,8 +172,8 @@ pub extern "C" fn kaunorpi_summary_word(
 pub extern "C" fn kaunorpi_summary_stretch(
     places: usize,
     transitions: usize,
-    pre: &[u8],
-    post: &[u8],
+    pre: &[Weight],
+    post: &[Weight],
     caps: &[u16],
     word: &[u8],
     start: usize,
@@ -289,8 +290,8 @@ fn refuse_asked(
     count: usize,
     places: usize,
     transitions: usize,
-    pre: &[u8],
-    post: &[u8],
+    pre: &[Weight],
+    post: &[Weight],
     caps: &[u16],
 ) -> Answer
     ensures { λ r. ⌜ r ≡ handed (asked.numbers (unfitAsked (orElse (refuse (outside count) 1 0) (netFault (netOf places transitions (now (pre .entry)) (now (post .entry)) (now (caps .entry))) false)))) ⌝ }
@@ -322,8 +323,8 @@ fn refuse_asked(
 pub extern "C" fn kaunorpi_ask_summary(
     places: usize,
     transitions: usize,
-    pre: &[u8],
-    post: &[u8],
+    pre: &[Weight],
+    post: &[Weight],
     caps: &[u16],
     marking: &[u16],
     count: usize,

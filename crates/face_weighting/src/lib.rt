@@ -1,6 +1,7 @@
 // Weightings, bounds and sets of places for C, as include/kaunorpi.h declares them: a list passes
 // as its pointer and its number of entries, and an answer is a struct of document 01's numbers. Each
 // export asks the entry of its name; a function of_.. puts an answer's numbers into the struct.
+use ground::Weight;
 use handing::ANSWERED;
 use handing::Answer;
 use handing::REFUSED;
@@ -55,8 +56,8 @@ fn of_place(answer: PlaceWeighting) -> Answer
 pub extern "C" fn kaunorpi_place_weighting(
     places: usize,
     transitions: usize,
-    pre: &[u8],
-    post: &[u8],
+    pre: &[Weight],
+    post: &[Weight],
     caps: &[u16],
     y: &[i16],
 ) -> Answer
@@ -98,8 +99,8 @@ fn of_transition(answer: TransitionWeighting) -> Answer
 pub extern "C" fn kaunorpi_transition_weighting(
     places: usize,
     transitions: usize,
-    pre: &[u8],
-    post: &[u8],
+    pre: &[Weight],
+    post: &[Weight],
     caps: &[u16],
     x: &[i16],
 ) -> Answer
@@ -160,8 +161,8 @@ fn of_bound(answer: Bound) -> BoundAnswer
 pub extern "C" fn kaunorpi_place_bound(
     places: usize,
     transitions: usize,
-    pre: &[u8],
-    post: &[u8],
+    pre: &[Weight],
+    post: &[Weight],
     caps: &[u16],
     initial: &[u16],
     y: &[i16],
@@ -200,8 +201,8 @@ fn of_set(answer: SetAnswer) -> Answer
 pub extern "C" fn kaunorpi_siphon_set(
     places: usize,
     transitions: usize,
-    pre: &[u8],
-    post: &[u8],
+    pre: &[Weight],
+    post: &[Weight],
     caps: &[u16],
     set: &[u8],
 ) -> Answer
@@ -216,8 +217,8 @@ pub extern "C" fn kaunorpi_siphon_set(
 pub extern "C" fn kaunorpi_trap_set(
     places: usize,
     transitions: usize,
-    pre: &[u8],
-    post: &[u8],
+    pre: &[Weight],
+    post: &[Weight],
     caps: &[u16],
     set: &[u8],
 ) -> Answer

@@ -19,8 +19,8 @@ pub fn value(b: u8) -> u8
     ensures most { λ r. ⌜ r ≤ 15 ⌝ }
 {
     match b {
-        48..=57 => b - 48,
-        65..=70 => b - 55,
+        b'0'..=b'9' => b - b'0',
+        b'A'..=b'F' => b - b'A' + 10,
         _ => 0,
     }
 }
@@ -30,8 +30,8 @@ pub fn is_digit(b: u8) -> bool
     ensures { λ r. ⌜ r ≡ isDigit b ⌝ }
 {
     match b {
-        48..=57 => true,
-        65..=70 => true,
+        b'0'..=b'9' => true,
+        b'A'..=b'F' => true,
         _ => false,
     }
 }
@@ -42,8 +42,8 @@ pub fn digit(n: u8) -> u8
     ensures { λ r. ⌜ r ≡ digitOf n ⌝ }
 {
     match n {
-        0..=9 => n + 48,
-        _ => n + 55,
+        0..=9 => n + b'0',
+        _ => n - 10 + b'A',
     }
 }
 

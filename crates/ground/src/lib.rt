@@ -10,6 +10,9 @@ ghost use Rattle.ground.specs.Parts.{up, dn};
 // Places, and transitions, are 1 to this many.
 pub const COUNT_LIMIT: usize = 64;
 
+// A weight of an arc, as it is lent.
+pub type Weight = u8;
+
 // The largest weight of an arc.
 pub const WEIGHT_LIMIT: u32 = 255;
 

@@ -4,6 +4,7 @@
 // and the failure is told on standard error.
 use ground::COUNT_LIMIT;
 use ground::WORD_LIMIT;
+use ground::Weight;
 use libc::STDIN_FILENO;
 use libc::STDOUT_FILENO;
 use parts::Held;
@@ -54,8 +55,8 @@ fn read_some(
     h: Held,
     caps: &mut [u16],
     initial: &mut [u16],
-    pre: &mut [u8],
-    post: &mut [u8],
+    pre: &mut [Weight],
+    post: &mut [Weight],
     word: &mut [u8],
 ) -> Fed
     requires { ⌜ (Sound h) × (Large (rooms (now caps) (now initial) (now pre) (now post) (now word))) ⌝ }
@@ -91,8 +92,8 @@ fn read_all(
     h: Held,
     caps: &mut [u16],
     initial: &mut [u16],
-    pre: &mut [u8],
-    post: &mut [u8],
+    pre: &mut [Weight],
+    post: &mut [Weight],
     word: &mut [u8],
 ) -> Fed
     requires { ⌜ (Sound h) × (Large (rooms (now caps) (now initial) (now pre) (now post) (now word))) ⌝ }
@@ -126,8 +127,8 @@ fn show(
     h: Held,
     caps: &[u16],
     initial: &[u16],
-    pre: &[u8],
-    post: &[u8],
+    pre: &[Weight],
+    post: &[Weight],
     word: &[u8],
     out: &mut [u8],
 )
@@ -144,8 +145,8 @@ fn show(
 fn answer(
     caps: &mut [u16],
     initial: &mut [u16],
-    pre: &mut [u8],
-    post: &mut [u8],
+    pre: &mut [Weight],
+    post: &mut [Weight],
     word: &mut [u8],
     out: &mut [u8],
 )

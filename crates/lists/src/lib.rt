@@ -1,5 +1,6 @@
 // Inner: lists of markings as lent, flat, P numbers a marking: what closed lists and cover lists
 // share.
+use ground::COUNT_LIMIT;
 use ground::LIST_LIMIT;
 use ground::TOKEN_LIMIT;
 use net::Fault;
@@ -87,8 +88,8 @@ pub fn target_fault(target: &[u16]) -> Fault
 }
 
 // Room for one marking of as many places as there may be.
-pub fn no_tokens() -> [u32; 64]
+pub fn no_tokens() -> [u32; COUNT_LIMIT]
     ensures { λ r. ⌜ length r ≡ countLimit ⌝ }
 {
-    [0; 64]
+    [0; COUNT_LIMIT]
 }

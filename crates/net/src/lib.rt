@@ -5,6 +5,7 @@ use ground::COUNT_LIMIT;
 use ground::NO_CAPACITY;
 use ground::TOKEN_LIMIT;
 use ground::WORD_LIMIT;
+use ground::Weight;
 ghost use mathlib.Core.Path.{_≡_};
 ghost use mathlib.Core.Bool.{_||_};
 ghost use Prim.Native.Nat.{_+_, _-_, _<_, _≤_};
@@ -35,7 +36,7 @@ pub enum Fault {
 }
 
 // One place has fewer tokens than are taken.
-fn is_short(takes: u8, tokens: u32) -> bool
+fn is_short(takes: Weight, tokens: u32) -> bool
     ensures { λ r. ⌜ r ≡ shortAt takes tokens ⌝ }
 {
     tokens < takes as u32
@@ -43,7 +44,7 @@ fn is_short(takes: u8, tokens: u32) -> bool
 
 // One place has a capacity and would hold more. Both sides have what is taken added, so that
 // nothing is subtracted.
-fn is_over(takes: u8, puts: u8, cap: u16, tokens: u32) -> bool
+fn is_over(takes: Weight, puts: Weight, cap: u16, tokens: u32) -> bool
     requires { ⌜ tokens ≤ replayLimit ⌝ }
     ensures { λ r. ⌜ r ≡ overAt takes puts cap tokens ⌝ }
 {
@@ -54,7 +55,7 @@ fn is_over(takes: u8, puts: u8, cap: u16, tokens: u32) -> bool
 }
 
 // 1 where one place stops a letter, else 0: a number, so that a pass over the places only adds.
-fn stops_at(takes: u8, puts: u8, cap: u16, tokens: u32) -> u32
+fn stops_at(takes: Weight, puts: Weight, cap: u16, tokens: u32) -> u32
     requires { ⌜ tokens ≤ replayLimit ⌝ }
     ensures { λ r. ⌜ r ≡ bit (shortAt takes tokens || overAt takes puts cap tokens) ⌝ }
 {
@@ -69,7 +70,7 @@ fn stops_at(takes: u8, puts: u8, cap: u16, tokens: u32) -> u32
 }
 
 // One place after the letter.
-fn moved(takes: u8, puts: u8, tokens: u32) -> u32
+fn moved(takes: Weight, puts: Weight, tokens: u32) -> u32
     requires { ⌜ takes ≤ tokens ⌝ }
     requires { ⌜ tokens ≤ replayLimit ⌝ }
     ensures { λ r. ⌜ r ≡ tokens + puts - takes ⌝ }
@@ -78,7 +79,7 @@ fn moved(takes: u8, puts: u8, tokens: u32) -> u32
 }
 
 // Whether a letter passes: one plain pass over the places, with no way out on the way.
-pub fn may_fire(takes: &[u8], puts: &[u8], caps: &[u16], marking: &[u32]) -> bool
+pub fn may_fire(takes: &[Weight], puts: &[Weight], caps: &[u16], marking: &[u32]) -> bool
     requires { ⌜ Rows (arcsOf (now takes) (now puts) (now caps)) (now marking) ⌝ }
     ensures { λ r. ⌜ r ≡ passes (arcsOf (now (takes .entry)) (now (puts .entry)) (now (caps .entry))) (now (marking .entry)) ⌝ }
 {
@@ -92,7 +93,7 @@ pub fn may_fire(takes: &[u8], puts: &[u8], caps: &[u16], marking: &[u32]) -> boo
 }
 
 // The lowest place that is short, or the number of places.
-fn lowest_short(takes: &[u8], marking: &[u32]) -> usize
+fn lowest_short(takes: &[Weight], marking: &[u32]) -> usize
     requires { ⌜ length (now takes) ≡ length (now marking) ⌝ }
     ensures { λ r. ⌜ r ≡ lowestShort (now (takes .entry)) (now (marking .entry)) ⌝ }
 {
@@ -107,7 +108,7 @@ fn lowest_short(takes: &[u8], marking: &[u32]) -> usize
 }
 
 // The lowest place that is over, or the number of places.
-fn lowest_over(takes: &[u8], puts: &[u8], caps: &[u16], marking: &[u32]) -> usize
+fn lowest_over(takes: &[Weight], puts: &[Weight], caps: &[u16], marking: &[u32]) -> usize
     requires { ⌜ Rows (arcsOf (now takes) (now puts) (now caps)) (now marking) ⌝ }
     ensures { λ r. ⌜ r ≡ lowestOver (arcsOf (now (takes .entry)) (now (puts .entry)) (now (caps .entry))) (now (marking .entry)) ⌝ }
 {
@@ -122,7 +123,7 @@ fn lowest_over(takes: &[u8], puts: &[u8], caps: &[u16], marking: &[u32]) -> usiz
 }
 
 // Why a letter is stopped: the lowest short place, else the lowest place over.
-pub fn why_stopped(takes: &[u8], puts: &[u8], caps: &[u16], marking: &[u32]) -> Cause
+pub fn why_stopped(takes: &[Weight], puts: &[Weight], caps: &[u16], marking: &[u32]) -> Cause
     requires { ⌜ Rows (arcsOf (now takes) (now puts) (now caps)) (now marking) ⌝ }
     ensures { λ r. ⌜ r ≡ cause (arcsOf (now (takes .entry)) (now (puts .entry)) (now (caps .entry))) (now (marking .entry)) ⌝ }
 {
@@ -135,7 +136,7 @@ pub fn why_stopped(takes: &[u8], puts: &[u8], caps: &[u16], marking: &[u32]) -> 
 }
 
 // Fires a letter in place.
-pub fn fire(takes: &[u8], puts: &[u8], marking: &mut [u32])
+pub fn fire(takes: &[Weight], puts: &[Weight], marking: &mut [u32])
     requires { ⌜ length (now takes) ≡ length (now marking) ⌝ }
     requires { ⌜ length (now puts) ≡ length (now marking) ⌝ }
     requires { ⌜ Small replayLimit (now marking) ⌝ }
@@ -150,7 +151,7 @@ pub fn fire(takes: &[u8], puts: &[u8], marking: &mut [u32])
 }
 
 // One letter by its rows: fires it in place, or says why not and leaves the marking.
-pub fn play_rows(takes: &[u8], puts: &[u8], caps: &[u16], marking: &mut [u32]) -> Letter
+pub fn play_rows(takes: &[Weight], puts: &[Weight], caps: &[u16], marking: &mut [u32]) -> Letter
     requires { ⌜ Rows (arcsOf (now takes) (now puts) (now caps)) (now marking) ⌝ }
     ensures { λ r. ⌜ Played (arcsOf (now (takes .entry)) (now (puts .entry)) (now (caps .entry))) (now (marking .entry)) r (now (marking .exit)) ⌝ }
 {
@@ -166,8 +167,8 @@ pub fn play_rows(takes: &[u8], puts: &[u8], caps: &[u16], marking: &mut [u32]) -
 pub fn play_letter(
     places: usize,
     transitions: usize,
-    pre: &[u8],
-    post: &[u8],
+    pre: &[Weight],
+    post: &[Weight],
     caps: &[u16],
     t: u8,
     marking: &mut [u32],
@@ -193,7 +194,13 @@ pub fn is_outside(count: usize) -> bool
     COUNT_LIMIT < count
 }
 
-fn is_misfit(places: usize, transitions: usize, pre: &[u8], post: &[u8], caps: &[u16]) -> bool
+fn is_misfit(
+    places: usize,
+    transitions: usize,
+    pre: &[Weight],
+    post: &[Weight],
+    caps: &[u16],
+) -> bool
     requires { ⌜ (places ≤ countLimit) × (transitions ≤ countLimit) ⌝ }
     ensures { λ r. ⌜ r ≡ misfit (netOf places transitions (now (pre .entry)) (now (post .entry)) (now (caps .entry))) ⌝ }
 {
@@ -236,8 +243,8 @@ fn bad_token(caps: &[u16], marking: &[u16]) -> usize
 pub fn net_fault(
     places: usize,
     transitions: usize,
-    pre: &[u8],
-    post: &[u8],
+    pre: &[Weight],
+    post: &[Weight],
     caps: &[u16],
     fits: bool,
 ) -> Fault
@@ -276,8 +283,8 @@ pub fn marking_fault(caps: &[u16], marking: &[u16]) -> Fault
 pub fn first_fault(
     places: usize,
     transitions: usize,
-    pre: &[u8],
-    post: &[u8],
+    pre: &[Weight],
+    post: &[Weight],
     caps: &[u16],
     initial: &[u16],
     fits: bool,

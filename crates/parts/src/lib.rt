@@ -1,6 +1,7 @@
 // Inner: a case file by parts. Whole lines are read in place from the part at hand; a line that the
 // part cuts off is held in a buffer, with its length beside it, until the next part.
 use frames::LINE_LIMIT;
+use ground::Weight;
 use reading::Reading;
 use reading::Took;
 ghost use mathlib.Core.Path.{_≡_};
@@ -32,7 +33,7 @@ pub struct Held {
     pub at: usize,
     // the bytes of the line so far
     pub len: usize,
-    pub line: [u8; 260],
+    pub line: [u8; LINE_LIMIT],
 }
 
 // Where the line that starts at number at ends: at its line feed, or at the end of the part.
@@ -42,7 +43,7 @@ fn line_end(part: &[u8], at: usize) -> usize
 {
     let mut e = at;
     while e < part.len() {
-        if part[e] == 10 {
+        if part[e] == b'\n' {
             return e;
         }
         e = e + 1;
@@ -57,8 +58,8 @@ pub fn read_lines(
     from: usize,
     caps: &mut [u16],
     initial: &mut [u16],
-    pre: &mut [u8],
-    post: &mut [u8],
+    pre: &mut [Weight],
+    post: &mut [Weight],
     word: &mut [u8],
 ) -> Lines
     requires { ⌜ (Good s) × (from ≤ length (now part)) × (Large (rooms (now caps) (now initial) (now pre) (now post) (now word))) ⌝ }
@@ -109,7 +110,7 @@ pub fn cleared(s: Reading) -> Held
         refusal: 0,
         at: 0,
         len: 0,
-        line: [0; 260],
+        line: [0; LINE_LIMIT],
     }
 }
 
@@ -125,7 +126,7 @@ fn broken(number: u8, at: usize) -> Held
         refusal: number,
         at: at,
         len: 0,
-        line: [0; 260],
+        line: [0; LINE_LIMIT],
     }
 }
 
@@ -183,8 +184,8 @@ fn read_on(
     e: usize,
     caps: &mut [u16],
     initial: &mut [u16],
-    pre: &mut [u8],
-    post: &mut [u8],
+    pre: &mut [Weight],
+    post: &mut [Weight],
     word: &mut [u8],
 ) -> Held
     requires { ⌜ (Sound h) × (h .refusal ≡ 0) × (e < length (now part)) × (Large (rooms (now caps) (now initial) (now pre) (now post) (now word))) ⌝ }
@@ -210,8 +211,8 @@ pub fn read_part(
     part: &[u8],
     caps: &mut [u16],
     initial: &mut [u16],
-    pre: &mut [u8],
-    post: &mut [u8],
+    pre: &mut [Weight],
+    post: &mut [Weight],
     word: &mut [u8],
 ) -> Held
     requires { ⌜ (Sound h) × (Large (rooms (now caps) (now initial) (now pre) (now post) (now word))) ⌝ }

@@ -5,6 +5,7 @@ use frames::LINE_LIMIT;
 use ground::COUNT_LIMIT;
 use ground::TOKEN_LIMIT;
 use ground::WORD_LIMIT;
+use ground::Weight;
 ghost use mathlib.Core.Path.{_≡_};
 ghost use mathlib.Core.Bool.{true, cond, _&&_};
 ghost use lib.Dec.{eqb, ltb};
@@ -247,7 +248,7 @@ fn judge(s: Reading, d: &[u8], caps: &[u16]) -> u8
 }
 
 // Row next of both matrices.
-fn store_row(s: Reading, d: &[u8], pre: &mut [u8], post: &mut [u8])
+fn store_row(s: Reading, d: &[u8], pre: &mut [Weight], post: &mut [Weight])
     requires { ⌜ (Good s) × (s .next < s .transitions) × (length (now d) ≡ 4 + 4 * s .places) × (cellLimit ≤ length (now pre)) × (cellLimit ≤ length (now post)) ⌝ }
     ensures pre { λ _. ⌜ now (pre .exit) ≡ sets (now (pre .entry)) (s .next * s .places) (bytesFrom (now (d .entry)) 2 (s .places)) ⌝ }
     ensures post { λ _. ⌜ now (post .exit) ≡ sets (now (post .entry)) (s .next * s .places) (bytesFrom (now (d .entry)) (2 + s .places) (s .places)) ⌝ }
@@ -264,8 +265,8 @@ fn store(
     d: &[u8],
     caps: &mut [u16],
     initial: &mut [u16],
-    pre: &mut [u8],
-    post: &mut [u8],
+    pre: &mut [Weight],
+    post: &mut [Weight],
     word: &mut [u8],
 )
     requires { ⌜ (Good s) × (Accepted s (now d)) × (Large (rooms (now caps) (now initial) (now pre) (now post) (now word))) ⌝ }
@@ -347,8 +348,8 @@ pub fn read_line(
     d: &[u8],
     caps: &mut [u16],
     initial: &mut [u16],
-    pre: &mut [u8],
-    post: &mut [u8],
+    pre: &mut [Weight],
+    post: &mut [Weight],
     word: &mut [u8],
 ) -> Took
     requires { ⌜ (Good s) × (Large (rooms (now caps) (now initial) (now pre) (now post) (now word))) ⌝ }

@@ -1,5 +1,6 @@
 // Replay of a word on a net: whether the events could have happened in this order, and if not, at
 // which letter and for which cause.
+use ground::Weight;
 use net::Cause;
 use net::Fault;
 use net::Letter;
@@ -27,8 +28,8 @@ pub enum Replay {
 fn play_word(
     places: usize,
     transitions: usize,
-    pre: &[u8],
-    post: &[u8],
+    pre: &[Weight],
+    post: &[Weight],
     caps: &[u16],
     word: &[u8],
     marking: &mut [u32],
@@ -59,8 +60,8 @@ fn play_word(
 fn find_fault(
     places: usize,
     transitions: usize,
-    pre: &[u8],
-    post: &[u8],
+    pre: &[Weight],
+    post: &[Weight],
     caps: &[u16],
     initial: &[u16],
     word: &[u8],
@@ -86,8 +87,8 @@ fn is_fitting(room: usize, places: usize, within: bool) -> bool
 fn replay_part(
     places: usize,
     transitions: usize,
-    pre: &[u8],
-    post: &[u8],
+    pre: &[Weight],
+    post: &[Weight],
     caps: &[u16],
     initial: &[u16],
     part: &[u8],
@@ -112,8 +113,8 @@ fn replay_part(
 pub fn replay_word(
     places: usize,
     transitions: usize,
-    pre: &[u8],
-    post: &[u8],
+    pre: &[Weight],
+    post: &[Weight],
     caps: &[u16],
     initial: &[u16],
     word: &[u8],
@@ -139,8 +140,8 @@ pub fn replay_word(
 pub fn replay_stretch(
     places: usize,
     transitions: usize,
-    pre: &[u8],
-    post: &[u8],
+    pre: &[Weight],
+    post: &[Weight],
     caps: &[u16],
     initial: &[u16],
     word: &[u8],

@@ -1,4 +1,5 @@
 // Siphons and traps of a net: whether a set of places, a byte for each with 0 for out, is one.
+use ground::Weight;
 use net::Fault;
 ghost use mathlib.Core.Path.{_≡_};
 ghost use lib.ListN.{length};
@@ -15,7 +16,7 @@ pub enum SetAnswer {
 }
 
 // Whether a place is in the set and has an arc.
-fn is_meeting(weight: u8, member: u8) -> bool
+fn is_meeting(weight: Weight, member: u8) -> bool
     ensures { λ r. ⌜ r ≡ meets weight member ⌝ }
 {
     if 0 < member {
@@ -25,7 +26,7 @@ fn is_meeting(weight: u8, member: u8) -> bool
 }
 
 // Whether a row of arcs has one at a place in the set.
-fn is_touching(weights: &[u8], set: &[u8]) -> bool
+fn is_touching(weights: &[Weight], set: &[u8]) -> bool
     requires { ⌜ length (now weights) ≡ length (now set) ⌝ }
     ensures { λ r. ⌜ r ≡ touches (now (weights .entry)) (now (set .entry)) ⌝ }
 {
@@ -41,7 +42,7 @@ fn is_touching(weights: &[u8], set: &[u8]) -> bool
 
 // Whether a transition puts into the set and does not take from it; for a trap the rows are
 // exchanged.
-fn is_escape(takes: &[u8], puts: &[u8], set: &[u8]) -> bool
+fn is_escape(takes: &[Weight], puts: &[Weight], set: &[u8]) -> bool
     requires { ⌜ length (now takes) ≡ length (now set) ⌝ }
     requires { ⌜ length (now puts) ≡ length (now set) ⌝ }
     ensures { λ r. ⌜ r ≡ escapes (now (takes .entry)) (now (puts .entry)) (now (set .entry)) ⌝ }
@@ -56,8 +57,8 @@ fn is_escape(takes: &[u8], puts: &[u8], set: &[u8]) -> bool
 fn lowest_escape(
     places: usize,
     transitions: usize,
-    pre: &[u8],
-    post: &[u8],
+    pre: &[Weight],
+    post: &[Weight],
     caps: &[u16],
     set: &[u8],
 ) -> usize
@@ -81,8 +82,8 @@ fn lowest_escape(
 fn set_fault(
     places: usize,
     transitions: usize,
-    pre: &[u8],
-    post: &[u8],
+    pre: &[Weight],
+    post: &[Weight],
     caps: &[u16],
     set: &[u8],
 ) -> Fault
@@ -106,8 +107,8 @@ fn set_fault(
 fn judge_set(
     places: usize,
     transitions: usize,
-    pre: &[u8],
-    post: &[u8],
+    pre: &[Weight],
+    post: &[Weight],
     caps: &[u16],
     set: &[u8],
 ) -> SetAnswer
@@ -131,8 +132,8 @@ fn judge_set(
 pub fn siphon_set(
     places: usize,
     transitions: usize,
-    pre: &[u8],
-    post: &[u8],
+    pre: &[Weight],
+    post: &[Weight],
     caps: &[u16],
     set: &[u8],
 ) -> SetAnswer
@@ -146,8 +147,8 @@ pub fn siphon_set(
 pub fn trap_set(
     places: usize,
     transitions: usize,
-    pre: &[u8],
-    post: &[u8],
+    pre: &[Weight],
+    post: &[Weight],
     caps: &[u16],
     set: &[u8],
 ) -> SetAnswer

@@ -2,6 +2,7 @@
 // of a word, joined, judged and asked.
 use ground::COUNT_LIMIT;
 use ground::NO_CAPACITY;
+use ground::Weight;
 ghost use mathlib.Core.Path.{_≡_};
 ghost use Prim.Native.Nat.{_+_, _-_, _*_, _^_, _<_, _≤_};
 ghost use lib.ListN.{length, getD, replicate};
@@ -20,14 +21,14 @@ pub struct Slot {
 }
 
 // The slots of the empty word.
-pub fn no_slots() -> [Slot; 64]
+pub fn no_slots() -> [Slot; COUNT_LIMIT]
     ensures { λ r. ⌜ r ≡ replicate countLimit nil ⌝ }
 {
     [Slot {
         need: 0,
         climb: 0,
         change: 0,
-    }; 64]
+    }; COUNT_LIMIT]
 }
 
 // The larger of x and y + l - g.
@@ -50,7 +51,7 @@ fn rise(takes: u32, puts: u32) -> u32
 }
 
 // An entry of a table with a row for each transition.
-fn cell(table: &[u8], places: usize, t: usize, p: usize) -> u32
+fn cell(table: &[Weight], places: usize, t: usize, p: usize) -> u32
     requires { ⌜ t * places + p < length (now table) ⌝ }
     ensures { λ r. ⌜ (r ≡ getD (now (table .entry)) (t * places + p) 0) × (r ≤ weightLimit) ⌝ }
 {
@@ -62,8 +63,8 @@ fn cell(table: &[u8], places: usize, t: usize, p: usize) -> u32
 fn slot_of(
     places: usize,
     transitions: usize,
-    pre: &[u8],
-    post: &[u8],
+    pre: &[Weight],
+    post: &[Weight],
     caps: &[u16],
     p: usize,
     word: &[u8],
@@ -101,11 +102,11 @@ fn slot_of(
 pub fn word_slots(
     places: usize,
     transitions: usize,
-    pre: &[u8],
-    post: &[u8],
+    pre: &[Weight],
+    post: &[Weight],
     caps: &[u16],
     word: &[u8],
-) -> [Slot; 64]
+) -> [Slot; COUNT_LIMIT]
     requires { ⌜ Sized (netOf places transitions (now pre) (now post) (now caps)) ⌝ }
     requires { ⌜ length (now word) ≤ wordLimit ⌝ }
     requires { ⌜ Letters transitions (now word) ⌝ }
@@ -141,7 +142,7 @@ fn join_slot(a: Slot, b: Slot) -> Slot
 }
 
 // All places of a then b.
-pub fn join_slots(a: [Slot; 64], b: [Slot; 64]) -> [Slot; 64]
+pub fn join_slots(a: [Slot; COUNT_LIMIT], b: [Slot; COUNT_LIMIT]) -> [Slot; COUNT_LIMIT]
     requires { ⌜ Wells slotLimit a ⌝ }
     requires { ⌜ Wells slotLimit b ⌝ }
     ensures { λ r. ⌜ r ≡ joinedAll a b ⌝ }
@@ -186,7 +187,7 @@ fn is_bad_at(places: usize, cap: u32, p: usize, s: Slot) -> bool
 }
 
 // The lowest slot that is not well formed, or the number of slots.
-pub fn bad_slot(places: usize, cap: u32, slots: [Slot; 64]) -> usize
+pub fn bad_slot(places: usize, cap: u32, slots: [Slot; COUNT_LIMIT]) -> usize
     ensures { λ r. ⌜ r ≡ badSlot places cap slots ⌝ }
 {
     let mut p: usize = 0;
@@ -215,7 +216,7 @@ fn is_no(need: u32, climb: u32, cap: u16, tokens: u16) -> bool
 }
 
 // The lowest place that says no, or the number of places.
-pub fn lowest_no(slots: [Slot; 64], caps: &[u16], marking: &[u16]) -> usize
+pub fn lowest_no(slots: [Slot; COUNT_LIMIT], caps: &[u16], marking: &[u16]) -> usize
     requires { ⌜ length (now caps) ≡ length (now marking) ⌝ }
     requires { ⌜ length (now marking) ≤ countLimit ⌝ }
     requires { ⌜ Wells slotLimit slots ⌝ }
@@ -243,7 +244,7 @@ fn end_at(s: Slot, tokens: u16) -> u32
 }
 
 // The end marking into the room.
-pub fn write_end(slots: [Slot; 64], marking: &[u16], room: &mut [u32])
+pub fn write_end(slots: [Slot; COUNT_LIMIT], marking: &[u16], room: &mut [u32])
     requires { ⌜ length (now room) ≡ length (now marking) ⌝ }
     requires { ⌜ length (now marking) ≤ countLimit ⌝ }
     requires { ⌜ Wells slotLimit slots ⌝ }

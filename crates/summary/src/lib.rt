@@ -3,6 +3,7 @@
 use ground::COUNT_LIMIT;
 use ground::WEIGHT_LIMIT;
 use ground::WORD_LIMIT;
+use ground::Weight;
 use net::Fault;
 use slots::Slot;
 ghost use mathlib.Core.Path.{_≡_};
@@ -22,7 +23,7 @@ ghost use Rattle.summary.specs.Ask.{askFault, Judged, Replied};
 pub struct Summary {
     pub places: usize,
     pub letters: u32,
-    pub slots: [Slot; 64],
+    pub slots: [Slot; COUNT_LIMIT],
 }
 
 // Whether a summary was made, else document 01's refusal with its position.
@@ -84,8 +85,8 @@ pub fn empty_summary(places: usize) -> Summed
 fn find_fault(
     places: usize,
     transitions: usize,
-    pre: &[u8],
-    post: &[u8],
+    pre: &[Weight],
+    post: &[Weight],
     caps: &[u16],
     part: &[u8],
     within: bool,
@@ -103,8 +104,8 @@ fn find_fault(
 fn summary_part(
     places: usize,
     transitions: usize,
-    pre: &[u8],
-    post: &[u8],
+    pre: &[Weight],
+    post: &[Weight],
     caps: &[u16],
     part: &[u8],
     within: bool,
@@ -133,8 +134,8 @@ fn summary_part(
 pub fn summary_word(
     places: usize,
     transitions: usize,
-    pre: &[u8],
-    post: &[u8],
+    pre: &[Weight],
+    post: &[Weight],
     caps: &[u16],
     word: &[u8],
 ) -> Summed
@@ -148,8 +149,8 @@ pub fn summary_word(
 pub fn summary_stretch(
     places: usize,
     transitions: usize,
-    pre: &[u8],
-    post: &[u8],
+    pre: &[Weight],
+    post: &[Weight],
     caps: &[u16],
     word: &[u8],
     start: usize,
@@ -267,8 +268,8 @@ pub fn join_summaries(a: Summary, b: Summary) -> Summed
 fn ask_fault(
     places: usize,
     transitions: usize,
-    pre: &[u8],
-    post: &[u8],
+    pre: &[Weight],
+    post: &[Weight],
     caps: &[u16],
     marking: &[u16],
     summary: Summary,
@@ -295,7 +296,7 @@ fn same_count(roomy: bool, count: usize, places: usize) -> bool
 }
 
 // Yes with the end marking in the room, or no with the room untouched.
-fn ask_slots(slots: [Slot; 64], caps: &[u16], marking: &[u16], room: &mut [u32]) -> Asked
+fn ask_slots(slots: [Slot; COUNT_LIMIT], caps: &[u16], marking: &[u16], room: &mut [u32]) -> Asked
     requires { ⌜ length (now caps) ≡ length (now marking) ⌝ }
     requires { ⌜ length (now room) ≡ length (now marking) ⌝ }
     requires { ⌜ length (now marking) ≤ countLimit ⌝ }
@@ -315,8 +316,8 @@ fn ask_slots(slots: [Slot; 64], caps: &[u16], marking: &[u16], room: &mut [u32])
 pub fn ask_summary(
     places: usize,
     transitions: usize,
-    pre: &[u8],
-    post: &[u8],
+    pre: &[Weight],
+    post: &[Weight],
     caps: &[u16],
     marking: &[u16],
     summary: Summary,

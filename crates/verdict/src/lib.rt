@@ -62,7 +62,7 @@ fn put_feed(out: &mut [u8], at: usize) -> usize
     ensures room { λ r. ⌜ now (out .exit) ≡ sets (now (out .entry)) at (lineFeed ∷ []) ⌝ }
     ensures next { λ r. ⌜ r ≡ at + 1 ⌝ }
 {
-    out[at] = 10;
+    out[at] = b'\n';
     at + 1
 }
 

@@ -1,5 +1,6 @@
 // Place and transition weightings of a net: whether one is invariant, and the bound that an
 // invariant place weighting gives to a place.
+use ground::Weight;
 use ground::down_entry;
 use ground::up_entry;
 use net::Fault;
@@ -57,7 +58,7 @@ fn times(part: u32, n: u16) -> u64
 
 // What an entry and one cell add to the first of the two sums; with takes and puts exchanged, to
 // the second.
-fn share_of(x: i16, takes: u8, puts: u8) -> u64
+fn share_of(x: i16, takes: Weight, puts: Weight) -> u64
     ensures { λ r. ⌜ (r ≡ share x takes puts) × (r ≤ shareLimit) ⌝ }
 {
     let up = up_entry(x);
@@ -67,7 +68,7 @@ fn share_of(x: i16, takes: u8, puts: u8) -> u64
 
 // Whether the weighted sum of the changes along one line of the tables is not 0: two unsigned sums
 // compared, instead of one signed.
-fn is_failing(pre: &[u8], post: &[u8], y: &[i16], start: usize, step: usize) -> bool
+fn is_failing(pre: &[Weight], post: &[Weight], y: &[i16], start: usize, step: usize) -> bool
     requires { ⌜ length (now post) ≡ length (now pre) ⌝ }
     requires { ⌜ Line start step (length (now y)) (length (now pre)) ⌝ }
     ensures { λ r. ⌜ r ≡ lineFails (now (pre .entry)) (now (post .entry)) (now (y .entry)) start step ⌝ }
@@ -90,8 +91,8 @@ fn is_failing(pre: &[u8], post: &[u8], y: &[i16], start: usize, step: usize) -> 
 // The lowest of so many lines that fails, or their number. Line i starts at i x apart, and its
 // entries are a step apart: rows and columns alike.
 fn lowest_failing(
-    pre: &[u8],
-    post: &[u8],
+    pre: &[Weight],
+    post: &[Weight],
     y: &[i16],
     lines: usize,
     apart: usize,
@@ -115,8 +116,8 @@ fn lowest_failing(
 fn lowest_transition(
     places: usize,
     transitions: usize,
-    pre: &[u8],
-    post: &[u8],
+    pre: &[Weight],
+    post: &[Weight],
     caps: &[u16],
     y: &[i16],
 ) -> usize
@@ -131,8 +132,8 @@ fn lowest_transition(
 fn lowest_place(
     places: usize,
     transitions: usize,
-    pre: &[u8],
-    post: &[u8],
+    pre: &[Weight],
+    post: &[Weight],
     caps: &[u16],
     x: &[i16],
 ) -> usize
@@ -183,8 +184,8 @@ fn zero_fault(y: &[i16]) -> Fault
 fn weighting_fault(
     places: usize,
     transitions: usize,
-    pre: &[u8],
-    post: &[u8],
+    pre: &[Weight],
+    post: &[Weight],
     caps: &[u16],
     entries: usize,
     y: &[i16],
@@ -204,8 +205,8 @@ fn weighting_fault(
 pub fn place_weighting(
     places: usize,
     transitions: usize,
-    pre: &[u8],
-    post: &[u8],
+    pre: &[Weight],
+    post: &[Weight],
     caps: &[u16],
     y: &[i16],
 ) -> PlaceWeighting
@@ -230,8 +231,8 @@ pub fn place_weighting(
 pub fn transition_weighting(
     places: usize,
     transitions: usize,
-    pre: &[u8],
-    post: &[u8],
+    pre: &[Weight],
+    post: &[Weight],
     caps: &[u16],
     x: &[i16],
 ) -> TransitionWeighting
@@ -274,8 +275,8 @@ fn weigh(y: &[i16], marking: &[u16]) -> u64
 fn bound_fault(
     places: usize,
     transitions: usize,
-    pre: &[u8],
-    post: &[u8],
+    pre: &[Weight],
+    post: &[Weight],
     caps: &[u16],
     initial: &[u16],
     y: &[i16],
@@ -307,8 +308,8 @@ fn bound_fault(
 fn find_bound(
     places: usize,
     transitions: usize,
-    pre: &[u8],
-    post: &[u8],
+    pre: &[Weight],
+    post: &[Weight],
     caps: &[u16],
     initial: &[u16],
     y: &[i16],
@@ -340,8 +341,8 @@ fn find_bound(
 pub fn place_bound(
     places: usize,
     transitions: usize,
-    pre: &[u8],
-    post: &[u8],
+    pre: &[Weight],
+    post: &[Weight],
     caps: &[u16],
     initial: &[u16],
     y: &[i16],
