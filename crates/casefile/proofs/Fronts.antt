@@ -5,7 +5,7 @@ use mathlib.Core.List.{List}
 use Prim.Native.Nat.{ℕ, _+_, _≤_, _<_}
 use native.Mathlib.Omega.{arith}
 use lib.ListN.{length, getD, set, take, length-take}
-use lib.Seq.{sets, length-take-le}
+use lib.Seq.{sets}
 use lib.Dec.{eqb}
 use borrow.Author.Tests.{eq-eqb, ne-eqb, eqb-true}
 use Rattle.ground.specs.Limits.{countLimit, wordLimit}
@@ -35,10 +35,7 @@ module _ (room₀ list : List ℕ) (i : ℕ) (room : List ℕ) (f : Laying room�
 
 pub ruleset layings = (laying-start, laying-next, laying-end, laying-long)
 
--- the front of a list, and whether it fits a room
-pub part-long : (n : ℕ) (list : List ℕ) → n ≤ length list → n ≡ length (take n list)
-part-long n list h = sym (length-take-le n list h)
-
+-- whether the front of a list fits a room
 pub part-fits : (n : ℕ) (list room : List ℕ) → n ≤ length room → length (take n list) ≤ length room
 part-fits n list room h = omega (arith, length-take n list)
 

@@ -1,10 +1,7 @@
-use Prim.Native.Nat.{_*_}
 use denote.Ref.{now}
 use native.Mathlib.Omega.{arith}
-use mathlib.Core.Path.{sym}
-use lib.Seq.{length-take-le}
 use Rattle.reading.specs.Read.{rooms}
-use Rattle.written.proofs.Fronts.{cells-few}
+use Rattle.written.proofs.Fronts.{cells-few, front-long}
 use Rattle.answering.proofs.Lines.{placed, played-line}
 use borrow.Author.Needs.{needs}
 use Rattle.answering.proofs.play_line.Statement.{statement}
@@ -15,30 +12,31 @@ mul-cells c =
     let s : tie.Start = search needs in
     record { fits = omega (arith, cells-few (s .args .s) (s .pre .0)) }
 
+-- The fronts are long enough whichever room they are of, so that rooms exchanged are refused at the line, not here.
 slice-aggregate-replay-word : tie.Need-slice-aggregate-replay-word
 slice-aggregate-replay-word c =
     let s : tie.Start = search needs in
-    sym (length-take-le (s .args .s .transitions * s .args .s .places) (now (s .args .pre)) (omega (arith, cells-few (s .args .s) (s .pre .0), s .pre .1 .pre)))
+    front-long _ _ (omega (arith, cells-few (s .args .s) (s .pre .0), s .pre .1 .pre, s .pre .1 .post))
 
 slice-aggregate-replay-word-2 : tie.Need-slice-aggregate-replay-word-2
 slice-aggregate-replay-word-2 c =
     let s : tie.Start = search needs in
-    sym (length-take-le (s .args .s .transitions * s .args .s .places) (now (s .args .post)) (omega (arith, cells-few (s .args .s) (s .pre .0), s .pre .1 .post)))
+    front-long _ _ (omega (arith, cells-few (s .args .s) (s .pre .0), s .pre .1 .pre, s .pre .1 .post))
 
 slice-aggregate-replay-word-3 : tie.Need-slice-aggregate-replay-word-3
 slice-aggregate-replay-word-3 c =
     let s : tie.Start = search needs in
-    sym (length-take-le (s .args .s .places) (now (s .args .caps)) (omega (arith, s .pre .0 .places, s .pre .1 .caps)))
+    front-long _ _ (omega (arith, s .pre .0 .places, s .pre .1 .caps, s .pre .1 .initial))
 
 slice-aggregate-replay-word-4 : tie.Need-slice-aggregate-replay-word-4
 slice-aggregate-replay-word-4 c =
     let s : tie.Start = search needs in
-    sym (length-take-le (s .args .s .places) (now (s .args .initial)) (omega (arith, s .pre .0 .places, s .pre .1 .initial)))
+    front-long _ _ (omega (arith, s .pre .0 .places, s .pre .1 .caps, s .pre .1 .initial))
 
 slice-aggregate-replay-word-5 : tie.Need-slice-aggregate-replay-word-5
 slice-aggregate-replay-word-5 c =
     let s : tie.Start = search needs in
-    sym (length-take-le (s .args .s .letters) (now (s .args .word)) (omega (arith, s .pre .0 .letters, s .pre .1 .word)))
+    front-long _ _ (omega (arith, s .pre .0 .letters, s .pre .1 .word))
 
 replay-word-requires : tie.Need-replay-word-requires
 replay-word-requires c κs = search needs

@@ -1,8 +1,8 @@
 use Prim.Native.Nat.{_*_}
 use denote.Ref.{now}
 use native.Mathlib.Omega.{arith}
-use Rattle.written.proofs.Fronts.{cells-few}
-use Rattle.casefile.proofs.Fronts.{part-long, part-fits, rooms-same}
+use Rattle.written.proofs.Fronts.{cells-few, front-long}
+use Rattle.casefile.proofs.Fronts.{part-fits, rooms-same}
 use borrow.Author.Needs.{needs}
 use Rattle.casefile.proofs.lay_out.Statement.{statement}
 use Rattle.casefile.proofs.lay_out.Tie as tie
@@ -31,7 +31,7 @@ mul-cells c =
 slice-aggregate-lay-words : tie.Need-slice-aggregate-lay-words
 slice-aggregate-lay-words c =
     let s = at1 c in
-    part-long _ _ (omega (arith, s .pre .0 .places, s .pre .1 .caps, s .pre .1 .initial))
+    front-long _ _ (omega (arith, s .pre .0 .places, s .pre .1 .caps, s .pre .1 .initial))
 
 lay-words-requires : tie.Need-lay-words-requires
 lay-words-requires c κs =
@@ -41,7 +41,7 @@ lay-words-requires c κs =
 slice-aggregate-lay-words-2 : tie.Need-slice-aggregate-lay-words-2
 slice-aggregate-lay-words-2 c =
     let s = at2 c in
-    part-long _ _ (omega (arith, s .pre .0 .places, s .pre .1 .caps, s .pre .1 .initial))
+    front-long _ _ (omega (arith, s .pre .0 .places, s .pre .1 .caps, s .pre .1 .initial))
 
 lay-words-requires-2 : tie.Need-lay-words-requires-2
 lay-words-requires-2 c κs =
@@ -51,7 +51,7 @@ lay-words-requires-2 c κs =
 slice-aggregate-lay-bytes : tie.Need-slice-aggregate-lay-bytes
 slice-aggregate-lay-bytes c =
     let s = at3 c in
-    part-long _ _ (omega (arith, cells-few _ (s .pre .0), s .pre .1 .pre, s .pre .1 .post))
+    front-long _ _ (omega (arith, cells-few _ (s .pre .0), s .pre .1 .pre, s .pre .1 .post))
 
 lay-bytes-requires : tie.Need-lay-bytes-requires
 lay-bytes-requires c κs =
@@ -61,7 +61,7 @@ lay-bytes-requires c κs =
 slice-aggregate-lay-bytes-2 : tie.Need-slice-aggregate-lay-bytes-2
 slice-aggregate-lay-bytes-2 c =
     let s = at4 c in
-    part-long _ _ (omega (arith, cells-few _ (s .pre .0), s .pre .1 .pre, s .pre .1 .post))
+    front-long _ _ (omega (arith, cells-few _ (s .pre .0), s .pre .1 .pre, s .pre .1 .post))
 
 lay-bytes-requires-2 : tie.Need-lay-bytes-requires-2
 lay-bytes-requires-2 c κs =
@@ -71,7 +71,7 @@ lay-bytes-requires-2 c κs =
 slice-aggregate-lay-bytes-3 : tie.Need-slice-aggregate-lay-bytes-3
 slice-aggregate-lay-bytes-3 c =
     let s = at5 c in
-    part-long _ _ (omega (arith, s .pre .0 .letters, s .pre .1 .word))
+    front-long _ _ (omega (arith, s .pre .0 .letters, s .pre .1 .word))
 
 lay-bytes-requires-3 : tie.Need-lay-bytes-requires-3
 lay-bytes-requires-3 c κs =
