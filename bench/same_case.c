@@ -1,4 +1,4 @@
-/* The case file reader, as crates/frames, crates/reading, crates/parts and crates/casefile do it: a line is found, its
+/* The case file reader, as crates/file_digits, crates/file_line, crates/file_parts and crates/file_entry do it: a line is found, its
  * digits are checked, it is judged by its kind, then stored, into rooms of our own that are copied at the end. */
 #include "same.h"
 

@@ -1,4 +1,4 @@
-# Sourced by the scripts beside it: finds the Rattle kit through `rt` on the PATH.
+# Sourced by every script that needs the Rattle kit: finds it through `rt` on the PATH.
 # Sets kit (its folder), tools (its compiler, linker and C library for this machine) and emulator (empty
 # where the machine runs x86-64 programs itself).
 command -v rt >/dev/null || { echo "$0: rt is not on the PATH: install the Rattle kit" >&2; exit 2; }

@@ -2,12 +2,12 @@
 use mathlib.Core.Path.{_≡_, refl, sym, subst, ap, _∙_}
 use mathlib.Core.List.{List, [], _++_}
 use Prim.Native.Nat.{ℕ}
-use Rattle.reading.specs.declared.Reading.{Reading}
-use Rattle.reading.specs.Read.{Rooms, fresh}
-use Rattle.parts.specs.declared.Held.{Held}
-use Rattle.parts.specs.File.{Run, going, Both, both, feedAll, caseOf, abs}
-use Rattle.parts.proofs.Line.{all-append}
-use Rattle.answering.specs.Answer.{answerFor}
+use Rattle.file_line.specs.declared.Reading.{Reading}
+use Rattle.file_line.specs.Read.{Rooms, fresh}
+use Rattle.file_parts.specs.declared.Held.{Held}
+use Rattle.file_parts.specs.File.{Run, going, Both, both, feedAll, caseOf, abs}
+use Rattle.file_parts.proofs.Line.{all-append}
+use Rattle.verdict_line.specs.Answer.{answerFor}
 use Rattle.kaunorpi.specs.Came.{Came, Shown, Made, answer}
 
 pub came-none : (z : Both) → Came z z

@@ -3,10 +3,10 @@
 use Prim.Native.Nat.{ℕ}
 use mathlib.Core.Path.{_≡_}
 use mathlib.Core.List.{List}
-use Rattle.reading.specs.Read.{Rooms}
-use Rattle.parts.specs.File.{Both, feedAll, readOf, caseOf}
-use Rattle.verdict.specs.Verdict.{WrittenBytes}
-use Rattle.answering.specs.Answer.{answerFor}
+use Rattle.file_line.specs.Read.{Rooms}
+use Rattle.file_parts.specs.File.{Both, feedAll, readOf, caseOf}
+use Rattle.verdict_text.specs.Verdict.{WrittenBytes}
+use Rattle.verdict_line.specs.Answer.{answerFor}
 
 -- some bytes were fed from the state z on, one after another, and came to w
 pub record Came (z w : Both) : Type 0 where

@@ -2,21 +2,21 @@
 // Reading stops at the file's end, at the first refusal, since nothing after it can change the
 // answer, or at a read that fails: then the file has no end that is known, so no line is written,
 // and the failure is told on standard error.
+use file_line::CELL_LIMIT;
+use file_line::Reading;
+use file_parts::Held;
 use ground::COUNT_LIMIT;
 use ground::WORD_LIMIT;
 use ground::Weight;
 use libc::STDIN_FILENO;
 use libc::STDOUT_FILENO;
-use parts::Held;
-use reading::CELL_LIMIT;
-use reading::Reading;
-use verdict::ANSWER_LIMIT;
+use verdict_text::ANSWER_LIMIT;
 ghost use Prim.Native.Nat.{_≤_};
 ghost use lib.ListN.{length};
-ghost use Rattle.reading.specs.Read.{rooms, Large};
-ghost use Rattle.parts.specs.File.{both, caseOf, abs, Sound};
-ghost use Rattle.verdict.specs.Verdict.{answerLimit};
-ghost use Rattle.answering.specs.Answer.{answerFor};
+ghost use Rattle.file_line.specs.Read.{rooms, Large};
+ghost use Rattle.file_parts.specs.File.{both, caseOf, abs, Sound};
+ghost use Rattle.verdict_text.specs.Verdict.{answerLimit};
+ghost use Rattle.verdict_line.specs.Answer.{answerFor};
 ghost use Rattle.kaunorpi.specs.Came.{Came, Shown, Made};
 
 // Whether there is more to read.
@@ -79,7 +79,7 @@ fn read_some(
         };
     }
     let n = io::count(got, &buf);
-    let r = parts::read_part(h, &buf[..n], caps, initial, pre, post, word);
+    let r = file_parts::read_part(h, &buf[..n], caps, initial, pre, post, word);
     Fed {
         held: r,
         input: after_part(r.refusal),
@@ -135,7 +135,7 @@ fn show(
     requires { ⌜ (Sound h) × (Large (rooms (now caps) (now initial) (now pre) (now post) (now word))) × (answerLimit ≤ length (now out)) ⌝ }
     ensures { λ _. ⌜ Shown (now (out .entry)) (answerFor (caseOf (abs h)) (rooms (now (caps .entry)) (now (initial .entry)) (now (pre .entry)) (now (post .entry)) (now (word .entry)))) (now (out .exit)) ⌝ }
 {
-    let n = answering::answer_line(h, caps, initial, pre, post, word, out);
+    let n = verdict_line::answer_line(h, caps, initial, pre, post, word, out);
     if !io::write_all(STDOUT_FILENO, &out[..n]) {
         os::fail(b"kaunorpi: standard output");
     }
@@ -154,7 +154,7 @@ fn answer(
     ensures { λ _. ⌜ Made (rooms (now (caps .entry)) (now (initial .entry)) (now (pre .entry)) (now (post .entry)) (now (word .entry))) (now (out .entry)) (now (out .exit)) ⌝ }
 {
     let s = Reading::new();
-    let h = parts::cleared(s);
+    let h = file_parts::cleared(s);
     let f = read_all(h, caps, initial, pre, post, word);
     let input = f.input;
     match input {
@@ -163,6 +163,7 @@ fn answer(
     }
 }
 
+// Makes the rooms of the largest sizes; the rest is done in rooms that are lent.
 fn main() {
     let mut caps = [0u16; COUNT_LIMIT];
     let mut initial = [0u16; COUNT_LIMIT];

@@ -194,6 +194,7 @@ pub fn is_outside(count: usize) -> bool
     COUNT_LIMIT < count
 }
 
+// Whether a list of the net has another length than the counts say.
 fn is_misfit(
     places: usize,
     transitions: usize,
@@ -224,6 +225,7 @@ pub fn is_bad_token(cap: u16, tokens: u16) -> bool
     cap < tokens
 }
 
+// The lowest place with tokens that may not be given, or the number of places.
 fn bad_token(caps: &[u16], marking: &[u16]) -> usize
     requires { ⌜ length (now caps) ≡ length (now marking) ⌝ }
     ensures { λ r. ⌜ r ≡ badToken (now (caps .entry)) (now (marking .entry)) ⌝ }
@@ -301,12 +303,14 @@ pub fn first_fault(
     }
 }
 
+// Whether a letter names no transition.
 fn is_bad_letter(transitions: usize, t: u8) -> bool
     ensures { λ r. ⌜ r ≡ leb transitions t ⌝ }
 {
     transitions <= t as usize
 }
 
+// The first letter that names no transition, or the number of letters.
 fn bad_letter(transitions: usize, word: &[u8]) -> usize
     ensures { λ r. ⌜ r ≡ badLetter transitions (now (word .entry)) ⌝ }
 {
@@ -335,6 +339,7 @@ pub fn word_fault(transitions: usize, word: &[u8]) -> Fault
     }
 }
 
+// A given number of tokens where more may come to be.
 fn wide(tokens: u16) -> u32
     ensures { λ r. ⌜ r ≡ tokens ⌝ }
 {

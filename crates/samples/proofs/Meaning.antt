@@ -14,8 +14,8 @@ use Rattle.replay.specs.Replay.{playFrom}
 use Rattle.replay.specs.Entry.{replayFault, Replayed}
 use Rattle.replay.specs.declared.Replay.the-variants.{Fired, Blocked}
 use Rattle.replay.proofs.Meaning as replay
-use Rattle.slots.specs.Place.{change, need, climb}
-use Rattle.slots.specs.Slots.{slotOf, joined, slotBad}
+use Rattle.summary_place.specs.Place.{change, need, climb}
+use Rattle.summary_place.specs.Slots.{slotOf, joined, slotBad}
 use Rattle.summary.specs.Summary.{partFault, shapeFault}
 use Rattle.summary.specs.Join.{laterFault, joinFault}
 use Rattle.weighting.specs.Weighting.{sum}

@@ -6,7 +6,7 @@ use mathlib.Core.List.{List, [], _∷_, map}
 use lib.ListN.{take, getD}
 use Rattle.replay.specs.Entry.{replayOf}
 use Rattle.replay.proofs.Meaning.{unique}
-use Rattle.slots.specs.Slots.{nil}
+use Rattle.summary_place.specs.Slots.{nil}
 use Rattle.summary.specs.declared.Summed.{Summed}
 use Rattle.summary.proofs.Meaning.{word-unique, join-unique}
 use Rattle.weighting.specs.Place.{placeOf}

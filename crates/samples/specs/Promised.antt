@@ -7,7 +7,7 @@ use lib.ListN.{take, getD}
 use Rattle.net.specs.declared.Fault.the-variants.{Sound}
 use Rattle.replay.specs.Entry.{Replayed}
 use Rattle.replay.specs.declared.Replay.{Replay}
-use Rattle.slots.specs.Slots.{nil}
+use Rattle.summary_place.specs.Slots.{nil}
 use Rattle.summary.specs.Summary.{Answers}
 use Rattle.summary.specs.Join.{joinAnswer}
 use Rattle.summary.specs.declared.Summed.{Summed}

@@ -12,8 +12,8 @@ use Rattle.net.specs.declared.Fault.the-variants.{Sound}
 use Rattle.replay.specs.Entry.{replayOf}
 use Rattle.replay.specs.declared.Replay.{Replay}
 use Rattle.replay.specs.declared.Replay.the-variants.{Fired, Blocked}
-use Rattle.slots.specs.Slots.{nil}
-use Rattle.slots.specs.declared.Slot.{Slot}
+use Rattle.summary_place.specs.Slots.{nil}
+use Rattle.summary_place.specs.declared.Slot.{Slot}
 use Rattle.summary.specs.Summary.{wordAnswer}
 use Rattle.summary.specs.Join.{joinAnswer}
 use Rattle.summary.specs.declared.Made.{Made}

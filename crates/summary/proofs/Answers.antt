@@ -14,8 +14,8 @@ use Rattle.net.specs.Given.{outside, netFault, wordFault, stretch, inside, Size
 use Rattle.net.specs.declared.Fault.{Fault}
 use Rattle.net.specs.declared.Fault.the-variants.{Sound, Faulty}
 use Rattle.net.proofs.Refusals.{or-sound, sound-or, sized-of, sized-is, word-sound, sound-word, unfit-first}
-use Rattle.slots.specs.Slots.{slotsOf}
-use Rattle.slots.specs.declared.Slot.{Slot}
+use Rattle.summary_place.specs.Slots.{slotsOf}
+use Rattle.summary_place.specs.declared.Slot.{Slot}
 use Rattle.summary.specs.Summary.{summaryOf, emptySummary, refusal, summed, numbers, Answers, emptyAnswer, partFault, wordAnswer}
 use Rattle.summary.specs.declared.Summary.{Summary}
 use Rattle.summary.specs.declared.Made.{Made}

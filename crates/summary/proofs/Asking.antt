@@ -15,10 +15,10 @@ use Rattle.net.specs.Given.{refuse, outside, firstFault, Sized, Fine}
 use Rattle.net.specs.declared.Fault.{Fault}
 use Rattle.net.specs.declared.Fault.the-variants.{Sound, Faulty}
 use Rattle.net.proofs.Refusals.{or-sound, sound-or, sound-refuse, first-sound, sound-first, inside-is}
-use Rattle.slots.specs.Asked.{noAt, lowestNo, ends}
-use Rattle.slots.specs.Slots.{nil}
-use Rattle.slots.specs.declared.Slot.{Slot}
-use Rattle.slots.proofs.Tests.{yes-at, at-yes}
+use Rattle.summary_place.specs.Asked.{noAt, lowestNo, ends}
+use Rattle.summary_place.specs.Slots.{nil}
+use Rattle.summary_place.specs.declared.Slot.{Slot}
+use Rattle.summary_place.proofs.Tests.{yes-at, at-yes}
 use Rattle.summary.specs.Summary.{shapeFault}
 use Rattle.summary.specs.Ask.{askFault, saysYes, askAnswer, numbers, Judged, Replied}
 use Rattle.summary.specs.declared.Summary.{Summary}

@@ -17,12 +17,12 @@ use Rattle.ground.proofs.Parts.{parts-eq, le-pos, neg-le}
 use Rattle.net.specs.Net.{Net}
 use Rattle.net.specs.Firing.{Light}
 use Rattle.net.specs.declared.Fault.the-variants.{Sound}
-use Rattle.slots.specs.Place.{letterAt}
-use Rattle.slots.specs.Slots.{nil, slotOf, slotAt, slotsOf, joined, joinedAll, Well}
-use Rattle.slots.specs.declared.Slot.{Slot}
-use Rattle.slots.proofs.Words.{slot-append, slot-well}
-use Rattle.slots.proofs.Joins.{joined-well, nil-joined, joined-nil, all-length, all-at, all-assoc}
-use Rattle.slots.proofs.Tests.{wells-of, nil-well}
+use Rattle.summary_place.specs.Place.{letterAt}
+use Rattle.summary_place.specs.Slots.{nil, slotOf, slotAt, slotsOf, joined, joinedAll, Well}
+use Rattle.summary_place.specs.declared.Slot.{Slot}
+use Rattle.summary_place.proofs.Words.{slot-append, slot-well}
+use Rattle.summary_place.proofs.Joins.{joined-well, nil-joined, joined-nil, all-length, all-at, all-assoc}
+use Rattle.summary_place.proofs.Tests.{wells-of, nil-well}
 use Rattle.summary.specs.Summary.{summaryOf, emptySummary, shapeFault, WellFormed}
 use Rattle.summary.specs.Join.{joinSummary}
 use Rattle.summary.specs.declared.Summary.{Summary}

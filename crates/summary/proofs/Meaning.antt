@@ -24,12 +24,12 @@ use Rattle.replay.specs.Entry.{Replayed, Allowed}
 use Rattle.replay.specs.declared.Replay.{Replay}
 use Rattle.replay.specs.declared.Replay.the-variants.{Fired}
 use Rattle.replay.proofs.Meaning.{fired-means, fires-fired}
-use Rattle.slots.specs.Place.{letterAt, need, climb, change, prefixClimb}
-use Rattle.slots.specs.Slots.{nil, slotOf, slotAt, slotsOf}
-use Rattle.slots.specs.Asked.{endAt, ends}
-use Rattle.slots.specs.declared.Slot.{Slot}
-use Rattle.slots.proofs.Words.{need-peak, climb-peak, climb-prefix}
-use Rattle.slots.proofs.Firing.{fires-then, then-fires}
+use Rattle.summary_place.specs.Place.{letterAt, need, climb, change, prefixClimb}
+use Rattle.summary_place.specs.Slots.{nil, slotOf, slotAt, slotsOf}
+use Rattle.summary_place.specs.Asked.{endAt, ends}
+use Rattle.summary_place.specs.declared.Slot.{Slot}
+use Rattle.summary_place.proofs.Words.{need-peak, climb-peak, climb-prefix}
+use Rattle.summary_place.proofs.Firing.{fires-then, then-fires}
 use Rattle.summary.specs.Summary.{summaryOf, emptySummary, refusal, Answers, emptyAnswer, wordAnswer, shapeFault, WellFormed, Held}
 use Rattle.summary.specs.Join.{joinSummary, joinAnswer, thenJoin}
 use Rattle.summary.specs.Ask.{Replied}

@@ -13,9 +13,9 @@ use Rattle.net.specs.Letter.{firedAt}
 use Rattle.net.specs.Firing.{Enabled, Gives, Fires, nothing, letter, Within}
 use Rattle.net.proofs.Meaning.{gives-plain, firing-within}
 use Rattle.net.proofs.Judged.{gives-fired}
-use Rattle.slots.specs.Place.{letterAt, change}
-use Rattle.slots.proofs.Words.{Rising}
-use Rattle.slots.proofs.Firing.{FiresAt, at-none, at-more, more-at}
+use Rattle.summary_place.specs.Place.{letterAt, change}
+use Rattle.summary_place.proofs.Words.{Rising}
+use Rattle.summary_place.proofs.Firing.{FiresAt, at-none, at-more, more-at}
 
 -- place p has room for n tokens
 abbrev pub Room : Net → ℕ → ℕ → Type 0

@@ -10,8 +10,8 @@ use Rattle.net.specs.Net.{Net}
 use Rattle.net.specs.Given.{refuse, orElse, outside, firstFault}
 use Rattle.net.specs.declared.Fault.{Fault}
 use Rattle.net.specs.declared.Fault.the-variants.{Sound, Faulty}
-use Rattle.slots.specs.Asked.{lowestNo, ends}
-use Rattle.slots.specs.declared.Slot.{Slot}
+use Rattle.summary_place.specs.Asked.{lowestNo, ends}
+use Rattle.summary_place.specs.declared.Slot.{Slot}
 use Rattle.summary.specs.Summary.{shapeFault}
 use Rattle.summary.specs.declared.Summary.{Summary}
 use Rattle.summary.specs.declared.Asked.{Asked}

@@ -5,7 +5,7 @@ use lib.Dec.{ltb}
 use Rattle.ground.specs.Limits.{wordLimit}
 use Rattle.net.specs.Given.{refuse, orElse, outside, unlike}
 use Rattle.net.specs.declared.Fault.{Fault}
-use Rattle.slots.specs.Slots.{joinedAll}
+use Rattle.summary_place.specs.Slots.{joinedAll}
 use Rattle.summary.specs.Summary.{summed, shapeFault}
 use Rattle.summary.specs.declared.Summary.{Summary}
 use Rattle.summary.specs.declared.Made.{Made}

@@ -12,8 +12,8 @@ use Rattle.net.specs.Net.{Net}
 use Rattle.net.specs.Given.{refuse, orElse, outside, netFault, wordFault}
 use Rattle.net.specs.declared.Fault.{Fault}
 use Rattle.net.specs.declared.Fault.the-variants.{Sound, Faulty}
-use Rattle.slots.specs.Slots.{nil, slotsOf, badSlot}
-use Rattle.slots.specs.declared.Slot.{Slot}
+use Rattle.summary_place.specs.Slots.{nil, slotsOf, badSlot}
+use Rattle.summary_place.specs.declared.Slot.{Slot}
 use Rattle.summary.specs.declared.Summary.{Summary}
 use Rattle.summary.specs.declared.Made.{Made}
 use Rattle.summary.specs.declared.Made.the-variants.{Done, Refused}

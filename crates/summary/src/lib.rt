@@ -5,7 +5,7 @@ use ground::WEIGHT_LIMIT;
 use ground::WORD_LIMIT;
 use ground::Weight;
 use net::Fault;
-use slots::Slot;
+use summary_place::Slot;
 ghost use mathlib.Core.Path.{_≡_};
 ghost use mathlib.Core.Bool.{true, _&&_};
 ghost use Prim.Native.Nat.{_≤_};
@@ -14,7 +14,7 @@ ghost use lib.ListN.{length};
 ghost use Rattle.ground.specs.Limits.{countLimit, wordLimit};
 ghost use Rattle.net.specs.Net.{netOf};
 ghost use Rattle.net.specs.Given.{stretch, inside};
-ghost use Rattle.slots.specs.Slots.{slotLimit, Wells};
+ghost use Rattle.summary_place.specs.Slots.{slotLimit, Wells};
 ghost use Rattle.summary.specs.Summary.{emptySummary, refusal, Answers, emptyAnswer, partFault, wordAnswer, shapeFault};
 ghost use Rattle.summary.specs.Join.{laterFault, joinFault, joinAnswer};
 ghost use Rattle.summary.specs.Ask.{askFault, Judged, Replied};
@@ -45,10 +45,11 @@ pub enum Asked {
     Refused(u8, usize),
 }
 
+// The summary of no letters.
 fn no_letters(places: usize) -> Summary
     ensures { λ r. ⌜ r ≡ emptySummary places ⌝ }
 {
-    let slots = slots::no_slots();
+    let slots = summary_place::no_slots();
     Summary {
         places,
         letters: 0,
@@ -116,7 +117,7 @@ fn summary_part(
     match found {
         Fault::Faulty(number, at) => refuse_with(number, at),
         Fault::Sound => {
-            let slots = slots::word_slots(places, transitions, pre, post, caps, part);
+            let slots = summary_place::word_slots(places, transitions, pre, post, caps, part);
             let letters = part.len() as u32;
             Summed {
                 answer: Made::Done,
@@ -185,7 +186,7 @@ fn shape_fault(s: Summary) -> Fault
     if WORD_LIMIT < letters as usize {
         return Fault::Faulty(6, 0);
     }
-    let p = slots::bad_slot(places, WEIGHT_LIMIT * letters, slots);
+    let p = summary_place::bad_slot(places, WEIGHT_LIMIT * letters, slots);
     if p < COUNT_LIMIT {
         Fault::Faulty(6, p)
     } else {
@@ -250,7 +251,7 @@ pub fn join_summaries(a: Summary, b: Summary) -> Summed
             let before = a.slots;
             let after = b.slots;
             let letters = first + second;
-            let slots = slots::join_slots(before, after);
+            let slots = summary_place::join_slots(before, after);
             Summed {
                 answer: Made::Done,
                 summary: Summary {
@@ -289,6 +290,7 @@ fn ask_fault(
     }
 }
 
+// Whether the room fits, and the summary's place count is the net's.
 fn same_count(roomy: bool, count: usize, places: usize) -> bool
     ensures { λ r. ⌜ r ≡ (roomy && eqb count places) ⌝ }
 {
@@ -303,11 +305,11 @@ fn ask_slots(slots: [Slot; COUNT_LIMIT], caps: &[u16], marking: &[u16], room: &m
     requires { ⌜ Wells slotLimit slots ⌝ }
     ensures { λ r. ⌜ Judged slots (now (caps .entry)) (now (marking .entry)) (now (room .entry)) r (now (room .exit)) ⌝ }
 {
-    let p = slots::lowest_no(slots, caps, marking);
+    let p = summary_place::lowest_no(slots, caps, marking);
     if p < marking.len() {
         return Asked::No;
     }
-    slots::write_end(slots, marking, room);
+    summary_place::write_end(slots, marking, room);
     Asked::Yes
 }
 

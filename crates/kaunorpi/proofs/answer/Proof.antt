@@ -1,7 +1,7 @@
 use mathlib.Core.Path.{refl}
 use Rattle.kaunorpi.specs.Came.{nothing}
 use Rattle.kaunorpi.proofs.Feeding.{made-answer}
-use Rattle.parts.proofs.Line.{large}
+use Rattle.file_parts.proofs.Line.{large}
 use borrow.Author.Needs.{needs}
 use Rattle.kaunorpi.proofs.answer.Statement.{statement}
 use Rattle.kaunorpi.proofs.answer.Tie as tie

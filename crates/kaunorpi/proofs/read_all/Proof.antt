@@ -1,9 +1,9 @@
 use mathlib.Core.Path.{refl, _∙_}
-use Rattle.reading.specs.Read.{rooms}
-use Rattle.parts.specs.File.{both, abs, Sound}
+use Rattle.file_line.specs.Read.{rooms}
+use Rattle.file_parts.specs.File.{both, abs, Sound}
 use Rattle.kaunorpi.specs.Came.{Came}
 use Rattle.kaunorpi.proofs.Feeding.{came-none, came-then}
-use Rattle.parts.proofs.Line.{Same, large}
+use Rattle.file_parts.proofs.Line.{Same, large}
 use borrow.Author.Needs.{needs}
 use Rattle.kaunorpi.proofs.read_all.Statement.{statement}
 use Rattle.kaunorpi.proofs.read_all.Tie as tie

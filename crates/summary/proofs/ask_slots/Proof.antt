@@ -1,5 +1,5 @@
 use Rattle.summary.proofs.Asking.{judges}
-use Rattle.slots.proofs.Tests.{covered-of}
+use Rattle.summary_place.proofs.Tests.{covered-of}
 use borrow.Author.Needs.{needs}
 use Rattle.summary.proofs.ask_slots.Statement.{statement}
 use Rattle.summary.proofs.ask_slots.Tie as tie

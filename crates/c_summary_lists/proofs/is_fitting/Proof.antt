@@ -1,0 +1,16 @@
+use Rattle.ground.proofs.Tests.{tests}
+use borrow.Author.Needs.{needs}
+use Rattle.c_summary_lists.proofs.is_fitting.Statement.{statement}
+use Rattle.c_summary_lists.proofs.is_fitting.Tie as tie
+
+returns : tie.Need-returns
+returns c = search (tests, needs)
+
+returns-2 : tie.Need-returns-2
+returns-2 c = search (tests, needs)
+
+returns-3 : tie.Need-returns-3
+returns-3 c = search (tests, needs)
+
+pub is-fitting-spec : {M : Type 1} → statement M
+is-fitting-spec = tie.close (tie.spec returns returns-2 returns-3)

@@ -1,0 +1,31 @@
+use native.Mathlib.Omega.{arith}
+use mathlib.Core.Path.{_≡_, sym, _∙_}
+use Prim.Native.Nat.{ℕ, _+_, _-_, _≤_}
+use Rattle.file_digits.proofs.Frames.{low, num, mid, letter, high}
+use borrow.Author.Needs.{needs}
+use Rattle.file_digits.proofs.value.Statement.{statement}
+use Rattle.file_digits.proofs.value.Tie as tie
+
+add-result : tie.Need-add-result
+add-result c = search needs
+
+returns : tie.Need-returns
+returns c = (sym (num _ (omega arith) (omega arith) .0), omega arith)
+
+from-A : (b : ℕ) → 65 ≤ b → b - 65 + 10 ≡ b - 55
+from-A b h = omega arith
+
+returns-2 : tie.Need-returns-2
+returns-2 c = (from-A _ (omega arith) ∙ sym (letter _ (omega arith) (omega arith) .0), omega arith)
+
+returns-3 : tie.Need-returns-3
+returns-3 c = (sym (low _ (omega arith) .0), omega arith)
+
+returns-4 : tie.Need-returns-4
+returns-4 c = (sym (mid _ (omega arith) (omega arith) .0), omega arith)
+
+returns-5 : tie.Need-returns-5
+returns-5 c = (sym (high _ (omega arith) .0), omega arith)
+
+pub value-spec : {M : Type 1} → statement M
+value-spec = tie.close (tie.spec add-result returns returns-2 returns-3 returns-4 returns-5)

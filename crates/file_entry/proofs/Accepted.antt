@@ -1,0 +1,77 @@
+-- "Accepted exactly if the file is the frames of a net and word within the limits, and then net and word are those", for `read_case`. Assumes nothing.
+use Prim.Native.Nat.{ℕ, _*_}
+use mathlib.Core.Path.{_≡_, refl, sym, ap, _∙_}
+use mathlib.Core.List.{List}
+use mathlib.Core.Logic.{_↔_}
+use lib.ListN.{length, take}
+use Rattle.net.specs.Net.{Net, netOf}
+use Rattle.file_line.specs.Read.{Rooms, Large}
+use Rattle.file_parts.specs.declared.Case.{Case}
+use Rattle.file_parts.specs.File.{readOf, caseOf}
+use Rattle.file_text.specs.Text.{fileOf, Limited, Written, markingIn, wordIn, endOf, filled}
+use Rattle.file_text.proofs.Meaning.{accepted-exactly, those, file-read, filled-net, filled-marking, filled-word}
+use Rattle.file_entry.specs.declared.CaseFile.{CaseFile}
+use Rattle.file_entry.specs.declared.CaseFile.the-variants.{Read}
+use Rattle.file_entry.specs.Entry.{Came, came, Largest, blank, readAll, laid, answered, CaseRead}
+use Rattle.file_entry.proofs.Ends.{blank-large}
+use Rattle.file_entry.proofs.Meaning.{reads-the-fold, whole-read, read-whole, read-front}
+
+module _ (file : List ℕ) (x : Rooms) (r : CaseFile) (x′ : Rooms) (p : CaseRead file x r x′) where
+  -- read exactly where the file is one that document 01 describes
+  pub read-exactly : Largest x → ((P : ℕ) × (T : ℕ) × (n : ℕ) × (r ≡ Read P T n)) ↔ Written file
+  read-exactly l = (
+    λ e. let w = read-whole file x r x′ p (e .0) (e .1) (e .2) (e .3) in accepted-exactly blank (blank-large blank refl) file .0 (w .0, w .1),
+    λ f. let a = accepted-exactly blank (blank-large blank refl) file .1 f in (a .0 .places, a .0 .transitions, a .0 .letters, whole-read file x r x′ p l (a .0) (a .1)),
+  )
+
+  -- then the counts and the fronts of the rooms are the file's net, initial marking and word
+  pub read-those : (P T n : ℕ) → r ≡ Read P T n → (f : Written file)
+      → (P ≡ f .net .places) × (T ≡ f .net .transitions) × (take P (x′ .caps) ≡ f .net .caps) × (take P (x′ .initial) ≡ f .initial)
+      × (take (T * P) (x′ .pre) ≡ f .net .pre) × (take (T * P) (x′ .post) ≡ f .net .post) × (take n (x′ .word) ≡ f .word)
+  read-those P T n e f =
+      let w = read-whole file x r x′ p P T n e in
+      let t = those blank (blank-large blank refl) file (w .0) (w .1) f in
+      let g = read-front file x r x′ p P T n e in
+      let q : T * P ≡ w .0 .transitions * w .0 .places = ap (λ (k : ℕ). k * P) (sym (w .3)) ∙ ap (λ (k : ℕ). w .0 .transitions * k) (sym (w .2)) in (
+        sym (w .2) ∙ ap (λ (net : Net). net .places) (t .0),
+        sym (w .3) ∙ ap (λ (net : Net). net .transitions) (t .0),
+        g .0 .front ∙ ap (λ (k : ℕ). take k (readAll file .rooms .caps)) (sym (w .2)) ∙ ap (λ (net : Net). net .caps) (t .0),
+        g .1 .front ∙ ap (λ (k : ℕ). take k (readAll file .rooms .initial)) (sym (w .2)) ∙ t .1,
+        g .2 .front ∙ ap (λ (k : ℕ). take k (readAll file .rooms .pre)) q ∙ ap (λ (net : Net). net .pre) (t .0),
+        g .3 .front ∙ ap (λ (k : ℕ). take k (readAll file .rooms .post)) q ∙ ap (λ (net : Net). net .post) (t .0),
+        g .4 .front ∙ ap (λ (k : ℕ). take k (readAll file .rooms .word)) (sym (w .4)) ∙ t .2,
+      )
+
+  -- and the file is the text of what stands there, within the limits: what was read, written, gives the same bytes
+  pub read-written : (P T n : ℕ) → r ≡ Read P T n
+      → (file ≡ fileOf (netOf P T (take (T * P) (x′ .pre)) (take (T * P) (x′ .post)) (take P (x′ .caps))) (take P (x′ .initial)) (take n (x′ .word)))
+      × Limited (netOf P T (take (T * P) (x′ .pre)) (take (T * P) (x′ .post)) (take P (x′ .caps))) (take P (x′ .initial)) (take n (x′ .word))
+  read-written P T n e =
+      let w = read-whole file x r x′ p P T n e in
+      let f = accepted-exactly blank (blank-large blank refl) file .0 (w .0, w .1) in
+      let t = read-those P T n e f in
+      let q = same-net P T (take (T * P) (x′ .pre)) (take (T * P) (x′ .post)) (take P (x′ .caps)) (f .net) (t .0) (t .1) (t .4) (t .5) (t .2) in
+      rw (q, t .3, t .6) (f .text, f .limited)
+    where
+      same-net : (P T : ℕ) (a b c : List ℕ) (net : Net) → P ≡ net .places → T ≡ net .transitions → a ≡ net .pre → b ≡ net .post → c ≡ net .caps → netOf P T a b c ≡ net
+      same-net P T a b c net p t u v w = rw (p, t, u, v, w)
+
+-- what is written, read, gives the same net, marking and word, at the fronts of the rooms
+module _ (net : Net) (initial w : List ℕ) (m : Limited net initial w) (x : Rooms) where
+  answered-file : (b : Rooms) → Large b
+      → answered (caseOf (readOf b (fileOf net initial w) .run)) (readOf b (fileOf net initial w) .rooms) x ≡ came (Read (net .places) (net .transitions) (length w)) (filled x net initial w)
+  answered-file b big =
+      let e = file-read b big net initial w m in
+      let y : Rooms = filled b net initial w in
+      ap (λ (k : Case). answered k (readOf b (fileOf net initial w) .rooms) x) (e .0)
+      ∙ ap (λ (z : Rooms). came (Read (net .places) (net .transitions) (length w)) (laid (endOf net w) z x)) (e .1)
+      ∙ ap (λ (n : Net). came (Read (net .places) (net .transitions) (length w)) (filled x n (markingIn (endOf net w) y) (wordIn (endOf net w) y))) (filled-net b big net initial w m)
+      ∙ ap (λ (i : List ℕ). came (Read (net .places) (net .transitions) (length w)) (filled x net i (wordIn (endOf net w) y))) (filled-marking b big net initial w m)
+      ∙ ap (λ (v : List ℕ). came (Read (net .places) (net .transitions) (length w)) (filled x net initial v)) (filled-word b big net initial w m)
+
+  pub written-read : (r : CaseFile) (x′ : Rooms) → Largest x → CaseRead (fileOf net initial w) x r x′
+      → (r ≡ Read (net .places) (net .transitions) (length w)) × (x′ ≡ filled x net initial w)
+  written-read r x′ l p =
+      let h : came r x′ ≡ came (Read (net .places) (net .transitions) (length w)) (filled x net initial w)
+      = reads-the-fold (fileOf net initial w) x r x′ p l ∙ answered-file blank (blank-large blank refl) in
+      (ap (λ (z : Came). z .answer) h, ap (λ (z : Came). z .left) h)

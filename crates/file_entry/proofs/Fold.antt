@@ -1,0 +1,119 @@
+-- What holds at every byte of a file's fold: the state is good, it counts the lines, and the rooms keep their lengths. Assumes nothing.
+use mathlib.Core.Path.{_≡_, refl, _∙_, subst}
+use mathlib.Core.Bool.{Bool, true, false, cond}
+use mathlib.Core.List.{List, [], _∷_, _++_}
+use Prim.Native.Nat.{ℕ, _+_, _*_, _≤_}
+use native.Mathlib.Omega.{arith}
+use lib.ListN.{length}
+use lib.Seq.{length-sets}
+use lib.Dec.{eqb, ltb}
+use borrow.Author.Tests.{eqb-true}
+use Rattle.file_digits.specs.Frame.{lineLimit, lineFeed, byteAt, bytesFrom, wordsFrom}
+use Rattle.file_line.specs.declared.Reading.{Reading}
+use Rattle.file_line.specs.declared.Took.the-variants as took
+use Rattle.file_line.specs.Read.{fresh, Good, Rooms, lineOf, roomsOf, judgeOf, advanced, advancedKind, stored, storedKind, lettersIn}
+use Rattle.file_line.proofs.Accept.{accepted, good-advanced}
+use Rattle.file_parts.specs.File.{Run, going, stopped, Both, both, ended, fedTo, feedOf, feedAll}
+use Rattle.file_parts.proofs.Line.{Same}
+use Rattle.file_entry.specs.Entry.{blank, readAll}
+use Rattle.file_entry.specs.Cut.{feeds}
+
+-- after k line feeds
+abbrev pub Counted : ℕ → Run → Type 0
+Counted k (going s d) = (Good s) × (s .line ≡ k)
+Counted k (stopped n l) = (1 ≤ l) × (l ≤ k + 1)
+
+pub record Fed (x : Rooms) (k : ℕ) (z : Both) : Type 0 where
+  pub same : Same (z .rooms) x
+  pub counted : Counted k (z .run)
+
+same-own : (x : Rooms) → Same x x
+same-own x = record { caps = refl; initial = refl; pre = refl; post = refl; word = refl }
+
+same-on : (x y z : Rooms) → Same x y → Same y z → Same x z
+same-on x y z a b = record { caps = a .caps ∙ b .caps; initial = a .initial ∙ b .initial; pre = a .pre ∙ b .pre; post = a .post ∙ b .post; word = a .word ∙ b .word }
+
+-- an accepted line is one line more
+advanced-line : (s : Reading) (d : List ℕ) (k : ℕ) → advancedKind k s d .line ≡ s .line + 1
+unfolding advancedKind
+advanced-line s d k = go (eqb k 1) (eqb k 4) (eqb k 5) _ _ _ _ refl refl refl refl
+  where
+    go : (a b c : Bool) (t u v w : Reading) → t .line ≡ s .line + 1 → u .line ≡ s .line + 1 → v .line ≡ s .line + 1 → w .line ≡ s .line + 1 → cond a t (cond b u (cond c v w)) .line ≡ s .line + 1
+    go true b c t u v w e f g h = e
+    go false true c t u v w e f g h = f
+    go false false true t u v w e f g h = g
+    go false false false t u v w e f g h = h
+
+-- its stores keep the lengths
+stored-same : (s : Reading) (d : List ℕ) (x : Rooms) (k : ℕ) → Same (storedKind k s d x) x
+unfolding storedKind
+stored-same s d x k =
+    go (eqb k 2) (eqb k 3) (eqb k 4) (eqb k 5) _ _ _ _
+    (record { caps = length-sets (x .caps) 0 (wordsFrom d 1 (s .places)); initial = refl; pre = refl; post = refl; word = refl })
+    (record { caps = refl; initial = length-sets (x .initial) 0 (wordsFrom d 1 (s .places)); pre = refl; post = refl; word = refl })
+    (record { caps = refl; initial = refl; pre = length-sets (x .pre) (s .next * s .places) (bytesFrom d 2 (s .places)); post = length-sets (x .post) (s .next * s .places) (bytesFrom d (2 + s .places) (s .places)); word = refl })
+    (record { caps = refl; initial = refl; pre = refl; post = refl; word = length-sets (x .word) (s .letters) (bytesFrom d 1 (lettersIn d)) })
+  where
+    go : (a b c e : Bool) (t u v w : Rooms) → Same t x → Same u x → Same v x → Same w x → Same (cond a t (cond b u (cond c v (cond e w x)))) x
+    go true b c e t u v w p q r m = p
+    go false true c e t u v w p q r m = q
+    go false false true e t u v w p q r m = r
+    go false false false true t u v w p q r m = m
+    go false false false false t u v w p q r m = same-own x
+
+-- a line
+line-fed : (s : Reading) (d : List ℕ) (y : Rooms) → Good s → Fed y (s .line + 1) (both (ended (lineOf s d (y .caps))) (roomsOf s d y))
+unfolding lineOf roomsOf
+line-fed s d y g = go (eqb (judgeOf s d (y .caps)) 0) refl
+  where
+    go : (a : Bool) → eqb (judgeOf s d (y .caps)) 0 ≡ a
+        → Fed y (s .line + 1) (both (ended (cond a (took.Next (advanced s d)) (took.Refused (judgeOf s d (y .caps)) (s .line + 1)))) (cond a (stored s d y) y))
+    go true e =
+        record { same = stored-same s d y (byteAt d 0); counted = (good-advanced s d g (accepted s d (y .caps) (eqb-true _ _ e)), advanced-line s d (byteAt d 0)) }
+    go false e = record { same = same-own y; counted = (omega arith, omega arith) }
+
+-- a byte
+fed-run : (k : ℕ) (r : Run) (y : Rooms) → Counted k r → (b : ℕ) → Fed y (k + cond (eqb b lineFeed) 1 0) (fedTo r y b)
+unfolding fedTo
+fed-run k (stopped n l) y h b = record { same = same-own y; counted = (h .0, omega (arith, h .1)) }
+fed-run k (going s d) y h b = go (eqb b lineFeed) (ltb (length d) lineLimit)
+  where
+    go : (a c : Bool)
+        → Fed y (k + cond a 1 0)
+        (cond a (both (ended (lineOf s d (y .caps))) (roomsOf s d y)) (cond c (both (going s (d ++ (b ∷ []))) y) (both (stopped 11 (s .line + 1)) y)))
+    go true c = let e : k + 1 ≡ s .line + 1 = omega (arith, h .1) in rw e (line-fed s d y (h .0))
+    go false true = record { same = same-own y; counted = (h .0, omega (arith, h .1)) }
+    go false false = record { same = same-own y; counted = (omega arith, omega (arith, h .1)) }
+
+-- any bytes
+fed-all : (x : Rooms) (bs : List ℕ) (z : Both) (k : ℕ) → Fed x k z → Fed x (k + feeds bs) (feedAll z bs)
+unfolding feedAll feeds
+fed-all x [] z k f = let e : k + 0 ≡ k = omega arith in rw e f
+fed-all x (b ∷ bs) z k f =
+    let g = fed-run k (z .run) (z .rooms) (f .counted) b in
+    let e : k + cond (eqb b lineFeed) 1 0 + feeds bs ≡ k + (cond (eqb b lineFeed) 1 0 + feeds bs) = omega arith in
+    subst (λ (n : ℕ). Fed x n (feedAll (feedOf z b) bs)) e
+    (fed-all x bs (feedOf z b) (k + cond (eqb b lineFeed) 1 0) (record { same = same-on _ _ _ (g .same) (f .same); counted = g .counted }))
+
+good-fresh : Good fresh
+good-fresh =
+    record {
+      phase-least = omega arith;
+      phase = omega arith;
+      places = omega arith;
+      transitions = omega arith;
+      some = λ h. absurd (omega arith);
+      some-places = λ h. absurd (omega arith);
+      next = omega arith;
+      rows = λ h. absurd (omega arith);
+      early = λ h. refl;
+      wordless = λ h. refl;
+      letters = omega arith;
+      line = omega arith;
+    }
+
+pub fed-file : (file : List ℕ) → Fed blank (feeds file) (readAll file)
+fed-file file =
+    let e : 0 + feeds file ≡ feeds file = omega arith in
+    subst (λ (n : ℕ). Fed blank n (readAll file)) e
+    (fed-all blank file (both (going fresh []) blank) 0 (record { same = same-own blank; counted = (good-fresh, refl) }))

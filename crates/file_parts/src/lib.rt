@@ -1,0 +1,251 @@
+// Inner: a case file by parts. Whole lines are read in place from the part at hand; a line that the
+// part cuts off is held in a buffer, with its length beside it, until the next part.
+use file_digits::LINE_LIMIT;
+use file_line::Reading;
+use file_line::Took;
+use ground::Weight;
+ghost use mathlib.Core.Path.{_≡_};
+ghost use mathlib.Core.List.{[], _∷_};
+ghost use Prim.Native.Nat.{_+_, _<_, _≤_};
+ghost use lib.ListN.{length, take, drop};
+ghost use lib.Seq.{sets};
+ghost use Rattle.file_digits.specs.Frame.{lineFeed};
+ghost use Rattle.file_line.specs.Read.{Good, rooms, Large};
+ghost use Rattle.file_parts.specs.File.{going, stopped, both, feedAll, finishOf, caseOf, GoodCase, abs, Sound, lineLen, holdOf, Went, GoodLines, heldRest};
+
+// What the whole lines of a part come to: the state after them and where the rest starts, or a refusal.
+pub enum Lines {
+    Rest(Reading, usize),
+    Broken(u8, usize),
+}
+
+// What a whole file comes to.
+pub enum Case {
+    Whole(Reading),
+    Refused(u8, usize),
+}
+
+// A reading between two parts.
+pub struct Held {
+    pub reading: Reading,
+    // 0, or the refusal, with its line
+    pub refusal: u8,
+    pub at: usize,
+    // the bytes of the line so far
+    pub len: usize,
+    pub line: [u8; LINE_LIMIT],
+}
+
+// Where the line that starts at number at ends: at its line feed, or at the end of the part.
+fn line_end(part: &[u8], at: usize) -> usize
+    requires { ⌜ at ≤ length (now part) ⌝ }
+    ensures { λ r. ⌜ r ≡ at + lineLen (drop at (now (part .entry))) ⌝ }
+{
+    let mut e = at;
+    while e < part.len() {
+        if part[e] == b'\n' {
+            return e;
+        }
+        e = e + 1;
+    }
+    e
+}
+
+// The whole lines of a part, from number from on, read in place.
+pub fn read_lines(
+    s: Reading,
+    part: &[u8],
+    from: usize,
+    caps: &mut [u16],
+    initial: &mut [u16],
+    pre: &mut [Weight],
+    post: &mut [Weight],
+    word: &mut [u8],
+) -> Lines
+    requires { ⌜ (Good s) × (from ≤ length (now part)) × (Large (rooms (now caps) (now initial) (now pre) (now post) (now word))) ⌝ }
+    ensures { λ r. ⌜ Went (now (part .entry)) (both (going s []) (rooms (now (caps .entry)) (now (initial .entry)) (now (pre .entry)) (now (post .entry)) (now (word .entry)))) from r
+        (rooms (now (caps .exit)) (now (initial .exit)) (now (pre .exit)) (now (post .exit)) (now (word .exit))) ⌝ }
+{
+    let mut t = s;
+    let mut at = from;
+    while at < part.len() {
+        let e = line_end(part, at);
+        if e == part.len() {
+            return Lines::Rest(t, at);
+        }
+        match file_line::read_line(t, &part[at..e], caps, initial, pre, post, word) {
+            Took::Next(u) => {
+                t = u;
+                at = e + 1;
+            }
+            Took::Refused { number, line } => {
+                return Lines::Broken(number, line);
+            }
+        }
+    }
+    Lines::Rest(t, at)
+}
+
+// The end of a file, after whole lines.
+pub fn finish(s: Reading) -> Case
+    requires { ⌜ Good s ⌝ }
+    ensures value { λ r. ⌜ r ≡ finishOf s ⌝ }
+    ensures good { λ r. ⌜ GoodCase r ⌝ }
+{
+    if s.phase != 5 {
+        return Case::Refused(12, s.line + 1);
+    }
+    Case::Whole(s)
+}
+
+// A state with an empty line.
+pub fn cleared(s: Reading) -> Held
+    requires { ⌜ Good s ⌝ }
+    ensures value { λ r. ⌜ abs r ≡ going s [] ⌝ }
+    ensures sound { λ r. ⌜ (Sound r) × (r .len ≡ 0) ⌝ }
+    ensures empty { λ r. ⌜ (r .refusal ≡ 0) × (r .reading ≡ s) ⌝ }
+{
+    Held {
+        reading: s,
+        refusal: 0,
+        at: 0,
+        len: 0,
+        line: [0; LINE_LIMIT],
+    }
+}
+
+// A state after a refusal.
+fn broken(number: u8, at: usize) -> Held
+    requires { ⌜ 1 ≤ number ⌝ }
+    ensures value { λ r. ⌜ abs r ≡ stopped number at ⌝ }
+    ensures sound { λ r. ⌜ (Sound r) × (r .len ≡ 0) ⌝ }
+{
+    let s = Reading::new();
+    Held {
+        reading: s,
+        refusal: number,
+        at: at,
+        len: 0,
+        line: [0; LINE_LIMIT],
+    }
+}
+
+// A piece of a line into the buffer at number at.
+fn fill(line: &mut [u8], at: usize, piece: &[u8])
+    requires { ⌜ at + length (now piece) ≤ length (now line) ⌝ }
+    ensures { λ _. ⌜ now (line .exit) ≡ sets (now (line .entry)) at (now (piece .entry)) ⌝ }
+{
+    let mut i: usize = 0;
+    while i < piece.len() {
+        line[at + i] = piece[i];
+        i = i + 1;
+    }
+}
+
+// The state with a piece of a line more; a line of too many digits is refused.
+fn hold(h: Held, piece: &[u8]) -> Held
+    requires { ⌜ (Sound h) × (h .refusal ≡ 0) ⌝ }
+    ensures value { λ r. ⌜ abs r ≡ holdOf (h .reading) (take (h .len) (h .line)) (now (piece .entry)) ⌝ }
+    ensures sound { λ r. ⌜ Sound r ⌝ }
+{
+    let n = h.len;
+    let k = piece.len();
+    let s = h.reading;
+    if LINE_LIMIT - n < k {
+        return broken(11, s.line + 1);
+    }
+    let mut line = h.line;
+    fill(&mut line, n, piece);
+    Held {
+        reading: s,
+        refusal: 0,
+        at: 0,
+        len: n + k,
+        line: line,
+    }
+}
+
+// What the whole lines of a part come to, with what is left of the part held.
+fn hold_rest(lines: Lines, part: &[u8]) -> Held
+    requires { ⌜ GoodLines (now part) lines ⌝ }
+    ensures value { λ r. ⌜ abs r ≡ heldRest (now (part .entry)) lines ⌝ }
+    ensures sound { λ r. ⌜ Sound r ⌝ }
+{
+    match lines {
+        Lines::Rest(t, e) => hold(cleared(t), &part[e..]),
+        Lines::Broken(number, line) => broken(number, line),
+    }
+}
+
+// The held line, which ends at the line feed number e of the part, and the rest of the part.
+fn read_on(
+    h: Held,
+    part: &[u8],
+    e: usize,
+    caps: &mut [u16],
+    initial: &mut [u16],
+    pre: &mut [Weight],
+    post: &mut [Weight],
+    word: &mut [u8],
+) -> Held
+    requires { ⌜ (Sound h) × (h .refusal ≡ 0) × (e < length (now part)) × (Large (rooms (now caps) (now initial) (now pre) (now post) (now word))) ⌝ }
+    ensures value { λ r. ⌜ both (abs r) (rooms (now (caps .exit)) (now (initial .exit)) (now (pre .exit)) (now (post .exit)) (now (word .exit)))
+        ≡ feedAll (both (abs h) (rooms (now (caps .entry)) (now (initial .entry)) (now (pre .entry)) (now (post .entry)) (now (word .entry)))) (lineFeed ∷ drop (e + 1) (now (part .entry))) ⌝ }
+    ensures sound { λ r. ⌜ Sound r ⌝ }
+{
+    let n = h.len;
+    let d = h.line;
+    let k = file_line::read_line(h.reading, &d[..n], caps, initial, pre, post, word);
+    match k {
+        Took::Next(t) => {
+            let lines = read_lines(t, part, e + 1, caps, initial, pre, post, word);
+            hold_rest(lines, part)
+        }
+        Took::Refused { number, line } => broken(number, line),
+    }
+}
+
+// One part of a file more.
+pub fn read_part(
+    h: Held,
+    part: &[u8],
+    caps: &mut [u16],
+    initial: &mut [u16],
+    pre: &mut [Weight],
+    post: &mut [Weight],
+    word: &mut [u8],
+) -> Held
+    requires { ⌜ (Sound h) × (Large (rooms (now caps) (now initial) (now pre) (now post) (now word))) ⌝ }
+    ensures value { λ r. ⌜ both (abs r) (rooms (now (caps .exit)) (now (initial .exit)) (now (pre .exit)) (now (post .exit)) (now (word .exit)))
+        ≡ feedAll (both (abs h) (rooms (now (caps .entry)) (now (initial .entry)) (now (pre .entry)) (now (post .entry)) (now (word .entry)))) (now (part .entry)) ⌝ }
+    ensures sound { λ r. ⌜ Sound r ⌝ }
+{
+    if h.refusal != 0 {
+        return h;
+    }
+    let e = line_end(part, 0);
+    let r = hold(h, &part[..e]);
+    if e == part.len() {
+        return r;
+    }
+    if r.refusal != 0 {
+        return r;
+    }
+    read_on(r, part, e, caps, initial, pre, post, word)
+}
+
+// The end of a file.
+pub fn finish_held(h: Held) -> Case
+    requires { ⌜ Sound h ⌝ }
+    ensures value { λ r. ⌜ r ≡ caseOf (abs h) ⌝ }
+    ensures good { λ r. ⌜ GoodCase r ⌝ }
+{
+    if h.refusal != 0 {
+        return Case::Refused(h.refusal, h.at);
+    }
+    let s = h.reading;
+    if h.len != 0 {
+        return Case::Refused(11, s.line + 1);
+    }
+    finish(s)
+}

@@ -1,0 +1,231 @@
+-- A line of each kind: the frame that it must be, and that the frame is taken. Assumes nothing.
+use mathlib.Core.Path.{_≡_, refl, sym, _∙_, ap}
+use mathlib.Core.Bool.{true, cond}
+use mathlib.Core.List.{List, [], _∷_, _++_, append-nil}
+use Prim.Native.Nat.{ℕ, suc, _+_, _*_, _%_, _≤_, _<_}
+use native.Mathlib.Omega.{arith}
+use lib.Dec.{eqb}
+use lib.ListN.{length, getD, length-append}
+use lib.Seq.{sets}
+use Rattle.ground.specs.Limits.{countLimit, tokenLimit, wordLimit}
+use Rattle.file_digits.specs.Frame.{lineLimit, lineFeed, block, digitsOf, lineText, byteAt, wordAt, bytesFrom, wordsFrom}
+use Rattle.file_digits.proofs.Round.{Below, none, more, canon, digits-long}
+use Rattle.file_line.specs.declared.Reading.{Reading}
+use Rattle.file_line.specs.Read.{Rooms, rooms, ruleOf, judgeOf, lettersIn, advanced, advancedKind, stored, storedKind}
+use Rattle.file_line.specs.Line.{Ruled, Formed, frame01, frame02, frame03, frame04, frame05, Counted, Marked, Short, Named}
+use Rattle.file_line.proofs.Digits.{rule-all, rule-exactly}
+use Rattle.file_line.proofs.Order.{no-counts, no-tokens, no-long, no-letters, formed-01, formed-02, formed-03, formed-04, formed-05}
+use Rattle.file_line.proofs.Meaning.{taken-exactly}
+use Rattle.file_parts.specs.File.{both, going, feedAll}
+use Rattle.file_parts.proofs.Line.{line-taken, held}
+use Rattle.file_text.specs.Text.{twos}
+use Rattle.file_text.proofs.Bytes.{below-of, of-below, below-more, below-append, no-feed, rule-digits, bytes-long, bytes-split, bytes-at, words-at, byte-digits, piece, twos-long, twos-small, words-bytes, words-digits}
+
+-- a state of the reading, by its numbers
+abbrev pub state : ℕ → ℕ → ℕ → ℕ → ℕ → ℕ → Reading
+state phase places transitions next letters line =
+    record { phase = phase; places = places; transitions = transitions; next = next; letters = letters; line = line }
+
+-- the frame f is taken at s with the rooms y, and leaves t and z
+pub record Takes (s : Reading) (y : Rooms) (f : List ℕ) (t : Reading) (z : Rooms) : Type 0 where
+  pub rule : ruleOf (digitsOf f) ≡ true
+  pub judged : judgeOf s (digitsOf f) (y .caps) ≡ 0
+  pub next : advanced s (digitsOf f) ≡ t
+  pub kept : stored s (digitsOf f) y ≡ z
+
+-- the bytes of its line, fed one by one
+pub fed : (s : Reading) (y : Rooms) (f : List ℕ) (t : Reading) (z : Rooms) → Takes s y f t z → feedAll (both (going s []) y) (lineText f) ≡ both (going t []) z
+unfolding feedAll
+fed s y f t z k =
+    let r = rule-exactly (digitsOf f) .0 (k .rule) in
+    held s y (digitsOf f) [] (lineFeed ∷ []) (omega (arith, r .most)) (no-feed (digitsOf f) (rule-all (digitsOf f) (k .rule)))
+    ∙ line-taken s (digitsOf f) y (k .judged)
+    ∙ ap (both (going (advanced s (digitsOf f)) [])) (k .kept)
+    ∙ ap (λ (u : Reading). both (going u []) z) (k .next)
+
+-- the frame of each kind is taken
+module _ (s : Reading) (y : Rooms) where
+  takes : (k : ℕ) (g : List ℕ) (t : Reading) (z : Rooms) → Below 256 (k ∷ g) → 2 + 2 * length g ≤ lineLimit
+      → (byteAt (digitsOf (k ∷ g)) 0 ≡ k
+      → Formed s (digitsOf (k ∷ g)) × Counted (digitsOf (k ∷ g)) × Marked s (digitsOf (k ∷ g)) (y .caps) × Short s (digitsOf (k ∷ g)) × Named s (digitsOf (k ∷ g)))
+      → advancedKind k s (digitsOf (k ∷ g)) ≡ t → storedKind k s (digitsOf (k ∷ g)) y ≡ z → Takes s y (k ∷ g) t z
+  takes k g t z w h f a b =
+      let d : List ℕ = digitsOf (k ∷ g) in
+      let e : byteAt d 0 ≡ k = byte-digits (k ∷ g) 0 w (omega arith) in
+      let r = rule-digits (k ∷ g) w (omega arith) (omega arith) in
+      let m = f e in
+      record { rule = r; judged = taken-exactly s d (y .caps) .1 (rule-exactly d .0 r, m .0, m .1, m .2, m .3, m .4); next = rw e a; kept = rw e b }
+
+  pub takes-counts : (P T : ℕ) → s .phase ≡ 1 → 1 ≤ P → P ≤ countLimit → 1 ≤ T → T ≤ countLimit → Takes s y (1 ∷ P ∷ T ∷ []) (state 2 P T 0 0 (s .line + 1)) y
+  unfolding advancedKind storedKind
+  takes-counts P T p a b c h =
+      let f : List ℕ = 1 ∷ P ∷ T ∷ [] in
+      let d : List ℕ = digitsOf f in
+      let w : Below 256 f = more {x = 1} (omega arith) (more {x = P} (omega arith) (more {x = T} (omega arith) none)) in
+      let n : length d ≡ 6 = digits-long f in
+      let e : byteAt d 1 ≡ P = byte-digits f 1 w (omega arith) in
+      let g : byteAt d 2 ≡ T = byte-digits f 2 w (omega arith) in
+      takes 1 (P ∷ T ∷ []) _ _ w (omega arith)
+      (λ q. (
+        frame01 p q n,
+        record { places = λ _. (omega arith, omega arith); transitions = λ _. (omega arith, omega arith) },
+        no-tokens s d (y .caps) (λ k. omega arith),
+        no-long s d (y .caps) (λ k. omega arith),
+        no-letters s d (y .caps) (λ k. omega arith),
+      ))
+      (rw (e, g)) refl
+
+  pub takes-caps : (caps : List ℕ) → s .phase ≡ 2 → s .places ≤ countLimit → length caps ≡ s .places → Below 65536 caps
+      → Takes s y (2 ∷ twos caps) (state 3 (s .places) (s .transitions) 0 0 (s .line + 1)) (rooms (sets (y .caps) 0 caps) (y .initial) (y .pre) (y .post) (y .word))
+  unfolding advancedKind storedKind
+  takes-caps caps p h l w =
+      let d : List ℕ = digitsOf (2 ∷ twos caps) in
+      let n : length d ≡ 2 + 4 * s .places = let a = digits-long (2 ∷ twos caps) in let b = twos-long caps in omega arith in
+      takes 2 (twos caps) _ _ (more {x = 2} (omega arith) (twos-small caps w)) (omega (arith, twos-long caps))
+      (λ q. (
+        frame02 p q n,
+        no-counts s d (y .caps) (λ k. omega arith),
+        no-tokens s d (y .caps) (λ k. omega arith),
+        no-long s d (y .caps) (λ k. omega arith),
+        no-letters s d (y .caps) (λ k. omega arith),
+      ))
+      refl (rw (words-digits 2 (s .places) caps (omega arith) w l))
+
+  pub takes-tokens : (initial : List ℕ) → s .phase ≡ 3 → s .places ≤ countLimit → length initial ≡ s .places → Below 65536 initial
+      → ((k : ℕ) → k < s .places → (getD initial k 0 ≤ tokenLimit) × (getD initial k 0 ≤ getD (y .caps) k 0))
+      → Takes s y (3 ∷ twos initial) (state 4 (s .places) (s .transitions) 0 0 (s .line + 1)) (rooms (y .caps) (sets (y .initial) 0 initial) (y .pre) (y .post) (y .word))
+  unfolding advancedKind storedKind
+  takes-tokens initial p h l w v =
+      let d : List ℕ = digitsOf (3 ∷ twos initial) in
+      let n : length d ≡ 2 + 4 * s .places = let a = digits-long (3 ∷ twos initial) in let b = twos-long initial in omega arith in
+      let e = words-digits 3 (s .places) initial (omega arith) w l in
+      let u : (k : ℕ) → k < s .places → wordAt d (1 + 2 * k) ≡ getD initial k 0 = λ k b. sym (words-at d 1 (s .places) k b) ∙ ap (λ (m : List ℕ). getD m k 0) e in
+      takes 3 (twos initial) _ _ (more {x = 3} (omega arith) (twos-small initial w)) (omega (arith, twos-long initial))
+      (λ q. (
+        frame03 p q n,
+        no-counts s d (y .caps) (λ k. omega arith),
+        record { few = λ _ k b. rw (u k b) (v k b .0); within = λ _ k b. rw (u k b) (v k b .1) },
+        no-long s d (y .caps) (λ k. omega arith),
+        no-letters s d (y .caps) (λ k. omega arith),
+      ))
+      refl (rw e)
+
+  pub takes-row : (a b : List ℕ) → s .phase ≡ 4 → s .places ≤ countLimit → s .next ≤ countLimit → length a ≡ s .places → length b ≡ s .places → Below 256 a → Below 256 b
+      → Takes s y (4 ∷ s .next ∷ (a ++ b)) (state (cond (eqb (s .next + 1) (s .transitions)) 5 4) (s .places) (s .transitions) (s .next + 1) 0 (s .line + 1))
+      (rooms (y .caps) (y .initial) (sets (y .pre) (s .next * s .places) a) (sets (y .post) (s .next * s .places) b) (y .word))
+  unfolding advancedKind storedKind
+  takes-row a b p h t la lb wa wb =
+      let f : List ℕ = 4 ∷ s .next ∷ (a ++ b) in
+      let d : List ℕ = digitsOf f in
+      let w : Below 256 f = more {x = 4} (omega arith) (more {x = s .next} (omega arith) (below-append a b wa wb)) in
+      let m = length-append a b in
+      let n : length d ≡ 4 + 4 * s .places = let q = digits-long f in omega arith in
+      let e : byteAt d 1 ≡ s .next = byte-digits f 1 w (omega arith) in
+      let u : bytesFrom d 2 (s .places) ≡ a = rw la at (piece (4 ∷ s .next ∷ []) a b w) in
+      let i : suc (suc (length a)) ≡ 2 + s .places = omega arith in
+      let c : Below 256 (4 ∷ s .next ∷ (a ++ (b ++ []))) = rw append-nil w in
+      let v : bytesFrom d (2 + s .places) (s .places) ≡ b = rw (append-nil, i, lb) at (piece (4 ∷ s .next ∷ a) b [] c) in
+      takes 4 (s .next ∷ (a ++ b)) _ _ w (omega arith)
+      (λ q. (
+        frame04 p q n e,
+        no-counts s d (y .caps) (λ k. omega arith),
+        no-tokens s d (y .caps) (λ k. omega arith),
+        no-long s d (y .caps) (λ k. omega arith),
+        no-letters s d (y .caps) (λ k. omega arith),
+      ))
+      refl (rw (u, v))
+
+  pub takes-letters : (v : List ℕ) → s .phase ≡ 5 → s .letters % block ≡ 0 → s .transitions ≤ countLimit → 1 ≤ length v → length v ≤ block
+      → s .letters + length v ≤ wordLimit → Below (s .transitions) v
+      → Takes s y (5 ∷ v) (state 5 (s .places) (s .transitions) (s .next) (s .letters + length v) (s .line + 1))
+      (rooms (y .caps) (y .initial) (y .pre) (y .post) (sets (y .word) (s .letters) v))
+  unfolding advancedKind storedKind
+  takes-letters v p q t l h m w =
+      let d : List ℕ = digitsOf (5 ∷ v) in
+      let b : Below 256 (5 ∷ v) = more {x = 5} (omega arith) (below-more 256 v (omega arith) w) in
+      let n : length d ≡ 2 + 2 * length v = digits-long (5 ∷ v) ∙ omega arith in
+      let i : lettersIn d ≡ length v = omega arith in
+      let c : Below 256 (5 ∷ (v ++ [])) = rw append-nil b in
+      let u : bytesFrom d 1 (length v) ≡ v = rw append-nil at (piece (5 ∷ []) v [] c) in
+      takes 5 v _ _ b (omega arith)
+      (λ e. (
+        frame05 p e q (omega arith) (omega arith),
+        no-counts s d (y .caps) (λ k. omega arith),
+        no-tokens s d (y .caps) (λ k. omega arith),
+        record { short = λ _. omega arith },
+        record { named = λ _ k r. rw (← bytes-at d 1 (length v) k (omega arith), u) (of-below (s .transitions) v k w (omega arith)) },
+      ))
+      (rw i) (rw (i, u))
+
+-- and no other line of its kind is
+module _ (s : Reading) (d caps : List ℕ) (j : judgeOf s d caps ≡ 0) where
+  asked : Ruled d × Formed s d × Counted d × Marked s d caps × Short s d × Named s d
+  asked = taken-exactly s d caps .0 j
+
+  -- its kind is the one that must come next
+  pub kind-next : byteAt d 0 ≡ s .phase
+  kind-next = go (asked .1)
+    where
+      go : Formed s d → byteAt d 0 ≡ s .phase
+      go (frame01 p k l) = k ∙ sym p
+      go (frame02 p k l) = k ∙ sym p
+      go (frame03 p k l) = k ∙ sym p
+      go (frame04 p k l i) = k ∙ sym p
+      go (frame05 p k q l m) = k ∙ sym p
+
+  line-of : (n : ℕ) → length d ≡ 2 * n → d ≡ digitsOf (bytesFrom d 0 n)
+  line-of n e = sym (canon n d e (rule-all d (rule-exactly d .1 (asked .0))))
+
+  words-of : (k n : ℕ) → length d ≡ 2 + 4 * n → byteAt d 0 ≡ k → d ≡ digitsOf (k ∷ twos (wordsFrom d 1 n))
+  unfolding bytesFrom
+  words-of k n e h = line-of (1 + 2 * n) (omega arith) ∙ ap digitsOf (bytes-split d 0 1 (2 * n) ∙ rw (h, words-bytes d 1 n))
+
+  pub counts-of : s .phase ≡ 1 → (d ≡ digitsOf (1 ∷ byteAt d 1 ∷ byteAt d 2 ∷ [])) × (1 ≤ byteAt d 1) × (byteAt d 1 ≤ countLimit) × (1 ≤ byteAt d 2) × (byteAt d 2 ≤ countLimit)
+  unfolding bytesFrom
+  counts-of p =
+      let e : byteAt d 0 ≡ 1 = kind-next ∙ p in
+      let a = asked .2 .places e in
+      let b = asked .2 .transitions e in
+      let three : bytesFrom d 0 3 ≡ byteAt d 0 ∷ byteAt d 1 ∷ byteAt d 2 ∷ [] = refl in
+      (line-of 3 (formed-01 s d caps (asked .1) e .1) ∙ ap digitsOf (three ∙ rw e), a .0, a .1, b .0, b .1)
+
+  pub caps-of : s .phase ≡ 2 → d ≡ digitsOf (2 ∷ twos (wordsFrom d 1 (s .places)))
+  caps-of p = let e : byteAt d 0 ≡ 2 = kind-next ∙ p in words-of 2 (s .places) (formed-02 s d caps (asked .1) e .1) e
+
+  pub tokens-of : s .phase ≡ 3 → d ≡ digitsOf (3 ∷ twos (wordsFrom d 1 (s .places)))
+  tokens-of p = let e : byteAt d 0 ≡ 3 = kind-next ∙ p in words-of 3 (s .places) (formed-03 s d caps (asked .1) e .1) e
+
+  pub tokens-fine : s .phase ≡ 3 → (k : ℕ) → k < s .places → (getD (wordsFrom d 1 (s .places)) k 0 ≤ tokenLimit) × (getD (wordsFrom d 1 (s .places)) k 0 ≤ getD caps k 0)
+  tokens-fine p k b =
+      let e : byteAt d 0 ≡ 3 = kind-next ∙ p in
+      rw (words-at d 1 (s .places) k b) (asked .3 .few e k b, asked .3 .within e k b)
+
+  pub row-of : s .phase ≡ 4 → d ≡ digitsOf (4 ∷ s .next ∷ (bytesFrom d 2 (s .places) ++ bytesFrom d (2 + s .places) (s .places)))
+  unfolding bytesFrom
+  row-of p =
+      let e : byteAt d 0 ≡ 4 = kind-next ∙ p in
+      let f = formed-04 s d caps (asked .1) e in
+      let n : byteAt d 1 ≡ s .next = f .2 in
+      let two : bytesFrom d 0 2 ++ bytesFrom d 2 (s .places + s .places) ≡ byteAt d 0 ∷ byteAt d 1 ∷ bytesFrom d 2 (s .places + s .places) = refl in
+      line-of (2 + (s .places + s .places)) (f .1 ∙ omega arith)
+      ∙ ap digitsOf (bytes-split d 0 2 (s .places + s .places) ∙ two ∙ rw (e, n, bytes-split d 2 (s .places) (s .places)))
+
+  pub letters-of : s .phase ≡ 5
+      → (s .letters % block ≡ 0) × (1 ≤ lettersIn d) × (lettersIn d ≤ block) × (s .letters + lettersIn d ≤ wordLimit)
+      × (d ≡ digitsOf (5 ∷ bytesFrom d 1 (lettersIn d))) × Below (s .transitions) (bytesFrom d 1 (lettersIn d))
+  unfolding bytesFrom
+  letters-of p =
+      let e : byteAt d 0 ≡ 5 = kind-next ∙ p in
+      let f = formed-05 s d caps (asked .1) e in
+      let even : length d % 2 ≡ 0 = asked .0 .even in
+      let lo : 4 ≤ length d = f .2 in
+      let hi : length d ≤ 2 + 2 * block = f .3 in
+      let n : length d ≡ 2 * (1 + lettersIn d) = omega arith in
+      let l : length (bytesFrom d 1 (lettersIn d)) ≡ lettersIn d = bytes-long d 1 (lettersIn d) in (
+        f .1,
+        omega arith,
+        omega arith,
+        asked .4 .short e,
+        line-of (1 + lettersIn d) n ∙ ap digitsOf (bytes-split d 0 1 (lettersIn d) ∙ rw e),
+        below-of (s .transitions) (bytesFrom d 1 (lettersIn d)) (λ k b. rw (bytes-at d 1 (lettersIn d) k (omega arith)) (asked .5 .named e k (omega arith))),
+      )

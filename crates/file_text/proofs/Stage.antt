@@ -1,0 +1,279 @@
+-- A reading so far: its state, its rooms and the bytes read are those of the first lines of a file. Assumes nothing.
+use mathlib.Core.Path.{_≡_, refl, sym, _∙_, ap}
+use mathlib.Core.Bool.{Bool, true, false, cond}
+use mathlib.Core.List.{List, [], _∷_, _++_, append-assoc, append-nil}
+use Prim.Native.Nat.{ℕ, zero, suc, _+_, _*_, _≤_, _<_}
+use native.Mathlib.Omega.{arith}
+use native.Mathlib.Nat.{suc-mul}
+use lib.Dec.{ltb, eqb}
+use lib.ListN.{length, take, drop, getD, length-append, length-drop}
+use lib.Seq.{sets, drop-append-le, take-append-le, drop-at, take-all}
+use borrow.Author.Tests.{eqb-true, eqb-false, ltb-true, ltb-false}
+use Rattle.ground.specs.Limits.{countLimit, tokenLimit, wordLimit}
+use Rattle.ground.proofs.Stores.{sets-both}
+use Rattle.file_digits.specs.Frame.{lineLimit, block, lineFeed, byteAt, bytesFrom, wordsFrom}
+use Rattle.file_digits.proofs.Round.{Below, none}
+use Rattle.net.specs.Net.{Net, netOf}
+use Rattle.net.specs.Letter.{row}
+use Rattle.net.specs.Given.{Fine}
+use Rattle.net.proofs.Rows.{row-end}
+use Rattle.file_line.specs.declared.Reading.{Reading}
+use Rattle.file_line.specs.Read.{Rooms, rooms, fresh, Large, judgeOf, lettersIn, advanced, advancedKind, stored, storedKind}
+use Rattle.file_parts.specs.File.{going, Both, both, feedOf, feedAll}
+use Rattle.file_parts.proofs.Line.{feed-push, feed-long, never-goes, line-taken, line-stopped}
+use Rattle.file_text.specs.Text.{countsLine, capsLine, tokensLine, rowLine, lettersLine, lettersLines, joined, fileOf, endOf, filled}
+use Rattle.file_text.proofs.Bytes.{below-of, below-most, below-append, bytes-long, bytes-small, words-long, words-small}
+use Rattle.file_text.proofs.Fronts.{getD-sets}
+use Rattle.file_text.proofs.Lines.{state, kind-next, counts-of, caps-of, tokens-of, tokens-fine, row-of, letters-of}
+
+-- a net with its first n rows, and a marking, within the limits
+pub record Rowed (net : Net) (n : ℕ) (initial : List ℕ) : Type 0 where
+  pub some-places : 1 ≤ net .places
+  pub few-places : net .places ≤ countLimit
+  pub some-transitions : 1 ≤ net .transitions
+  pub few-transitions : net .transitions ≤ countLimit
+  pub capped : length (net .caps) ≡ net .places
+  pub capacities : Below 65536 (net .caps)
+  pub marked : length initial ≡ net .places
+  pub fine : Fine (net .caps) initial
+  pub pres : length (net .pre) ≡ n * net .places
+  pub posts : length (net .post) ≡ n * net .places
+  pub takes : Below 256 (net .pre)
+  pub puts : Below 256 (net .post)
+
+-- a whole net, a marking and a word within the limits
+pub record Listed (net : Net) (initial w : List ℕ) : Type 0 where
+  pub rowed : Rowed net (net .transitions) initial
+  pub short : length w ≤ wordLimit
+  pub letters : Below (net .transitions) w
+
+-- the lines before the rows
+abbrev pub head : Net → List ℕ → List ℕ
+head net initial = countsLine (net .places) (net .transitions) ++ capsLine (net .caps) ++ tokensLine initial
+
+-- rows of a list that grows at its end, and the lines made of them
+pub row-before : (P k n : ℕ) (l a : List ℕ) → k < n → length l ≡ n * P → row P k (l ++ a) ≡ row P k l
+row-before P k n l a h e =
+    let z = row-end k n P h in
+    ap (take P) (drop-append-le (k * P) l a (omega arith)) ∙ take-append-le P (drop (k * P) l) a (omega (arith, length-drop (k * P) l))
+
+pub row-last : (P n : ℕ) (l a : List ℕ) → length l ≡ n * P → length a ≤ P → row P n (l ++ a) ≡ a
+row-last P n l a e h = ap (take P) (drop-at l a (n * P) e) ∙ take-all P a h
+
+pub joined-same : (f g : ℕ → List ℕ) (n : ℕ) → ((k : ℕ) → k < n → f k ≡ g k) → joined f n ≡ joined g n
+unfolding joined
+joined-same f g zero h = refl
+joined-same f g (suc n) h =
+    ap (λ (l : List ℕ). l ++ f n) (joined-same f g n (λ k b. h k (omega arith))) ∙ ap (λ (l : List ℕ). joined g n ++ l) (h n (omega arith))
+
+-- how far a reading that began with the rooms x has come: s and y are its state and rooms, p the lines read
+pub data Stage (x : Rooms) (s : Reading) (y : Rooms) (p : List ℕ) : Type 0 where
+  start : s ≡ fresh → y ≡ x → p ≡ [] → Stage x s y p
+  counted : (P T : ℕ) → 1 ≤ P → P ≤ countLimit → 1 ≤ T → T ≤ countLimit
+      → s ≡ state 2 P T 0 0 1 → y ≡ x → p ≡ countsLine P T → Stage x s y p
+  capped : (P T : ℕ) (caps : List ℕ) → 1 ≤ P → P ≤ countLimit → 1 ≤ T → T ≤ countLimit → length caps ≡ P → Below 65536 caps
+      → s ≡ state 3 P T 0 0 2 → y ≡ rooms (sets (x .caps) 0 caps) (x .initial) (x .pre) (x .post) (x .word) → p ≡ countsLine P T ++ capsLine caps → Stage x s y p
+  rowed : (net : Net) (n : ℕ) (initial : List ℕ) → Rowed net n initial → n < net .transitions
+      → s ≡ state 4 (net .places) (net .transitions) n 0 (3 + n) → y ≡ filled x net initial [] → p ≡ head net initial ++ joined (rowLine net) n → Stage x s y p
+  lettered : (net : Net) (initial w : List ℕ) → Listed net initial w → s ≡ endOf net w → y ≡ filled x net initial w → p ≡ fileOf net initial w → Stage x s y p
+
+-- one line more, from each stage
+module _ (x : Rooms) (big : Large x) (d : List ℕ) where
+  step-start : judgeOf fresh d (x .caps) ≡ 0 → Stage x (advanced fresh d) (stored fresh d x) ([] ++ (d ++ (lineFeed ∷ [])))
+  unfolding advancedKind storedKind
+  step-start j =
+      let e : byteAt d 0 ≡ 1 = kind-next fresh d (x .caps) j in
+      let c = counts-of fresh d (x .caps) j refl in
+      counted (byteAt d 1) (byteAt d 2) (c .1) (c .2) (c .3) (c .4) (rw e) (rw e) (ap (λ (l : List ℕ). l ++ (lineFeed ∷ [])) (c .0))
+
+  module _ (P T : ℕ) (a : 1 ≤ P) (b : P ≤ countLimit) (f : 1 ≤ T) (g : T ≤ countLimit) where
+    step-counted : judgeOf (state 2 P T 0 0 1) d (x .caps) ≡ 0
+        → Stage x (advanced (state 2 P T 0 0 1) d) (stored (state 2 P T 0 0 1) d x) (countsLine P T ++ (d ++ (lineFeed ∷ [])))
+    unfolding advancedKind storedKind
+    step-counted j =
+        let e : byteAt d 0 ≡ 2 = kind-next (state 2 P T 0 0 1) d (x .caps) j in
+        capped P T (wordsFrom d 1 P) a b f g (words-long d 1 P) (words-small d 1 P) (rw e) (rw e)
+        (ap (λ (l : List ℕ). countsLine P T ++ (l ++ (lineFeed ∷ []))) (caps-of (state 2 P T 0 0 1) d (x .caps) j refl))
+
+    module _ (caps : List ℕ) (h : length caps ≡ P) (w : Below 65536 caps) where
+      step-capped : judgeOf (state 3 P T 0 0 2) d (sets (x .caps) 0 caps) ≡ 0
+          → Stage x (advanced (state 3 P T 0 0 2) d) (stored (state 3 P T 0 0 2) d (rooms (sets (x .caps) 0 caps) (x .initial) (x .pre) (x .post) (x .word)))
+          (countsLine P T ++ capsLine caps ++ (d ++ (lineFeed ∷ [])))
+      unfolding advancedKind storedKind joined
+      step-capped j =
+          let e : byteAt d 0 ≡ 3 = kind-next (state 3 P T 0 0 2) d (sets (x .caps) 0 caps) j in
+          let t = tokens-of (state 3 P T 0 0 2) d (sets (x .caps) 0 caps) j refl in
+          let m : List ℕ = wordsFrom d 1 P in
+          let n : length m ≡ P = words-long d 1 P in
+          let fits : (k : ℕ) → k < P → (getD m k 0 ≤ tokenLimit) × (getD m k 0 ≤ getD caps k 0) = λ k l.
+          let q = getD-sets caps (x .caps) k (omega (arith, big .caps)) (omega arith) in
+          rw q at (tokens-fine (state 3 P T 0 0 2) d (sets (x .caps) 0 caps) j refl k l) in
+          let few : Below (suc tokenLimit) m = below-of (suc tokenLimit) m (λ k l. let z = fits k (omega arith) .0 in omega arith) in
+          rowed (netOf P T [] [] caps) 0 m
+          (record {
+            some-places = a;
+            few-places = b;
+            some-transitions = f;
+            few-transitions = g;
+            capped = h;
+            capacities = w;
+            marked = n;
+            fine = record { few = record { at = λ p. below-most tokenLimit m p few }; within = λ p l. fits p (omega arith) .1 };
+            pres = omega arith;
+            posts = omega arith;
+            takes = none;
+            puts = none;
+          })
+          f (rw e) (rw e) (ap (λ (l : List ℕ). countsLine P T ++ capsLine caps ++ (l ++ (lineFeed ∷ []))) t ∙ sym (append-nil _))
+
+  module _ (net : Net) (n : ℕ) (initial : List ℕ) (r : Rowed net n initial) (h : n < net .transitions) where
+    step-rowed : judgeOf (state 4 (net .places) (net .transitions) n 0 (3 + n)) d (filled x net initial [] .caps) ≡ 0
+        → Stage x (advanced (state 4 (net .places) (net .transitions) n 0 (3 + n)) d) (stored (state 4 (net .places) (net .transitions) n 0 (3 + n)) d (filled x net initial []))
+        (head net initial ++ joined (rowLine net) n ++ (d ++ (lineFeed ∷ [])))
+    unfolding advancedKind storedKind joined fileOf
+    step-rowed j = rw e (go (eqb (n + 1) (net .transitions)) refl) where
+      s : Reading
+      s = state 4 (net .places) (net .transitions) n 0 (3 + n)
+
+      e : byteAt d 0 ≡ 4
+      e = kind-next s d (filled x net initial [] .caps) j
+
+      a : List ℕ
+      a = bytesFrom d 2 (net .places)
+
+      b : List ℕ
+      b = bytesFrom d (2 + net .places) (net .places)
+
+      more : Net
+      more = netOf (net .places) (net .transitions) (net .pre ++ a) (net .post ++ b) (net .caps)
+
+      grown : Rowed more (suc n) initial
+      grown = record {
+        some-places = r .some-places;
+        few-places = r .few-places;
+        some-transitions = r .some-transitions;
+        few-transitions = r .few-transitions;
+        capped = r .capped;
+        capacities = r .capacities;
+        marked = r .marked;
+        fine = r .fine;
+        pres = omega (arith, length-append (net .pre) a, bytes-long d 2 (net .places), r .pres, suc-mul n (net .places));
+        posts = omega (arith, length-append (net .post) b, bytes-long d (2 + net .places) (net .places), r .posts, suc-mul n (net .places));
+        takes = below-append (net .pre) a (r .takes) (bytes-small d 2 (net .places));
+        puts = below-append (net .post) b (r .puts) (bytes-small d (2 + net .places) (net .places));
+      }
+
+      kept : rooms (sets (x .caps) 0 (net .caps)) (sets (x .initial) 0 initial) (sets (sets (x .pre) 0 (net .pre)) (n * net .places) a) (sets (sets (x .post) 0 (net .post)) (n * net .places) b) (x .word)
+          ≡ filled x more initial []
+      kept =
+          let p : n * net .places ≡ 0 + length (net .pre) = omega (arith, r .pres) in
+          let q : n * net .places ≡ 0 + length (net .post) = omega (arith, r .posts) in
+          let u : sets (sets (x .pre) 0 (net .pre)) (n * net .places) a ≡ sets (x .pre) 0 (net .pre ++ a)
+          = ap (λ (i : ℕ). sets (sets (x .pre) 0 (net .pre)) i a) p ∙ sets-both (net .pre) a (x .pre) 0 in
+          let v : sets (sets (x .post) 0 (net .post)) (n * net .places) b ≡ sets (x .post) 0 (net .post ++ b)
+          = ap (λ (i : ℕ). sets (sets (x .post) 0 (net .post)) i b) q ∙ sets-both (net .post) b (x .post) 0 in
+          rw (u, v)
+
+      same : (k : ℕ) → k < n → rowLine net k ≡ rowLine more k
+      same k l =
+          let u = row-before (net .places) k n (net .pre) a l (r .pres) in
+          let v = row-before (net .places) k n (net .post) b l (r .posts) in
+          rw (u, v)
+
+      last : d ++ (lineFeed ∷ []) ≡ rowLine more n
+      last =
+          let u = row-last (net .places) n (net .pre) a (r .pres) (omega (arith, bytes-long d 2 (net .places))) in
+          let v = row-last (net .places) n (net .post) b (r .posts) (omega (arith, bytes-long d (2 + net .places) (net .places))) in
+          rw (u, v) (ap (λ (l : List ℕ). l ++ (lineFeed ∷ [])) (row-of s d (filled x net initial [] .caps) j refl))
+
+      text : head net initial ++ joined (rowLine net) n ++ (d ++ (lineFeed ∷ [])) ≡ head net initial ++ joined (rowLine more) (suc n)
+      text =
+          append-assoc (head net initial) (joined (rowLine net) n) (d ++ (lineFeed ∷ []))
+          ∙ ap (λ (l : List ℕ). head net initial ++ (l ++ (d ++ (lineFeed ∷ [])))) (joined-same (rowLine net) (rowLine more) n same)
+          ∙ ap (λ (l : List ℕ). head net initial ++ (joined (rowLine more) n ++ l)) last
+
+      go : (t : Bool) → eqb (n + 1) (net .transitions) ≡ t
+          → Stage x (state (cond t 5 4) (net .places) (net .transitions) (n + 1) 0 (3 + n + 1))
+          (rooms (sets (x .caps) 0 (net .caps)) (sets (x .initial) 0 initial) (sets (sets (x .pre) 0 (net .pre)) (n * net .places) a) (sets (sets (x .post) 0 (net .post)) (n * net .places) b) (x .word))
+          (head net initial ++ joined (rowLine net) n ++ (d ++ (lineFeed ∷ [])))
+      go true t =
+          let q : n + 1 ≡ net .transitions = eqb-true _ _ t in
+          let m : suc n ≡ net .transitions = omega arith in
+          let l : 3 + n + 1 ≡ 3 + net .transitions + 0 = omega arith in
+          lettered more initial [] (record { rowed = rw m at grown; short = omega arith; letters = none }) (rw (q, l)) kept (text ∙ ap (λ (k : ℕ). head net initial ++ joined (rowLine more) k) m ∙ sym (append-nil _))
+      go false t =
+          let q : n + 1 ≡ net .transitions → ⊥ = eqb-false _ _ t in
+          let m : n + 1 ≡ suc n = omega arith in
+          let l : 3 + n + 1 ≡ 3 + suc n = omega arith in
+          rowed more (suc n) initial grown (omega arith) (rw (m, l)) kept text
+
+  module _ (net : Net) (initial w : List ℕ) (l : Listed net initial w) where
+    step-lettered : judgeOf (endOf net w) d (filled x net initial w .caps) ≡ 0
+        → Stage x (advanced (endOf net w) d) (stored (endOf net w) d (filled x net initial w)) (fileOf net initial w ++ (d ++ (lineFeed ∷ [])))
+    unfolding advancedKind storedKind joined fileOf
+    step-lettered j =
+        let c = letters-of (endOf net w) d (filled x net initial w .caps) j refl in
+        let e : byteAt d 0 ≡ 5 = kind-next (endOf net w) d (filled x net initial w .caps) j in
+        let m : ℕ = lettersIn d in
+        let v : List ℕ = bytesFrom d 1 m in
+        let n : length v ≡ m = bytes-long d 1 m in
+        let o : length (w ++ v) ≡ length w + m = length-append w v ∙ omega arith in
+        let K : ℕ = lettersLines (length w) in
+        let i : length w ≡ K * block = omega (arith, c .0) in
+        let i′ : lettersLines (length (w ++ v)) ≡ suc K = omega (arith, c .0, c .1, c .2, o) in
+        let st : state 5 (net .places) (net .transitions) (net .transitions) (length w + m) (3 + net .transitions + K + 1) ≡ endOf net (w ++ v)
+        = let z : 3 + net .transitions + K + 1 ≡ 3 + net .transitions + suc K = omega arith in rw (i′, o, z) in
+        let same : (k : ℕ) → k < K → lettersLine w k ≡ lettersLine (w ++ v) k = λ k b. let u = row-before block k K w v b i in rw u in
+        let last : d ++ (lineFeed ∷ []) ≡ lettersLine (w ++ v) K
+        = let u = row-last block K w v i (omega (arith, c .2, n)) in rw u (ap (λ (l : List ℕ). l ++ (lineFeed ∷ [])) (c .4)) in
+        let A : List ℕ = head net initial ++ joined (rowLine net) (net .transitions) in
+        let text : A ++ joined (lettersLine w) K ++ (d ++ (lineFeed ∷ [])) ≡ A ++ joined (lettersLine (w ++ v)) (suc K)
+        = append-assoc A (joined (lettersLine w) K) (d ++ (lineFeed ∷ []))
+        ∙ ap (λ (l : List ℕ). A ++ (l ++ (d ++ (lineFeed ∷ [])))) (joined-same (lettersLine w) (lettersLine (w ++ v)) K same)
+        ∙ ap (λ (l : List ℕ). A ++ (joined (lettersLine (w ++ v)) K ++ l)) last in
+        let q : length w ≡ 0 + length w = omega arith in
+        let kept : sets (sets (x .word) 0 w) (length w) v ≡ sets (x .word) 0 (w ++ v) = ap (λ (i : ℕ). sets (sets (x .word) 0 w) i v) q ∙ sets-both w v (x .word) 0 in
+        lettered net initial (w ++ v) (record { rowed = l .rowed; short = omega (arith, o, c .3); letters = below-append w v (l .letters) (c .5) })
+        (rw e st) (rw (e, kept)) (text ∙ rw i′)
+
+  step : (s : Reading) (y : Rooms) (p : List ℕ) → Stage x s y p → judgeOf s d (y .caps) ≡ 0 → Stage x (advanced s d) (stored s d y) (p ++ (d ++ (lineFeed ∷ [])))
+  step s y p (start es ey ep) j = rw (es, ey, ep) (step-start (rw (es, ey) at j))
+  step s y p (counted P T a b f g es ey ep) j = rw (es, ey, ep) (step-counted P T a b f g (rw (es, ey) at j))
+  step s y p (capped P T caps a b f g h w es ey ep) j = rw (es, ey, ep) (step-capped P T a b f g caps h w (rw (es, ey) at j))
+  step s y p (rowed net n initial r h es ey ep) j = rw (es, ey, ep) (step-rowed net n initial r h (rw (es, ey) at j))
+  step s y p (lettered net initial w l es ey ep) j = rw (es, ey, ep) (step-lettered net initial w l (rw (es, ey) at j))
+
+-- what was read, byte by byte, up to the end of a line
+module _ (x : Rooms) (big : Large x) (t : Reading) (z : Rooms) where
+  pub reads : (bs : List ℕ) (s : Reading) (y : Rooms) (q l : List ℕ) → Stage x s y q → feedAll (both (going s l) y) bs ≡ both (going t []) z → Stage x t z (q ++ (l ++ bs))
+  unfolding feedAll
+  reads [] s y q l g e =
+      let r : going s l ≡ going t [] = ap (λ (u : Both). u .run) e in
+      let k : y ≡ z = ap (λ (u : Both). u .rooms) e in
+      let a : s ≡ t = cc in
+      let b : l ≡ [] = cc in
+      rw (← a, ← k, b, append-nil) g
+  reads (b ∷ bs) s y q l g e = go (eqb b lineFeed) refl (λ s y q l g e. reads bs s y q l g e) where
+    Rec : Type 0
+    Rec = (s : Reading) (y : Rooms) (q l : List ℕ) → Stage x s y q → feedAll (both (going s l) y) bs ≡ both (going t []) z → Stage x t z (q ++ (l ++ bs))
+
+    line : b ≡ lineFeed → (a : Bool) → eqb (judgeOf s l (y .caps)) 0 ≡ a → Rec → Stage x t z (q ++ (l ++ b ∷ bs))
+    line h true j rec =
+        let o : judgeOf s l (y .caps) ≡ 0 = eqb-true _ _ j in
+        let k = rec (advanced s l) (stored s l y) (q ++ (l ++ (lineFeed ∷ []))) [] (step x big l s y q g o)
+        (ap (λ (u : Both). feedAll u bs) (sym (line-taken s l y o)) ∙ ap (λ (c : ℕ). feedAll (feedOf (both (going s l) y) c) bs) (sym h) ∙ e) in
+        rw h (rw (append-assoc q (l ++ (lineFeed ∷ [])) bs, append-assoc l (lineFeed ∷ []) bs) at k)
+    line h false j rec =
+        absurd (never-goes (judgeOf s l (y .caps)) (s .line + 1) y z bs t []
+        (ap (λ (u : Both). feedAll u bs) (sym (line-stopped s l y (eqb-false _ _ j))) ∙ ap (λ (c : ℕ). feedAll (feedOf (both (going s l) y) c) bs) (sym h) ∙ e))
+
+    go : (a : Bool) → eqb b lineFeed ≡ a → Rec → Stage x t z (q ++ (l ++ b ∷ bs))
+    go true h rec = line (eqb-true _ _ h) (eqb (judgeOf s l (y .caps)) 0) refl rec
+    go false h rec = held (ltb (length l) lineLimit) refl rec where
+      n : b ≡ lineFeed → ⊥
+      n = eqb-false _ _ h
+
+      held : (a : Bool) → ltb (length l) lineLimit ≡ a → Rec → Stage x t z (q ++ (l ++ b ∷ bs))
+      held true i rec =
+          rw (append-assoc l (b ∷ []) bs) at (rec s y q (l ++ (b ∷ [])) g (ap (λ (u : Both). feedAll u bs) (sym (feed-push s l y b n (ltb-true _ _ i))) ∙ e))
+      held false i rec = absurd (never-goes 11 (s .line + 1) y z bs t [] (ap (λ (u : Both). feedAll u bs) (sym (feed-long s l y b n (ltb-false _ _ i))) ∙ e))

@@ -1,0 +1,103 @@
+-- The case file of a net, its initial marking and a word ("Case file lines"), and what reading it comes to.
+use Prim.Native.Nat.{ℕ, zero, suc, _+_, _-_, _*_, _/_, _%_, _≤_}
+use mathlib.Core.Path.{_≡_}
+use mathlib.Core.List.{List, [], _∷_, _++_}
+use lib.ListN.{length, take}
+use lib.Seq.{sets}
+use Rattle.ground.specs.Limits.{noCapacity, wordLimit}
+use Rattle.file_digits.specs.Frame.{block, lineText}
+use Rattle.net.specs.Net.{Net, netOf}
+use Rattle.net.specs.Firing.{Light}
+use Rattle.net.specs.Letter.{row, Small}
+use Rattle.net.specs.Given.{Sized, Fine, Letters}
+use Rattle.file_line.specs.declared.Reading.{Reading}
+use Rattle.file_line.specs.Read.{Rooms, rooms}
+
+-- "numbers of two or four bytes have the high byte first": numbers of two bytes
+unfoldable pub twos : List ℕ → List ℕ
+twos [] = []
+twos (n ∷ ns) = n / 256 ∷ n % 256 ∷ twos ns
+
+-- "01 P T."
+abbrev pub countsLine : ℕ → ℕ → List ℕ
+countsLine P T = lineText (1 ∷ P ∷ T ∷ [])
+
+-- "Then 02 with P capacities of two bytes"
+abbrev pub capsLine : List ℕ → List ℕ
+capsLine caps = lineText (2 ∷ twos caps)
+
+-- "03 with P tokens of two bytes."
+abbrev pub tokensLine : List ℕ → List ℕ
+tokensLine initial = lineText (3 ∷ twos initial)
+
+-- "04 t, P Pre bytes, P Post bytes"
+abbrev pub rowLine : Net → ℕ → List ℕ
+rowLine net t = lineText (4 ∷ t ∷ (row (net .places) t (net .pre) ++ row (net .places) t (net .post)))
+
+-- "05 with 1 to 64 letters of a byte; .. all but the last hold 64": line k, from 0, of the word cut into rows of 64
+abbrev pub lettersLine : List ℕ → ℕ → List ℕ
+lettersLine w k = lineText (5 ∷ row block k w)
+
+-- "none or more": how many there are for n letters
+abbrev pub lettersLines : ℕ → ℕ
+lettersLines n = (n + (block - 1)) / block
+
+-- line 0, line 1, .., line n - 1
+unfoldable pub joined : (ℕ → List ℕ) → ℕ → List ℕ
+joined line zero = []
+joined line (suc n) = joined line n ++ line n
+
+-- the case file: 01, 02, 03, then 04 "one for each t in order from 0", then the word's 05
+unfoldable pub fileOf : Net → List ℕ → List ℕ → List ℕ
+fileOf net initial w =
+    countsLine (net .places) (net .transitions)
+    ++ capsLine (net .caps)
+    ++ tokensLine initial
+    ++ joined (rowLine net) (net .transitions)
+    ++ joined (lettersLine w) (lettersLines (length w))
+
+-- a net, its initial marking and a word within the limits of document 01, as lists of bytes and of numbers in 16 bits
+pub record Limited (net : Net) (initial w : List ℕ) : Type 0 where
+  pub sized : Sized net
+  pub weights : Light net
+  pub capacities : Small noCapacity (net .caps)
+  pub marked : length initial ≡ net .places
+  pub fine : Fine (net .caps) initial
+  pub short : length w ≤ wordLimit
+  pub letters : Letters (net .transitions) w
+
+-- the file is "the frames of a net and word within the limits"
+pub record Written (file : List ℕ) : Type 0 where
+  pub net : Net
+  pub initial : List ℕ
+  pub word : List ℕ
+  pub limited : Limited net initial word
+  pub text : file ≡ fileOf net initial word
+
+-- what the rooms y hold at their fronts after a whole file, by the counts of the state s: a net, its marking and a word
+abbrev pub netIn : Reading → Rooms → Net
+netIn s y =
+    netOf (s .places) (s .transitions) (take (s .transitions * s .places) (y .pre)) (take (s .transitions * s .places) (y .post)) (take (s .places) (y .caps))
+
+abbrev pub markingIn : Reading → Rooms → List ℕ
+markingIn s y = take (s .places) (y .initial)
+
+abbrev pub wordIn : Reading → Rooms → List ℕ
+wordIn s y = take (s .letters) (y .word)
+
+-- the state after the last line of the file
+abbrev pub endOf : Net → List ℕ → Reading
+endOf net w =
+    record {
+      phase = 5;
+      places = net .places;
+      transitions = net .transitions;
+      next = net .transitions;
+      letters = length w;
+      line = 3 + net .transitions + lettersLines (length w);
+    }
+
+-- the rooms after it: each list at the front of its room, and the rest of the room as found
+abbrev pub filled : Rooms → Net → List ℕ → List ℕ → Rooms
+filled x net initial w =
+    rooms (sets (x .caps) 0 (net .caps)) (sets (x .initial) 0 initial) (sets (x .pre) 0 (net .pre)) (sets (x .post) 0 (net .post)) (sets (x .word) 0 w)

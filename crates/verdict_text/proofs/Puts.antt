@@ -1,0 +1,90 @@
+-- Laws of bytes put one after another. Assumes nothing.
+use mathlib.Core.Path.{_≡_, refl, sym, _∙_, ap}
+use mathlib.Core.List.{List, [], _∷_, _++_}
+use Prim.Native.Nat.{ℕ, zero, suc, _+_, _*_, _/_, _%_, _≤_, _<_}
+use native.Mathlib.Omega.{arith}
+use native.Mathlib.Numerals.{add-one}
+use native.Mathlib.Nat.{not-suc-le-zero}
+use lib.ListN.{length, getD, drop, set, length-append}
+use lib.Seq.{sets, drop-cons, length-sets}
+use Rattle.ground.proofs.Stores.{sets-both}
+use Rattle.file_digits.specs.Frame.{digitOf, digitsOf, lineFeed}
+use Rattle.file_digits.proofs.Round.{digits-then, digits-long}
+use Rattle.verdict_text.specs.Verdict.{four, fours, Put, WrittenBytes}
+
+pub put-then : (l : List ℕ) (at : ℕ) (a b : List ℕ) (r s : ℕ) (m n : List ℕ) → Put l at a r m → Put m r b s n → Put l at (a ++ b) s n
+put-then l at a b r s m n p q =
+    let e : r ≡ at + length (digitsOf a) = p .next ∙ rw (digits-long a) in
+    record {
+      made = q .made ∙ rw (p .made, e) (sets-both (digitsOf a) (digitsOf b) l at ∙ ap (sets l at) (sym (digits-then a b)));
+      next = omega (arith, p .next, q .next, length-append a b);
+    }
+
+pub put-one : (l : List ℕ) (at b x y : ℕ) → x ≡ digitOf (b / 16) → y ≡ digitOf (b % 16) → Put l at (b ∷ []) (at + 2) (set (set l at x) (at + 1) y)
+unfolding digitsOf
+put-one l at b x y e f = record { made = rw (e, f, add-one at); next = omega arith }
+
+pub put-long : (l : List ℕ) (at : ℕ) (a : List ℕ) (r : ℕ) (m : List ℕ) → Put l at a r m → length m ≡ length l
+put-long l at a r m p = rw (p .made, length-sets)
+
+pub four-long : (n : ℕ) → length (four n) ≡ 4
+unfolding four
+four-long n = refl
+
+pub fours-long : (w : List ℕ) → length (fours w) ≡ 4 * length w
+unfolding fours
+fours-long [] = refl
+fours-long (x ∷ w) =
+    let e = length-append (four x) (fours w) in
+    let f = fours-long w in
+    omega (arith, four-long x)
+
+-- the marking is put up to place i
+pub record Putting (l : List ℕ) (at : ℕ) (m : List ℕ) (i r : ℕ) (o : List ℕ) : Type 0 where
+  pub inside : i ≤ length m
+  pub long : length o ≡ length l
+  pub next : r ≡ at + 8 * i
+  pub same : sets o r (digitsOf (fours (drop i m))) ≡ sets l at (digitsOf (fours m))
+
+pub putting-start : (l : List ℕ) (at : ℕ) (m : List ℕ) → Putting l at m 0 at l
+putting-start l at m = record { inside = omega arith; long = refl; next = omega arith; same = refl }
+
+module _ (l : List ℕ) (at : ℕ) (m : List ℕ) (i r : ℕ) (o : List ℕ) (p : Putting l at m i r o) where
+  pub putting-next : (n s : ℕ) (o′ : List ℕ) → i < length m → n ≡ getD m i 0 → Put o r (four n) s o′ → Putting l at m (i + 1) s o′
+  unfolding fours
+  putting-next n s o′ h e q =
+      let k : s ≡ r + length (digitsOf (four n)) = q .next ∙ rw (digits-long (four n)) in
+      record {
+        inside = omega arith;
+        long = put-long o r (four n) s o′ q ∙ p .long;
+        next = omega (arith, p .next, q .next, four-long n);
+        same = rw (q .made, k) (sets-both (digitsOf (four n)) (digitsOf (fours (drop (i + 1) m))) o r
+            ∙ ap (sets o r) (sym (digits-then (four n) (fours (drop (i + 1) m)))) ∙ rw (e, add-one i) (ap (λ (z : List ℕ). sets o r (digitsOf (fours z))) (sym (drop-cons m i 0 h)) ∙ p .same));
+      }
+
+  pub putting-end : length m ≤ i → Put l at (fours m) r o
+  unfolding fours digitsOf
+  putting-end h = record { made = sym (none m i o r h) ∙ p .same; next = all (omega (arith, p .inside)) }
+    where
+      none : (w : List ℕ) (i : ℕ) (o : List ℕ) (r : ℕ) → length w ≤ i → sets o r (digitsOf (fours (drop i w))) ≡ o
+      none [] zero o r h = refl
+      none [] (suc i) o r h = refl
+      none (x ∷ w) zero o r h = absurd (not-suc-le-zero h)
+      none (x ∷ w) (suc i) o r h = none w i o r (omega arith)
+
+      all : i ≡ length m → r ≡ at + 2 * length (fours m)
+      all e = let c = fours-long m in omega (arith, p .next)
+
+  pub putting-long : length o ≡ length l
+  putting-long = p .long
+
+pub ruleset puttings = (putting-start, putting-next, putting-end, putting-long)
+
+-- the line feed after the bytes
+pub fed : (l a : List ℕ) (r s : ℕ) (m n : List ℕ) → Put l 0 a r m → n ≡ sets m r (lineFeed ∷ []) → s ≡ r + 1 → WrittenBytes l a s n
+fed l a r s m n p e f =
+    let k : r ≡ 0 + length (digitsOf a) = p .next ∙ rw (digits-long a) in
+    record {
+      made = e ∙ rw (p .made, k) (sets-both (digitsOf a) (lineFeed ∷ []) l 0);
+      long = let z = length-append (digitsOf a) (lineFeed ∷ []) in omega (arith, k);
+    }
