@@ -36,10 +36,13 @@ add-letters c =
     let e : tie.After-enum-told = search needs in
     omega (arith, joinable e .few)
 
+-- Searched for, so that slots joined in the other order are refused at the answer, not here.
 join-slots-requires : tie.Need-join-slots-requires
 join-slots-requires c κs =
     let e : tie.After-enum-told = search needs in
-    (shape-wells (start e .args .a) (joinable e .first-shape), shape-wells (start e .args .b) (joinable e .second-shape))
+    let first = shape-wells (start e .args .a) (joinable e .first-shape) in
+    let second = shape-wells (start e .args .b) (joinable e .second-shape) in
+    (search needs, search needs)
 
 returns : tie.Need-returns
 returns c = search (answers-refused, needs)
