@@ -1,4 +1,2 @@
-pub mod Listings
-pub mod Refusals
-pub mod Answers
+pub mod Deads
 pub mod Meaning

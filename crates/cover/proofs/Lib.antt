@@ -1,4 +1,1 @@
-pub mod Looks
-pub mod Refusals
-pub mod Answers
 pub mod Meaning

@@ -1,3 +1,6 @@
 pub mod Somes
 pub mod Wholes
+pub mod Entries
+pub mod Answers
+pub mod Matches
 pub mod Pairs

@@ -1,0 +1,3 @@
+pub mod Fires
+pub mod Refusals
+pub mod Targets

@@ -1,0 +1,3 @@
+pub mod Fire
+pub mod Look
+pub mod Given
