@@ -1,2 +1,3 @@
 pub mod Deads
 pub mod Meaning
+pub mod Exactly

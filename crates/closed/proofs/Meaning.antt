@@ -27,6 +27,7 @@ use Rattle.lists.specs.declared.Failure.the-variants.{InitialMissing, ResultMis
 use Rattle.lists.proofs.Somes.{some-first, some-none, some-is, is-none, none-at, none-first}
 use Rattle.lists.proofs.Pairs.{accepted-looked, looked-accepted, looked-initial, looked-result}
 use Rattle.lists.proofs.Wholes.{marking-end, marking-long, marking-small}
+use Rattle.lists.proofs.Exactly.{entries-few}
 use Rattle.lists.specs.Match.{alike, matches, held}
 use Rattle.lists.specs.Answers.{numbers, claimNumbers, claimOf}
 use Rattle.lists.specs.declared.Kind.the-variants.{Closed}
@@ -37,6 +38,8 @@ use Rattle.lists.specs.declared.ClaimAnswer.the-variants as claim
 use Rattle.lists.proofs.Answers.{numbers-apart, claim-numbers-apart, shown-claim}
 use Rattle.list_check.specs.Look.{Ready, absent, missing}
 use Rattle.list_check.specs.Given.{givenFault, listOf, targetOf}
+use Rattle.list_check.specs.Allowed.{ListAllowed}
+use Rattle.list_check.proofs.Exactly.{of-allowed}
 use Rattle.list_check.proofs.Refusals.{Lent, lent-of, accepted-sound, failed-sound}
 use Rattle.closed.specs.Closed.{Listed, FiringAt, IsClosed, EnabledResultListed, FirstMissing, AllEnable}
 use Rattle.closed.specs.Dead.{dead, someDead}
@@ -140,6 +143,12 @@ module _ (net : Net) (initial l : List ℕ) where
           },
         )
 
+-- closed_list answers accepted, of what is allowed, exactly if the list is closed
+pub accepted-exactly : (net : Net) (initial l : List ℕ) (r : ListAnswer) → numbers r ≡ numbers (listOf Closed net initial l true Sound) → ListAllowed Closed net initial l → (r ≡ list.Accepted) ↔ IsClosed net initial l
+accepted-exactly net initial l r p a =
+    rw (numbers-apart r (listOf Closed net initial l true Sound) p)
+    (accepted-closed net initial l true Sound, closed-accepted net initial l true Sound (of-allowed Closed net initial l a))
+
 -- "From an accepted list, a target not listed is never reached": every reachable marking is listed
 pub closed-reaches : {net : Net} {initial l m : List ℕ} → IsClosed net initial l → Reachable net initial m → Listed (net .places) l m
 closed-reaches {net} {initial} {l} {m} c r =
@@ -148,7 +157,7 @@ closed-reaches {net} {initial} {l} {m} c r =
 -- a marking with more tokens than may be given is in no list that is not refused: results are never cut to 16 bits
 pub large-absent : {net : Net} {initial l : List ℕ} {fits : Bool} {next : Fault} (m : List ℕ) (p : ℕ) → Lent Closed net initial l fits next → tokenLimit < tokens m p → Listed (net .places) l m → ⊥
 large-absent {net} {initial} {l} m p g h x =
-    let s = marking-small (net .places) (count (net .places) l) l (x .number) (g .ready .long) (x .inside) tokenLimit (g .few refl) in
+    let s = marking-small (net .places) (count (net .places) l) l (x .number) (g .ready .long) (x .inside) tokenLimit (entries-few (net .places) (net .caps) l (g .entries refl)) in
     let e = ap (λ (y : List ℕ). tokens y p) (x .is) in
     omega (arith, s .at p)
 
@@ -157,7 +166,7 @@ pub above-absent : {net : Net} {initial l : List ℕ} {fits : Bool} {next : Faul
 above-absent {net} {initial} {l} m p g hp h x =
     let e = ap (λ (y : List ℕ). tokens y p) (sym (x .is)) ∙ row-at (net .places) (x .number) l p hp in
     let i = marking-end (net .places) (count (net .places) l) l (x .number) (g .ready .long) (x .inside) in
-    let w = rw (mul-add-mod-self-right (x .number) (net .places) p, mod-eq-of-lt hp) at (g .within refl (x .number * net .places + p) (omega arith)) in
+    let w = rw (mul-add-mod-self-right (x .number) (net .places) p, mod-eq-of-lt hp) at (g .entries refl .at (x .number * net .places + p) (omega arith) .within) in
     omega arith
 
 -- "Repeats are harmless": only which markings are listed counts

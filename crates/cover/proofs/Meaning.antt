@@ -3,6 +3,7 @@ use Prim.Native.Nat.{ℕ, _+_, _≤_, _<_}
 use mathlib.Core.Path.{_≡_, refl, sym, _∙_}
 use mathlib.Core.Bool.{Bool, true, false, _&&_}
 use mathlib.Core.List.{List}
+use mathlib.Core.Logic.{_↔_}
 use native.Mathlib.Omega.{arith}
 use native.Mathlib.Decide.{decLe}
 use lib.ListN.{length, getD}
@@ -33,6 +34,8 @@ use Rattle.lists.proofs.Answers.{numbers-apart, claim-numbers-apart, shown-clai
 use Rattle.list_check.specs.Fire.{lacks, passesAny, afterAny, firedAny}
 use Rattle.list_check.specs.Look.{Ready, absent, missing}
 use Rattle.list_check.specs.Given.{givenFault, listOf, targetOf}
+use Rattle.list_check.specs.Allowed.{ListAllowed}
+use Rattle.list_check.proofs.Exactly.{of-allowed}
 use Rattle.list_check.proofs.Refusals.{lent-of, accepted-sound, failed-sound}
 use Rattle.cover.specs.Cover.{Finite, CoversAt, CoversMarking, ListCovers, CoverEnabled, CoversResult, ResultCovered, EnabledResultCovered, IsCover, FirstMissing}
 
@@ -193,6 +196,12 @@ module _ (net : Net) (initial l : List ℕ) where
             earlier = λ j u h x. holds-of net l (g .ready) j (omega (arith, f .inside)) u (f .earlier j u h (x .named)) x;
           },
         )
+
+-- cover_list answers accepted, of what is allowed, exactly if the list is a cover list
+pub accepted-exactly : (net : Net) (initial l : List ℕ) (r : ListAnswer) → numbers r ≡ numbers (listOf Cover net initial l true Sound) → ListAllowed Cover net initial l → (r ≡ list.Accepted) ↔ IsCover net initial l
+accepted-exactly net initial l r p a =
+    rw (numbers-apart r (listOf Cover net initial l true Sound) p)
+    (accepted-cover net initial l true Sound, cover-accepted net initial l true Sound (of-allowed Cover net initial l a))
 
 -- every marking reachable in the net with its capacities is covered by a listed one: capacities only disable
 pub cover-covers : {net : Net} {initial l m : List ℕ} → IsCover net initial l → Reachable net initial m → ListCovers (net .places) l m

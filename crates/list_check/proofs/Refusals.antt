@@ -1,27 +1,26 @@
 -- Laws of the refusals of a list with its net: which one is given, and what holds where none is. Assumes nothing.
-use Prim.Native.Nat.{ℕ, _%_, _≤_, _<_}
+use Prim.Native.Nat.{ℕ, _≤_}
 use mathlib.Core.Path.{_≡_, refl, sym, _∙_}
 use mathlib.Core.Bool.{Bool, true, _&&_}
 use mathlib.Core.List.{List}
 use native.Mathlib.Omega.{arith}
-use lib.ListN.{length, getD}
-use Rattle.ground.specs.Limits.{tokenLimit, listLimit}
+use lib.ListN.{length}
 use Rattle.ground.proofs.Tests.{and-true}
 use Rattle.net.specs.Net.{Net}
-use Rattle.net.specs.Letter.{Small}
 use Rattle.net.specs.Given.{startFault, Fine}
 use Rattle.net.specs.declared.Fault.{Fault}
 use Rattle.net.specs.declared.Fault.the-variants.{Sound, Faulty}
-use Rattle.net.proofs.Chains.{or-sound}
-use Rattle.net.proofs.Refusals.{start-met}
+use Rattle.net.proofs.Chains.{or-sound, sound-or}
+use Rattle.net.proofs.Refusals.{start-met, met-start}
 use Rattle.lists.specs.Whole.{count, whole, entryFault, sizeFault, listFault}
 use Rattle.lists.specs.declared.Failure.{Failure}
 use Rattle.lists.specs.declared.Kind.{Kind}
 use Rattle.lists.specs.declared.Kind.the-variants.{Closed}
 use Rattle.lists.specs.declared.ListAnswer.{ListAnswer}
 use Rattle.lists.specs.declared.ListAnswer.the-variants.{Accepted, Failed, Refused}
-use Rattle.lists.proofs.Wholes.{whole-long, sized-list}
-use Rattle.lists.proofs.Entries.{entries-few, entries-within}
+use Rattle.lists.specs.Demands.{EntriesFine, SomeMarkings}
+use Rattle.lists.proofs.Wholes.{whole-long}
+use Rattle.lists.proofs.Exactly.{of-markings, entries-of, of-entries, size-of, of-size}
 use Rattle.list_check.specs.Look.{Ready, looked}
 use Rattle.list_check.specs.Given.{givenFault, answered, listOf}
 
@@ -47,10 +46,8 @@ pub record Lent (kind : Kind) (net : Net) (initial list : List ℕ) (fits : Bool
   pub fine : Fine (net .caps) initial
   pub agrees : fits ≡ true
   pub follows : next ≡ Sound
-  pub few : kind ≡ Closed → Small tokenLimit list
-  pub within : kind ≡ Closed → (k : ℕ) → k < length list → getD list k 0 ≤ getD (net .caps) (k % net .places) 0
-  pub some : 1 ≤ count (net .places) list
-  pub many : count (net .places) list ≤ listLimit
+  pub entries : kind ≡ Closed → EntriesFine (net .places) (net .caps) list
+  pub some : SomeMarkings (net .places) list
 
 module _ (kind : Kind) (net : Net) (initial list : List ℕ) (fits : Bool) (next : Fault) where
   pub lent-of : givenFault kind net initial list fits next ≡ Sound → Lent kind net initial list fits next
@@ -61,18 +58,24 @@ module _ (kind : Kind) (net : Net) (initial list : List ℕ) (fits : Bool) (next
       let w = and-true (whole (net .places) list) fits (f .fitting) in
       let b = or-sound (entryFault kind (net .places) (net .caps) list) _ (a .1) in
       let d = or-sound next (sizeFault (net .places) list) (b .1) in
-      let z = sized-list (net .places) list (d .1) in
       record {
         ready = record { sized = f .sized; long = whole-long (net .places) list (w .0) };
         start = f .marked;
         fine = f .fine;
         agrees = w .1;
         follows = d .0;
-        few = λ q. entries-few (net .places) (net .caps) list (rw q at (b .0));
-        within = λ q. entries-within (net .places) (net .caps) list (rw q at (b .0));
-        some = z .0;
-        many = z .1;
+        entries = entries-of kind (net .places) (net .caps) list (b .0);
+        some = size-of (net .places) list (d .1);
       }
+
+  -- and back: what 01 allows is not refused
+  pub of-lent : Lent kind net initial list fits next → givenFault kind net initial list fits next ≡ Sound
+  unfolding givenFault listFault
+  of-lent g =
+      let w = of-markings (net .places) list (record { some-places = g .ready .sized .some-places; number = count (net .places) list; long = g .ready .long }) in
+      sound-or _ _ (met-start net initial (whole (net .places) list && fits) (record { sized = g .ready .sized; marked = g .start; fitting = rw w (g .agrees); fine = g .fine }))
+      (sound-or _ _ (of-entries kind (net .places) (net .caps) list (g .entries))
+      (sound-or _ _ (g .follows) (of-size (net .places) list (g .some))))
 
   -- a fault refuses; else the list is looked through
   module _ (found : Fault) (e : found ≡ givenFault kind net initial list fits next) where

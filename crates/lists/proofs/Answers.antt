@@ -76,3 +76,14 @@ shown-claim list.Accepted true e = let z : _≡_ {A = ℕ} 0 1 = cc in absurd (o
 shown-claim list.Accepted false e = (refl, refl)
 shown-claim (list.Failed why) leftOpen e = let z : _≡_ {A = ℕ} 0 1 = cc in absurd (omega arith)
 shown-claim (list.Refused n at) leftOpen e = let z : _≡_ {A = ℕ} 0 1 = cc in absurd (omega arith)
+
+-- a claim is refused exactly as its list is
+pub refused-claim : (a : ListAnswer) (leftOpen : Bool) (n at : ℕ) → claimOf a leftOpen ≡ claim.Refused n at → a ≡ list.Refused n at
+unfolding claimOf
+refused-claim list.Accepted true n at e = let z : _≡_ {A = ℕ} 0 1 = cc in absurd (omega arith)
+refused-claim list.Accepted false n at e = let z : _≡_ {A = ℕ} 0 1 = cc in absurd (omega arith)
+refused-claim (list.Failed why) leftOpen n at e = let z : _≡_ {A = ℕ} 0 1 = cc in absurd (omega arith)
+refused-claim (list.Refused k p) leftOpen n at e =
+    let x : k ≡ n = cc in
+    let y : p ≡ at = cc in
+    rw (x, y)

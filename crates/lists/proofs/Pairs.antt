@@ -11,7 +11,7 @@ use Rattle.ground.proofs.Scan.{Below, scan-hit, scan-next, scan-end, first-belo
 use Rattle.lists.specs.Pairs.{lowestMissing, fails, firstFailing, resultsOf, lookedOf}
 use Rattle.lists.specs.declared.Failure.the-variants.{InitialMissing, ResultMissing}
 use Rattle.lists.specs.declared.ListAnswer.{ListAnswer}
-use Rattle.lists.specs.declared.ListAnswer.the-variants.{Accepted, Failed}
+use Rattle.lists.specs.declared.ListAnswer.the-variants.{Accepted, Failed, Refused}
 use Rattle.lists.proofs.Somes.{some-hit, some-end, some-first, some-none}
 
 -- the turns of the two loops over the pairs
@@ -141,3 +141,13 @@ module _ (missing : ℕ → ℕ → Bool) (T n : ℕ) where
         go : (b : Bool) → starts ≡ b → (starts ≡ true) × FirstPair missing T n k t
         go true e = (e, results-failed k t (rw e at q))
         go false e = let z : _≡_ {A = ℕ} 0 1 = cc (rw e at q) in absurd (omega arith)
+
+    -- a list that is looked through is not refused
+    pub looked-never : (k p : ℕ) → lookedOf starts missing T n ≡ Refused k p → ⊥
+    unfolding lookedOf resultsOf
+    looked-never k p q = go starts refl (ltb (firstFailing missing T n) n) refl
+      where
+        go : (b : Bool) → starts ≡ b → (c : Bool) → ltb (firstFailing missing T n) n ≡ c → ⊥
+        go true e true f = let z : _≡_ {A = ℕ} 0 1 = cc (rw (e, f) at q) in omega arith
+        go true e false f = let z : _≡_ {A = ℕ} 0 1 = cc (rw (e, f) at q) in omega arith
+        go false e c f = let z : _≡_ {A = ℕ} 0 1 = cc (rw e at q) in omega arith

@@ -8,14 +8,13 @@ use native.Mathlib.Nat.{div-add-mod'}
 use native.Mathlib.Decide.{decLt}
 use lib.ListN.{length, getD, take, drop, length-drop, List·getD-eq-default}
 use lib.Dec.{ltb, eqb}
-use borrow.Author.Tests.{lt-ltb, le-ltb, ltb-false, eqb-true}
+use borrow.Author.Tests.{lt-ltb, le-ltb, eqb-true}
 use lib.Seq.{length-take-le}
 use Rattle.ground.specs.Limits.{countLimit, listLimit}
-use Rattle.ground.proofs.Tests.{and-true, or-false}
+use Rattle.ground.proofs.Tests.{and-true}
 use Rattle.net.specs.Letter.{Small}
 use Rattle.net.specs.declared.Fault.the-variants.{Sound, Faulty}
 use Rattle.net.proofs.Rows.{row-end, row-at}
-use Rattle.net.proofs.Chains.{refuse-sound}
 use Rattle.lists.specs.Whole.{count, markingAt, whole, lowestAny, targetFault, sizeFault}
 
 -- whether the list is made of whole markings
@@ -59,13 +58,6 @@ module _ (P : ℕ) (list : List ℕ) (n : ℕ) (e : n ≡ count P list) where
   size-fine h l = rw (← e, le-ltb n 1 h, le-ltb listLimit n l)
 
 pub ruleset sizes = (size-none, size-many, size-fine)
-
--- a list that is not refused has 1 to 4,096 markings
-pub sized-list : (P : ℕ) (list : List ℕ) → sizeFault P list ≡ Sound → (1 ≤ count P list) × (count P list ≤ listLimit)
-unfolding sizeFault
-sized-list P list e =
-    let a = or-false (ltb (count P list) 1) (ltb listLimit (count P list)) (refuse-sound _ 9 0 e) in
-    (ltb-false (count P list) 1 (a .0), ltb-false listLimit (count P list) (a .1))
 
 -- which refusal of a target
 module _ (target : List ℕ) (p : ℕ) (e : p ≡ lowestAny target) where
