@@ -15,7 +15,7 @@ use Rattle.lists.specs.Match.{held}
 use Rattle.lists.specs.declared.Kind.{Kind}
 use Rattle.lists.specs.declared.Kind.the-variants.{Closed, Cover}
 use Rattle.list_check.specs.Fire.{lacks, passesAny, afterAny, firedAny}
-use Rattle.list_check.specs.Look.{enabledBy, resultBy, absent}
+use Rattle.list_check.specs.Look.{unlisted, uncovered, absent}
 
 -- one place's tests: what the code compares
 module _ (takes puts entry : ℕ) where
@@ -41,36 +41,36 @@ module _ (P : ℕ) (pre post : List ℕ) (t : ℕ) (l : List ℕ) where
 pub small-as : (m l : List ℕ) → m ≡ l → ((p : ℕ) → getD l p 0 < 65536) → Small replayLimit m
 small-as m l e h = rw e (record { at = λ p. omega (arith, h p) })
 
--- r tells whether t is enabled at l
-module _ (kind : Kind) (net : Net) (n : ℕ) (list : List ℕ) (t : ℕ) (l : List ℕ) (r : Bool) (e : r ≡ enabledBy kind net t l) where
-  absent-fires : (m′ : List ℕ) (s : Bool) → r ≡ true → m′ ≡ resultBy kind net t l → s ≡ held kind (net .places) n list m′ → not s ≡ absent kind net n list t l
-  unfolding absent
-  absent-fires m′ s q em es = rw (sym e ∙ q) (ap not (es ∙ ap (held kind (net .places) n list) em))
-
-  absent-none : r ≡ false → false ≡ absent kind net n list t l
-  unfolding absent
-  absent-none q = let p : enabledBy kind net t l ≡ false = sym e ∙ q in rw p
-
--- ... in a closed list, where m is l loaded
+-- a pair in a closed list: m is l loaded, and r tells whether t is enabled there
 module _ (net : Net) (n : ℕ) (list : List ℕ) (t : ℕ) (l m : List ℕ) (em : m ≡ l) (r : Bool) (e : r ≡ passes (arcsAt net t) m) where
-  pub unlisted-fires : (m′ : List ℕ) (s : Bool) → r ≡ true → m′ ≡ firedAt net t m → s ≡ held Closed (net .places) n list m′ → not s ≡ absent Closed net n list t l
-  unlisted-fires m′ s q ef es = absent-fires Closed net n list t l r (e ∙ ap (passes (arcsAt net t)) em) m′ s q (ef ∙ ap (firedAt net t) em) es
+  pub unlisted-fires : (m′ : List ℕ) (s : Bool) → r ≡ true → m′ ≡ firedAt net t m → s ≡ held Closed (net .places) n list m′ → not s ≡ unlisted net n list t l
+  unlisted-fires m′ s q ef es =
+      let p : passes (arcsAt net t) l ≡ true = ap (passes (arcsAt net t)) (sym em) ∙ sym e ∙ q in
+      rw p (ap not (es ∙ ap (held Closed (net .places) n list) (ef ∙ ap (firedAt net t) em)))
 
-  pub unlisted-none : r ≡ false → false ≡ absent Closed net n list t l
-  unlisted-none q = absent-none Closed net n list t l r (e ∙ ap (passes (arcsAt net t)) em) q
+  pub unlisted-none : r ≡ false → false ≡ unlisted net n list t l
+  unlisted-none q = let p : passes (arcsAt net t) l ≡ false = ap (passes (arcsAt net t)) (sym em) ∙ sym e ∙ q in rw p
 
 pub ruleset unlisteds = (unlisted-fires, unlisted-none)
 
--- ... in a cover list
-module _ (net : Net) (n : ℕ) (list : List ℕ) (t : ℕ) (l : List ℕ) (r : Bool) (e : r ≡ passesAny (net .places) (net .pre) t l) where
-  pub uncovered-fires : (m′ : List ℕ) (s : Bool) → r ≡ true → m′ ≡ firedAny (net .places) (net .pre) (net .post) t l → s ≡ held Cover (net .places) n list m′ → not s ≡ absent Cover net n list t l
-  uncovered-fires m′ s q ef es = absent-fires Cover net n list t l r e m′ s q ef es
+-- a pair in a cover list: r tells whether t is enabled at l
+module _ (P : ℕ) (pre post : List ℕ) (n : ℕ) (list : List ℕ) (t : ℕ) (l : List ℕ) (r : Bool) (e : r ≡ passesAny P pre t l) where
+  pub uncovered-fires : (m′ : List ℕ) (s : Bool) → r ≡ true → m′ ≡ firedAny P pre post t l → s ≡ held Cover P n list m′ → not s ≡ uncovered P pre post n list t l
+  uncovered-fires m′ s q ef es = rw (sym e ∙ q) (ap not (es ∙ ap (held Cover P n list) ef))
 
-  pub uncovered-none : r ≡ false → false ≡ absent Cover net n list t l
-  uncovered-none q = absent-none Cover net n list t l r e q
+  pub uncovered-none : r ≡ false → false ≡ uncovered P pre post n list t l
+  uncovered-none q = let p : passesAny P pre t l ≡ false = sym e ∙ q in rw p
 
 pub ruleset uncovereds = (uncovered-fires, uncovered-none)
 
--- by the list's kind: k is the kind of the answer r
-pub absent-as : (k kind : Kind) (net : Net) (n : ℕ) (list : List ℕ) (t : ℕ) (l : List ℕ) (r : Bool) → kind ≡ k → r ≡ absent k net n list t l → r ≡ absent kind net n list t l
-absent-as k kind net n list t l r q e = rw q e
+-- by the list's kind
+module _ (kind : Kind) (net : Net) (n : ℕ) (list : List ℕ) (t : ℕ) (l : List ℕ) (r : Bool) where
+  pub absent-closed : kind ≡ Closed → r ≡ unlisted net n list t l → r ≡ absent kind net n list t l
+  unfolding absent
+  absent-closed q e = rw q e
+
+  pub absent-cover : kind ≡ Cover → r ≡ uncovered (net .places) (net .pre) (net .post) n list t l → r ≡ absent kind net n list t l
+  unfolding absent
+  absent-cover q e = rw q e
+
+pub ruleset absents = (absent-closed, absent-cover)

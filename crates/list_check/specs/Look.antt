@@ -20,19 +20,18 @@ pub record Ready (net : Net) (n : ℕ) (list : List ℕ) : Type 0 where
   pub sized : Sized net
   pub long : length list ≡ n * net .places
 
--- transition t is enabled at the listed marking l
-abbrev pub enabledBy : Kind → Net → ℕ → List ℕ → Bool
-enabledBy Closed net t l = passes (arcsAt net t) l
-enabledBy Cover net t l = passesAny (net .places) (net .pre) t l
+-- t is enabled at the marking l of a closed list, and the list does not hold its result
+abbrev pub unlisted : Net → ℕ → List ℕ → ℕ → List ℕ → Bool
+unlisted net n list t l = passes (arcsAt net t) l && not (held Closed (net .places) n list (firedAt net t l))
 
--- its result there
-abbrev pub resultBy : Kind → Net → ℕ → List ℕ → List ℕ
-resultBy Closed net t l = firedAt net t l
-resultBy Cover net t l = firedAny (net .places) (net .pre) (net .post) t l
+-- t is enabled at the marking l of a cover list, and the list does not cover its result
+abbrev pub uncovered : ℕ → List ℕ → List ℕ → ℕ → List ℕ → ℕ → List ℕ → Bool
+uncovered P pre post n list t l = passesAny P pre t l && not (held Cover P n list (firedAny P pre post t l))
 
--- t is enabled, and the list does not hold its result or cover it
+-- the same by the list's kind
 unfoldable pub absent : Kind → Net → ℕ → List ℕ → ℕ → List ℕ → Bool
-absent kind net n list t l = enabledBy kind net t l && not (held kind (net .places) n list (resultBy kind net t l))
+absent Closed net n list t l = unlisted net n list t l
+absent Cover net n list t l = uncovered (net .places) (net .pre) (net .post) n list t l
 
 -- ... at marking number k
 abbrev pub missing : Kind → Net → ℕ → List ℕ → ℕ → ℕ → Bool

@@ -13,9 +13,8 @@ ghost use Prim.Native.Nat.{_+_, _*_, _<_, _≤_};
 ghost use lib.ListN.{length};
 ghost use Rattle.net.specs.Net.{netOf};
 ghost use Rattle.lists.specs.Whole.{count};
-ghost use Rattle.lists.specs.declared.Kind.the-variants.{Closed, Cover};
 ghost use Rattle.list_check.specs.Fire.{lacks, passesAny, afterAny, firedAny};
-ghost use Rattle.list_check.specs.Look.{Ready, absent, missing, results, looked};
+ghost use Rattle.list_check.specs.Look.{Ready, unlisted, uncovered, absent, missing, results, looked};
 ghost use Rattle.list_check.specs.Given.{givenFault, listOf, targetOf};
 
 // One place is a number, and less than is taken.
@@ -95,7 +94,7 @@ fn is_unlisted(
     requires { ⌜ Ready (netOf places transitions (now pre) (now post) (now caps)) count (now list) ⌝ }
     requires { ⌜ (length (now listed) ≡ places) × (length (now room) ≡ places) ⌝ }
     requires { ⌜ t < transitions ⌝ }
-    ensures { λ r. ⌜ r ≡ absent Closed (netOf places transitions (now (pre .entry)) (now (post .entry)) (now (caps .entry))) count (now (list .entry)) t (now (listed .entry)) ⌝ }
+    ensures { λ r. ⌜ r ≡ unlisted (netOf places transitions (now (pre .entry)) (now (post .entry)) (now (caps .entry))) count (now (list .entry)) t (now (listed .entry)) ⌝ }
 {
     net::load(listed, room);
     if net::may_fire_at(places, transitions, pre, post, caps, t, room) {
@@ -106,23 +105,21 @@ fn is_unlisted(
 }
 
 // Whether a transition is enabled at a marking of a cover list with a result that the list does not
-// cover. The result is made once, in the room.
+// cover. The result is made once, in the room. No capacity is lent.
 fn is_uncovered(
     places: usize,
-    transitions: usize,
     pre: &[Weight],
     post: &[Weight],
-    caps: &[u16],
     list: &[u16],
     count: usize,
     t: usize,
     listed: &[u16],
     room: &mut [u32],
 ) -> bool
-    requires { ⌜ Ready (netOf places transitions (now pre) (now post) (now caps)) count (now list) ⌝ }
+    requires { ⌜ (t * places + places ≤ length (now pre)) × (t * places + places ≤ length (now post)) ⌝ }
+    requires { ⌜ length (now list) ≡ count * places ⌝ }
     requires { ⌜ (length (now listed) ≡ places) × (length (now room) ≡ places) ⌝ }
-    requires { ⌜ t < transitions ⌝ }
-    ensures { λ r. ⌜ r ≡ absent Cover (netOf places transitions (now (pre .entry)) (now (post .entry)) (now (caps .entry))) count (now (list .entry)) t (now (listed .entry)) ⌝ }
+    ensures { λ r. ⌜ r ≡ uncovered places (now (pre .entry)) (now (post .entry)) count (now (list .entry)) t (now (listed .entry)) ⌝ }
 {
     if may_fire_any(places, pre, t, listed) {
         fire_any(places, pre, post, t, listed, room);
@@ -163,18 +160,7 @@ fn is_absent(
             listed,
             room,
         ),
-        Kind::Cover => is_uncovered(
-            places,
-            transitions,
-            pre,
-            post,
-            caps,
-            list,
-            count,
-            t,
-            listed,
-            room,
-        ),
+        Kind::Cover => is_uncovered(places, pre, post, list, count, t, listed, room),
     }
 }
 

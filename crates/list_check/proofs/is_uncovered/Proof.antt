@@ -1,30 +1,17 @@
 use mathlib.Core.Path.{sym, _∙_}
-use denote.Ref.{now}
-use Rattle.net.specs.Net.{Net, netOf}
-use Rattle.net.proofs.Rows.{pre-end, post-end}
 use Rattle.list_check.proofs.Fires.{uncovereds}
 use borrow.Author.Needs.{needs}
 use Rattle.list_check.proofs.is_uncovered.Statement.{statement}
 use Rattle.list_check.proofs.is_uncovered.Tie as tie
 
--- the net at the function's entry
-at : tie.Start → Net
-at s = netOf (s .args .places) (s .args .transitions) (now (s .args .pre)) (now (s .args .post)) (now (s .args .caps))
-
 may-fire-any-requires : tie.Need-may-fire-any-requires
-unfolding at
-may-fire-any-requires c κs =
-    let s : tie.Start = search needs in
-    (pre-end (at s) (now (s .args .listed)) (s .args .t) (s .pre .0 .sized) (s .pre .1 .1), search needs)
+may-fire-any-requires c κs = search needs
 
 fire-any-requires : tie.Need-fire-any-requires
-unfolding at
 fire-any-requires c κs =
     let s : tie.Start = search needs in
-    let b : tie.After-may-fire-any = search needs in (
-      (pre-end (at s) (now (s .args .listed)) (s .args .t) (s .pre .0 .sized) (s .pre .1 .1), post-end (at s) (now (s .args .listed)) (s .args .t) (s .pre .0 .sized) (s .pre .1 .1)),
-      (search needs, sym (b .may-fire-any .ensures) ∙ search needs),
-    )
+    let b : tie.After-may-fire-any = search needs in
+    (s .pre .0, (s .pre .1 .1, sym (b .may-fire-any .ensures) ∙ search needs))
 
 is-held-requires : tie.Need-is-held-requires
 is-held-requires c κs = search needs
