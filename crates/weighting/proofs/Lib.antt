@@ -1,4 +1,4 @@
-pub mod Sums
+pub mod Sum
 pub mod Shares
 pub mod Nets
 pub mod Entries

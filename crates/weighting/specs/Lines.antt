@@ -7,6 +7,7 @@ use lib.IntN.{ℤ, pos, _-ℤ_, _*ℤ_}
 use Rattle.ground.specs.Limits.{countLimit, noCapacity, entryLimit}
 use Rattle.ground.specs.Parts.{up, dn}
 use Rattle.weighting.specs.Weighting.{sum, entry, isZero}
+use Rattle.weighting.specs.declared.Sums.{Sums}
 
 -- the sum over k < n of f k, of numbers
 unfoldable pub total : ℕ → (ℕ → ℕ) → ℕ
@@ -28,10 +29,17 @@ shareLimit = productLimit + productLimit
 abbrev pub cell : List ℕ → ℕ → ℕ → ℕ → ℕ
 cell l start step k = getD l (start + k * step) 0
 
--- the signed sum along a line is not 0
-unfoldable pub lineFails : List ℕ → List ℕ → List ℤ → ℕ → ℕ → Bool
-lineFails pre post y start step =
-    not (isZero (sum (length y) (λ k. entry y k *ℤ (pos (cell post start step k) -ℤ pos (cell pre start step k)))))
+-- the sum along a line: entry times change
+unfoldable pub lineSum : List ℕ → List ℕ → List ℤ → ℕ → ℕ → ℤ
+lineSum pre post y start step = sum (length y) (λ k. entry y k *ℤ (pos (cell post start step k) -ℤ pos (cell pre start step k)))
+
+-- it is not 0
+abbrev pub lineFails : List ℕ → List ℕ → List ℤ → ℕ → ℕ → Bool
+lineFails pre post y start step = not (isZero (lineSum pre post y start step))
+
+-- the sum that the two unsigned ones stand for
+abbrev pub signed : Sums → ℤ
+signed s = pos (s .gained) -ℤ pos (s .lost)
 
 -- a line of n entries inside a list of `size`
 pub record Line (start step n size : ℕ) : Type 0 where
