@@ -21,10 +21,10 @@ use Rattle.net.proofs.Rows.{row-at}
 use Rattle.net.proofs.Refusals.{sound-or, sound-refuse, sized-is}
 use Rattle.net.proofs.Meaning.{gives-plain, kept}
 use Rattle.sets.specs.Sets.{In, Some, PutsInto, TakesFrom, Siphon, Trap, SiphonFails, TrapFails, Marked, Unmarked, Allowed}
-use Rattle.sets.specs.Answer.{meets, touches, escapes, lowestEscape, turned, noPlaces, setFault, siphonOf, trapOf, setNumbers}
+use Rattle.sets.specs.Answer.{meets, touches, escapes, lowestEscape, turned, noPlaces, setFault, judgedSet, siphonOf, trapOf, setNumbers}
 use Rattle.sets.specs.declared.SetAnswer.{SetAnswer}
 use Rattle.sets.specs.declared.SetAnswer.the-variants.{Yes, No, Refused}
-use Rattle.sets.proofs.Touches.{set-sound, turned-is}
+use Rattle.sets.proofs.Touches.{set-sound}
 
 -- ---- the numbers of two answers tell them apart: an answer can be read back from them
 abbrev back : List ℕ → SetAnswer
@@ -122,65 +122,55 @@ of-allowed net s a =
     go (no h) = absurd (a .some (λ p. out (omega arith) p (decLt p (length s))))
 
 -- ---- accepted exactly if the published definition holds, and the named transition is the lowest at which it fails
-module _ (net : Net) (s : List ℕ) (ok : Allowed net s) where
+module _ (net : Net) (s : List ℕ) (long : length s ≡ net .places) where
   escape : ℕ → Bool
   escape t = escapes (row (net .places) t (net .pre)) (row (net .places) t (net .post)) s
 
-  siphon-is : siphonOf net s ≡ cond (ltb (lowestEscape net s) (net .transitions)) (No (lowestEscape net s)) Yes
+  judged-yes : (judgedSet net s ≡ Yes) ↔ Siphon net s
+  unfolding escape
+  judged-yes = (λ e. go e (ltb (lowestEscape net s) (net .transitions)) refl, λ i. rw (le-ltb (lowestEscape net s) (net .transitions) (none i)))
+    where
+      none : Siphon net s → net .transitions ≤ lowestEscape net s
+      none i = let e = first-none escape (net .transitions) (λ t h. of-closed net s long t (i t h)) in omega arith
+
+      go : judgedSet net s ≡ Yes → (b : Bool) → ltb (lowestEscape net s) (net .transitions) ≡ b → Siphon net s
+      go e true q = let z : No (lowestEscape net s) ≡ Yes = rw q at e in let k : _≡_ {A = ℕ} 0 1 = cc in absurd (omega arith)
+      go e false q = let l = ltb-false (lowestEscape net s) (net .transitions) q in λ t h. closed-of net s long t (first-below escape (net .transitions) t (omega arith))
+
+  judged-no : (t : ℕ) → (judgedSet net s ≡ No t) ↔ SiphonFails net s t
+  unfolding escape
+  judged-no t = (λ e. go e (ltb (lowestEscape net s) (net .transitions)) refl, λ f. let q = low f in rw (q, lt-ltb t (net .transitions) (f .here)))
+    where
+      low : SiphonFails net s t → lowestEscape net s ≡ t
+      low f = first-at escape (net .transitions) t (λ u h. of-closed net s long u (f .lowest u h)) (of-escape net s long t (f .one) (f .other)) (f .here)
+
+      go : judgedSet net s ≡ No t → (b : Bool) → ltb (lowestEscape net s) (net .transitions) ≡ b → SiphonFails net s t
+      go e true q =
+          let z : No (lowestEscape net s) ≡ No t = rw q at e in
+          let k : lowestEscape net s ≡ t = cc in
+          let h = ltb-true _ _ q in
+          let x = escape-of net s long (lowestEscape net s) (first-passes escape (net .transitions) h) in
+          rw (← k) (record { here = h; one = x .0; other = x .1; lowest = λ u l. closed-of net s long u (first-below escape (net .transitions) u l) })
+      go e false q = let z : Yes ≡ No t = rw q at e in let k : _≡_ {A = ℕ} 0 1 = cc in absurd (omega arith)
+
+module _ (net : Net) (s : List ℕ) (ok : Allowed net s) where
+  siphon-is : siphonOf net s ≡ judgedSet net s
   siphon-is = rw (of-allowed net s ok)
 
   pub siphon-accepted : (siphonOf net s ≡ Yes) ↔ Siphon net s
-  unfolding escape
-  siphon-accepted = (λ e. go e (ltb (lowestEscape net s) (net .transitions)) refl, λ i. siphon-is ∙ rw (le-ltb (lowestEscape net s) (net .transitions) (none i)))
-    where
-      none : Siphon net s → net .transitions ≤ lowestEscape net s
-      none i = let e = first-none escape (net .transitions) (λ t h. of-closed net s (ok .long) t (i t h)) in omega arith
-
-      go : siphonOf net s ≡ Yes → (b : Bool) → ltb (lowestEscape net s) (net .transitions) ≡ b → Siphon net s
-      go e true q = let z : No (lowestEscape net s) ≡ Yes = sym (rw q at siphon-is) ∙ e in let k : _≡_ {A = ℕ} 0 1 = cc in absurd (omega arith)
-      go e false q = let l = ltb-false (lowestEscape net s) (net .transitions) q in λ t h. closed-of net s (ok .long) t (first-below escape (net .transitions) t (omega arith))
+  siphon-accepted = rw siphon-is (judged-yes net s (ok .long))
 
   pub siphon-fails-at : (t : ℕ) → (siphonOf net s ≡ No t) ↔ SiphonFails net s t
-  unfolding escape
-  siphon-fails-at t = (λ e. go e (ltb (lowestEscape net s) (net .transitions)) refl, λ f. let q = low f in siphon-is ∙ rw (q, lt-ltb t (net .transitions) (f .here)))
-    where
-      low : SiphonFails net s t → lowestEscape net s ≡ t
-      low f = first-at escape (net .transitions) t (λ u h. of-closed net s (ok .long) u (f .lowest u h)) (of-escape net s (ok .long) t (f .one) (f .other)) (f .here)
+  siphon-fails-at t = rw siphon-is (judged-no net s (ok .long) t)
 
-      go : siphonOf net s ≡ No t → (b : Bool) → ltb (lowestEscape net s) (net .transitions) ≡ b → SiphonFails net s t
-      go e true q =
-          let z : No (lowestEscape net s) ≡ No t = sym (rw q at siphon-is) ∙ e in
-          let k : lowestEscape net s ≡ t = cc in
-          let h = ltb-true _ _ q in
-          let x = escape-of net s (ok .long) (lowestEscape net s) (first-passes escape (net .transitions) h) in
-          rw (← k) (record { here = h; one = x .0; other = x .1; lowest = λ u l. closed-of net s (ok .long) u (first-below escape (net .transitions) u l) })
-      go e false q = let z : Yes ≡ No t = sym (rw q at siphon-is) ∙ e in let k : _≡_ {A = ℕ} 0 1 = cc in absurd (omega arith)
-
--- a trap is a siphon of the net with all arcs turned round
-module _ (net : Net) (s : List ℕ) (ok : Allowed net s) where
-  turned-sized : Sized net → Sized (turned net)
-  turned-sized z =
-      record {
-        some-places = z .some-places;
-        few-places = z .few-places;
-        some-transitions = z .some-transitions;
-        few-transitions = z .few-transitions;
-        pres = z .posts;
-        posts = z .pres;
-        capped = z .capped;
-      }
-
-  turned-allowed : Allowed (turned net) s
-  turned-allowed = record { sized = turned-sized (ok .sized); long = ok .long; some = ok .some }
-
-  trap-is : siphonOf (turned net) s ≡ trapOf net s
-  trap-is = turned-is net s (siphonOf (turned net) s) refl
+  trap-is : trapOf net s ≡ judgedSet (turned net) s
+  trap-is = rw (of-allowed net s ok)
 
   pub trap-accepted : (trapOf net s ≡ Yes) ↔ Trap net s
-  trap-accepted = let a = siphon-accepted (turned net) s turned-allowed in (λ e. a .0 (trap-is ∙ e), λ i. sym trap-is ∙ a .1 i)
+  trap-accepted = rw trap-is (judged-yes (turned net) s (ok .long))
 
   pub trap-fails-at : (t : ℕ) → (trapOf net s ≡ No t) ↔ TrapFails net s t
-  trap-fails-at t = let a = siphon-fails-at (turned net) s turned-allowed t in (λ e. a .0 (trap-is ∙ e), λ i. sym trap-is ∙ a .1 i)
+  trap-fails-at t = rw trap-is (judged-no (turned net) s (ok .long) t)
 
 -- ---- "An unmarked siphon stays unmarked and a marked trap stays marked, weights and capacities included."
 pub siphon-stays-empty : {net : Net} {s m w m′ : List ℕ} → Siphon net s → Fires net m w m′ → Unmarked net s m → Unmarked net s m′

@@ -9,11 +9,11 @@ use borrow.Author.Tests.{lt-ltb, le-ltb, ltb-true, ltb-false, le-leb, lt-leb, eq
 use Rattle.ground.specs.Lists.{first}
 use Rattle.ground.proofs.Scan.{Below, scan-hit, scan-end}
 use Rattle.net.specs.Net.{Net}
-use Rattle.net.specs.Given.{refuse, orElse, outside, unlike, netFault, Sized}
+use Rattle.net.specs.Given.{refuse, netFault, Sized}
 use Rattle.net.specs.declared.Fault.{Fault}
 use Rattle.net.specs.declared.Fault.the-variants.{Sound, Faulty}
 use Rattle.net.proofs.Refusals.{or-sound, refuse-sound, sized-of}
-use Rattle.sets.specs.Answer.{meets, touches, escapes, lowestEscape, turned, noPlaces, setFault, siphonOf, trapOf}
+use Rattle.sets.specs.Answer.{meets, touches, escapes, lowestEscape, turned, noPlaces, setFault, judgedSet, setAnswer, setNumbers}
 use Rattle.sets.specs.declared.SetAnswer.{SetAnswer}
 use Rattle.sets.specs.declared.SetAnswer.the-variants.{Yes, No, Refused}
 
@@ -103,33 +103,35 @@ set-sound net s e =
     let z = sized-of net (eqb (length s) (net .places)) (a .0) in
     (z .0, eqb-true (length s) (net .places) (z .1), refuse-sound (noPlaces s) 8 0 (a .1))
 
--- which answer
-module _ (net : Net) (s : List ℕ) (found : Fault) (e : found ≡ setFault net s) where
-  pub set-refused : (n at : ℕ) → found ≡ Faulty n at → Refused n at ≡ siphonOf net s
+-- what is judged, from the transition that was found
+module _ (net : Net) (s : List ℕ) (t : ℕ) (et : t ≡ lowestEscape net s) where
+  pub set-no : t < net .transitions → No t ≡ judgedSet net s
+  set-no h = rw (← et, lt-ltb t (net .transitions) h)
+
+  pub set-yes : net .transitions ≤ t → Yes ≡ judgedSet net s
+  set-yes h = rw (← et, le-ltb t (net .transitions) h)
+
+pub ruleset judgings = (set-no, set-yes)
+
+-- which answer, from the fault that was found
+module _ (f found : Fault) (e : found ≡ f) (judged : SetAnswer) where
+  pub set-refused : (n at : ℕ) → found ≡ Faulty n at → setNumbers (Refused n at) ≡ setNumbers (setAnswer f judged)
   set-refused n at q = rw (← e, q)
 
-  module _ (t : ℕ) (q : found ≡ Sound) (et : t ≡ lowestEscape net s) where
-    pub set-no : t < net .transitions → No t ≡ siphonOf net s
-    set-no h = rw (← e, q, ← et, lt-ltb t (net .transitions) h)
+  pub set-judged : (r : SetAnswer) → found ≡ Sound → r ≡ judged → setNumbers r ≡ setNumbers (setAnswer f judged)
+  set-judged r q k = rw (← e, q, k)
 
-    pub set-yes : net .transitions ≤ t → Yes ≡ siphonOf net s
-    set-yes h = rw (← e, q, ← et, le-ltb t (net .transitions) h)
+pub ruleset set-answers = (set-refused, set-judged)
 
-pub ruleset set-answers = (set-refused, set-no, set-yes)
-
--- turning the arcs round changes no refusal
-turned-fault : (net : Net) (fits : Bool) → netFault (turned net) fits ≡ netFault net fits
-unfolding netFault
-turned-fault net fits =
-    ap (λ (b : Bool). orElse (refuse (outside (net .places) || outside (net .transitions)) 1 0) (refuse (b || not fits) 2 0))
-    (other (unlike (length (net .post)) (net .transitions * net .places)) (unlike (length (net .pre)) (net .transitions * net .places)) (unlike (length (net .caps)) (net .places)))
-  where
-    other : (a b c : Bool) → (a || (b || c)) ≡ (b || (a || c))
-    other true true c = refl
-    other true false c = refl
-    other false true c = refl
-    other false false c = refl
-
-pub turned-is : (net : Net) (s : List ℕ) (r : SetAnswer) → r ≡ siphonOf (turned net) s → r ≡ trapOf net s
-unfolding setFault
-turned-is net s r e = e ∙ rw (turned-fault net (eqb (length s) (net .places)))
+-- a net stays sized with its arcs turned round
+pub turned-sized : (net : Net) → Sized net → Sized (turned net)
+turned-sized net z =
+    record {
+      some-places = z .some-places;
+      few-places = z .few-places;
+      some-transitions = z .some-transitions;
+      few-transitions = z .few-transitions;
+      pres = z .posts;
+      posts = z .pres;
+      capped = z .capped;
+    }

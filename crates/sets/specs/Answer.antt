@@ -41,16 +41,21 @@ noPlaces s = leb (length s) (first (λ p. ltb 0 (getD s p 0)) (length s))
 unfoldable pub setFault : Net → List ℕ → Fault
 setFault net s = orElse (netFault net (eqb (length s) (net .places))) (refuse (noPlaces s) 8 0)
 
--- a fault refuses; else no at the lowest failing transition t, if there is one of the T
-abbrev pub setAnswer : Fault → ℕ → ℕ → SetAnswer
-setAnswer (Faulty n at) T t = Refused n at
-setAnswer Sound T t = cond (ltb t T) (No t) Yes
+-- no at the lowest transition that does, if there is one; else yes
+abbrev pub judgedSet : Net → List ℕ → SetAnswer
+judgedSet net s = cond (ltb (lowestEscape net s) (net .transitions)) (No (lowestEscape net s)) Yes
+
+-- a fault refuses
+abbrev pub setAnswer : Fault → SetAnswer → SetAnswer
+setAnswer (Faulty n at) judged = Refused n at
+setAnswer Sound judged = judged
 
 abbrev pub siphonOf : Net → List ℕ → SetAnswer
-siphonOf net s = setAnswer (setFault net s) (net .transitions) (lowestEscape net s)
+siphonOf net s = setAnswer (setFault net s) (judgedSet net s)
 
+-- a trap is judged as a siphon of the net with all arcs turned round
 abbrev pub trapOf : Net → List ℕ → SetAnswer
-trapOf net s = setAnswer (setFault net s) (net .transitions) (lowestEscape (turned net) s)
+trapOf net s = setAnswer (setFault net s) (judgedSet (turned net) s)
 
 -- the numbers for each case: 81 00 (yes); 81 01 and the transition; 82, a refusal's number and position
 abbrev pub setNumbers : SetAnswer → List ℕ

@@ -5,7 +5,7 @@ ghost use mathlib.Core.Path.{_≡_};
 ghost use lib.ListN.{length};
 ghost use Rattle.net.specs.Net.{netOf};
 ghost use Rattle.net.specs.Given.{Sized};
-ghost use Rattle.sets.specs.Answer.{meets, touches, escapes, lowestEscape, setFault, siphonOf, trapOf, setNumbers};
+ghost use Rattle.sets.specs.Answer.{meets, touches, escapes, lowestEscape, setFault, judgedSet, siphonOf, trapOf, setNumbers};
 
 // The answer for a set: it is one; it is none, with the lowest failing transition; or refused,
 // with document 01's number and position.
@@ -103,7 +103,7 @@ fn set_fault(
     }
 }
 
-// The answer for a siphon.
+// Whether no transition puts into the set without taking from it, else the lowest that does.
 fn judge_set(
     places: usize,
     transitions: usize,
@@ -112,19 +112,15 @@ fn judge_set(
     caps: &[u16],
     set: &[u8],
 ) -> SetAnswer
-    ensures { λ r. ⌜ r ≡ siphonOf (netOf places transitions (now (pre .entry)) (now (post .entry)) (now (caps .entry))) (now (set .entry)) ⌝ }
+    requires { ⌜ Sized (netOf places transitions (now pre) (now post) (now caps)) ⌝ }
+    requires { ⌜ length (now set) ≡ places ⌝ }
+    ensures { λ r. ⌜ r ≡ judgedSet (netOf places transitions (now (pre .entry)) (now (post .entry)) (now (caps .entry))) (now (set .entry)) ⌝ }
 {
-    let found = set_fault(places, transitions, pre, post, caps, set);
-    match found {
-        Fault::Faulty(number, at) => SetAnswer::Refused(number, at),
-        Fault::Sound => {
-            let t = lowest_escape(places, transitions, pre, post, caps, set);
-            if t < transitions {
-                SetAnswer::No(t)
-            } else {
-                SetAnswer::Yes
-            }
-        }
+    let t = lowest_escape(places, transitions, pre, post, caps, set);
+    if t < transitions {
+        SetAnswer::No(t)
+    } else {
+        SetAnswer::Yes
     }
 }
 
@@ -139,11 +135,15 @@ pub fn siphon_set(
 ) -> SetAnswer
     ensures { λ r. ⌜ setNumbers r ≡ setNumbers (siphonOf (netOf places transitions (now (pre .entry)) (now (post .entry)) (now (caps .entry))) (now (set .entry))) ⌝ }
 {
-    judge_set(places, transitions, pre, post, caps, set)
+    let found = set_fault(places, transitions, pre, post, caps, set);
+    match found {
+        Fault::Faulty(number, at) => SetAnswer::Refused(number, at),
+        Fault::Sound => judge_set(places, transitions, pre, post, caps, set),
+    }
 }
 
-// Whether a set is a trap: every transition that takes from it also puts into it. It is a siphon
-// of the net with all arcs turned round.
+// Whether a set is a trap: every transition that takes from it also puts into it. It is judged as a
+// siphon of the net with all arcs turned round.
 pub fn trap_set(
     places: usize,
     transitions: usize,
@@ -154,5 +154,9 @@ pub fn trap_set(
 ) -> SetAnswer
     ensures { λ r. ⌜ setNumbers r ≡ setNumbers (trapOf (netOf places transitions (now (pre .entry)) (now (post .entry)) (now (caps .entry))) (now (set .entry))) ⌝ }
 {
-    judge_set(places, transitions, post, pre, caps, set)
+    let found = set_fault(places, transitions, pre, post, caps, set);
+    match found {
+        Fault::Faulty(number, at) => SetAnswer::Refused(number, at),
+        Fault::Sound => judge_set(places, transitions, post, pre, caps, set),
+    }
 }
