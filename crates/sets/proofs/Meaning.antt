@@ -1,52 +1,27 @@
 -- What the answers for sets mean, by the published definitions of firing, siphons and traps. Assumes nothing.
 use Prim.Native.Nat.{ℕ, _+_, _*_, _≤_, _<_}
 use mathlib.Core.Path.{_≡_, refl, sym, ap, _∙_}
-use mathlib.Core.Bool.{Bool, true, false, not, cond}
+use mathlib.Core.Bool.{Bool, true, false, not}
 use mathlib.Core.Logic.{_↔_}
-use mathlib.Core.List.{List, [], _∷_}
+use mathlib.Core.List.{List}
 use native.Mathlib.Omega.{arith}
 use native.Mathlib.Decide.{decLt}
-use lib.ListN.{length, getD, List·getD-eq-default}
-use lib.Dec.{ltb, eqb}
-use borrow.Author.Tests.{lt-ltb, le-ltb, ltb-true, ltb-false, lt-leb, leb-false, eq-eqb}
+use lib.ListN.{length, getD}
+use lib.Dec.{ltb}
+use borrow.Author.Tests.{lt-ltb, le-ltb, ltb-true, ltb-false}
 use Rattle.ground.specs.Lists.{first}
 use Rattle.ground.proofs.Tests.{never, and-true}
 use Rattle.ground.proofs.Scan.{first-at, first-none, first-below, first-passes}
 use Rattle.net.specs.Net.{Net, Pre, Post, tokens}
 use Rattle.net.specs.Firing.{Firing, Fires, Reachable}
 use Rattle.net.specs.Letter.{row}
-use Rattle.net.specs.Given.{refuse, netFault, Sized}
-use Rattle.net.specs.declared.Fault.the-variants.{Sound}
 use Rattle.net.proofs.Rows.{row-at}
-use Rattle.net.proofs.Refusals.{sound-or, sound-refuse, sized-is}
 use Rattle.net.proofs.Meaning.{gives-plain, kept}
-use Rattle.sets.specs.Sets.{In, Some, PutsInto, TakesFrom, Siphon, Trap, SiphonFails, TrapFails, Marked, Unmarked, Allowed}
-use Rattle.sets.specs.Answer.{meets, touches, escapes, lowestEscape, turned, noPlaces, setFault, judgedSet, siphonOf, trapOf, setNumbers}
-use Rattle.sets.specs.declared.SetAnswer.{SetAnswer}
-use Rattle.sets.specs.declared.SetAnswer.the-variants.{Yes, No, Refused}
-use Rattle.sets.proofs.Touches.{set-sound}
-
--- ---- the numbers of two answers tell them apart: an answer can be read back from them
-abbrev back : List ℕ → SetAnswer
-back (k ∷ n ∷ at ∷ l) = cond (eqb k 0x81) (No at) (Refused n at)
-back (k ∷ n ∷ []) = Yes
-back (k ∷ []) = Yes
-back [] = Yes
-
-back-is : (a : SetAnswer) → back (setNumbers a) ≡ a
-back-is Yes = refl
-back-is (No t) = refl
-back-is (Refused n at) = refl
-
-pub numbers-apart : (a b : SetAnswer) → setNumbers a ≡ setNumbers b → a ≡ b
-numbers-apart a b e = sym (back-is a) ∙ ap back e ∙ back-is b
-
--- each promise has one answer
-pub siphon-unique : (net : Net) (s : List ℕ) (r r′ : SetAnswer) → setNumbers r ≡ setNumbers (siphonOf net s) → setNumbers r′ ≡ setNumbers (siphonOf net s) → r ≡ r′
-siphon-unique net s r r′ p q = numbers-apart r r′ (p ∙ sym q)
-
-pub trap-unique : (net : Net) (s : List ℕ) (r r′ : SetAnswer) → setNumbers r ≡ setNumbers (trapOf net s) → setNumbers r′ ≡ setNumbers (trapOf net s) → r ≡ r′
-trap-unique net s r r′ p q = numbers-apart r r′ (p ∙ sym q)
+use Rattle.sets.specs.Sets.{In, Some, PutsInto, TakesFrom, Siphon, Trap, SiphonFails, TrapFails, Marked, Unmarked}
+use Rattle.sets.specs.Allowed.{Allowed}
+use Rattle.sets.specs.Answer.{meets, touches, escapes, lowestEscape, turned, judgedSet, siphonOf, trapOf}
+use Rattle.sets.specs.declared.SetAnswer.the-variants.{Yes, No}
+use Rattle.sets.proofs.Allowed.{of-allowed}
 
 -- ---- the tests say what is published
 -- a row touches the set exactly where some place of the set has an arc in it
@@ -99,27 +74,6 @@ module _ (net : Net) (s : List ℕ) (long : length s ≡ net .places) (t : ℕ) 
       go : (b : Bool) → escapes (row (net .places) t (net .pre)) (row (net .places) t (net .post)) s ≡ b → escapes (row (net .places) t (net .pre)) (row (net .places) t (net .post)) s ≡ true
       go true q = q
       go false q = absurd (n (closed-of q x))
-
--- nothing is refused exactly where the set is allowed
-pub allowed-of : (net : Net) (s : List ℕ) → setFault net s ≡ Sound → Allowed net s
-allowed-of net s e =
-    let w = set-sound net s e in
-    let l = leb-false (length s) (first (λ p. ltb 0 (getD s p 0)) (length s)) (w .2) in
-    record { sized = w .0; long = w .1; some = λ h. h _ (ltb-true _ _ (first-passes (λ p. ltb 0 (getD s p 0)) (length s) l)) }
-
-pub of-allowed : (net : Net) (s : List ℕ) → Allowed net s → setFault net s ≡ Sound
-unfolding setFault
-of-allowed net s a =
-    sound-or (netFault net (eqb (length s) (net .places))) (refuse (noPlaces s) 8 0) (sized-is net (eqb (length s) (net .places)) (a .sized) (eq-eqb (length s) (net .places) (a .long)))
-    (sound-refuse (noPlaces s) 8 0 (go (decLt (first (λ p. ltb 0 (getD s p 0)) (length s)) (length s))))
-  where
-    out : length s ≤ first (λ p. ltb 0 (getD s p 0)) (length s) → (p : ℕ) → Dec (p < length s) → In s p → ⊥
-    out h p (yes l) i = never (sym (lt-ltb 0 (getD s p 0) i) ∙ first-below (λ p. ltb 0 (getD s p 0)) (length s) p (omega arith))
-    out h p (no l) i = omega (arith, List·getD-eq-default s 0 {n = p} (omega arith))
-
-    go : Dec (first (λ p. ltb 0 (getD s p 0)) (length s) < length s) → noPlaces s ≡ false
-    go (yes h) = lt-leb (length s) (first (λ p. ltb 0 (getD s p 0)) (length s)) h
-    go (no h) = absurd (a .some (λ p. out (omega arith) p (decLt p (length s))))
 
 -- ---- accepted exactly if the published definition holds, and the named transition is the lowest at which it fails
 module _ (net : Net) (s : List ℕ) (long : length s ≡ net .places) where

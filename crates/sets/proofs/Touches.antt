@@ -1,19 +1,18 @@
 -- Laws of the tests and answers for sets, from what the code has found. Assumes nothing.
-use Prim.Native.Nat.{ℕ, _*_, _≤_, _<_}
+use Prim.Native.Nat.{ℕ, _≤_, _<_}
 use mathlib.Core.Path.{_≡_, refl, sym, ap, _∙_}
-use mathlib.Core.Bool.{Bool, true, false, not, _&&_, _||_}
+use mathlib.Core.Bool.{Bool, true, false, not, _&&_}
 use mathlib.Core.List.{List}
 use lib.ListN.{length, getD}
-use lib.Dec.{ltb, leb, eqb}
-use borrow.Author.Tests.{lt-ltb, le-ltb, ltb-true, ltb-false, le-leb, lt-leb, eqb-true}
+use lib.Dec.{ltb, leb}
+use borrow.Author.Tests.{lt-ltb, le-ltb, ltb-true, ltb-false, le-leb, lt-leb, not-true, not-false}
 use Rattle.ground.specs.Lists.{first}
 use Rattle.ground.proofs.Scan.{Below, scan-hit, scan-end}
 use Rattle.net.specs.Net.{Net}
-use Rattle.net.specs.Given.{refuse, netFault, Sized}
+use Rattle.net.specs.Given.{Sized}
 use Rattle.net.specs.declared.Fault.{Fault}
 use Rattle.net.specs.declared.Fault.the-variants.{Sound, Faulty}
-use Rattle.net.proofs.Refusals.{or-sound, refuse-sound, sized-of}
-use Rattle.sets.specs.Answer.{meets, touches, escapes, lowestEscape, turned, noPlaces, setFault, judgedSet, setAnswer, setNumbers}
+use Rattle.sets.specs.Answer.{meets, touches, escapes, lowestEscape, turned, noPlaces, judgedSet, setAnswer, setNumbers}
 use Rattle.sets.specs.declared.SetAnswer.{SetAnswer}
 use Rattle.sets.specs.declared.SetAnswer.the-variants.{Yes, No, Refused}
 
@@ -71,37 +70,15 @@ own-touches s =
         go true e = e ∙ sym (ap not (lt-leb b a (ltb-true a b e)))
         go false e = e ∙ sym (ap not (le-leb b a (ltb-false a b e)))
 
--- which refusal
-module _ (net : Net) (s : List ℕ) (found : Fault) (e : found ≡ netFault net (eqb (length s) (net .places))) where
-  pub set-net : (n at : ℕ) → found ≡ Faulty n at → Faulty n at ≡ setFault net s
-  unfolding setFault
-  set-net n at q = rw (← e, q)
+-- whether it has none, from the test a of its own row
+module _ (s : List ℕ) (a : Bool) (e : a ≡ touches s s) where
+  pub some-found : a ≡ true → noPlaces s ≡ false
+  some-found q = not-true (noPlaces s) (sym (own-touches s) ∙ sym e ∙ q)
 
-  module _ (a : Bool) (q : found ≡ Sound) (ea : a ≡ touches s s) where
-    empty-is : noPlaces s ≡ not a
-    empty-is = go (noPlaces s) refl
-      where
-        go : (b : Bool) → noPlaces s ≡ b → noPlaces s ≡ not a
-        go true k = rw (ea ∙ own-touches s, k)
-        go false k = rw (ea ∙ own-touches s, k)
+  pub none-found : a ≡ false → noPlaces s ≡ true
+  none-found q = not-false (noPlaces s) (sym (own-touches s) ∙ sym e ∙ q)
 
-    pub set-some : a ≡ true → Sound ≡ setFault net s
-    unfolding setFault
-    set-some t = rw (← e, q, empty-is, t)
-
-    pub set-empty : a ≡ false → Faulty 8 0 ≡ setFault net s
-    unfolding setFault
-    set-empty t = rw (← e, q, empty-is, t)
-
-pub ruleset set-faults = (set-net, set-some, set-empty)
-
--- what holds where nothing is refused
-pub set-sound : (net : Net) (s : List ℕ) → setFault net s ≡ Sound → Sized net × (length s ≡ net .places) × (noPlaces s ≡ false)
-unfolding setFault
-set-sound net s e =
-    let a = or-sound (netFault net (eqb (length s) (net .places))) (refuse (noPlaces s) 8 0) e in
-    let z = sized-of net (eqb (length s) (net .places)) (a .0) in
-    (z .0, eqb-true (length s) (net .places) (z .1), refuse-sound (noPlaces s) 8 0 (a .1))
+pub ruleset places-found = (some-found, none-found)
 
 -- what is judged, from the transition that was found
 module _ (net : Net) (s : List ℕ) (t : ℕ) (et : t ≡ lowestEscape net s) where

@@ -1,4 +1,5 @@
--- The answers for a siphon and a trap, by tests on one place's numbers and then by number of the transition.
+-- To be believed: the answers for a siphon and a trap, by tests on one place's numbers and then by number of the transition. proofs/Meaning.antt shows that
+-- they say what is published.
 use Prim.Native.Nat.{ℕ}
 use mathlib.Core.Bool.{Bool, not, cond, _&&_}
 use mathlib.Core.List.{List, [], _∷_}

@@ -14,7 +14,8 @@ use Rattle.ground.proofs.Tests.{never}
 use Rattle.ground.proofs.Scan.{first-below}
 use Rattle.ground.proofs.Parts.{parts-eq}
 use Rattle.net.specs.Net.{Net, tokens}
-use Rattle.weighting.specs.Weighting.{entry, weight, isZero, isNegative, picks, lowestEntry}
+use Rattle.weighting.specs.Weighting.{entry, weight}
+use Rattle.weighting.specs.Tests.{isZero, isNegative, picks, lowestEntry}
 use Rattle.weighting.specs.Lines.{total, held}
 use Rattle.weighting.proofs.Sum.{sum-same, sum-pos}
 

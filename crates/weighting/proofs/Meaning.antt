@@ -21,18 +21,21 @@ use Rattle.net.specs.Firing.{Gives, Fires, nothing, letter, Reachable}
 use Rattle.net.specs.declared.Fault.{Fault}
 use Rattle.net.specs.declared.Fault.the-variants.{Sound, Faulty}
 use Rattle.net.proofs.Meaning.{kept}
-use Rattle.weighting.specs.Weighting.{sum, entry, placeSum, PlaceInvariant, transitionSum, TransitionInvariant, NoNegative, weight, count, Lowest, Allowed, lowestTransition, lowestPlace, lowestEntry, hasNegative}
+use Rattle.weighting.specs.Weighting.{sum, entry, placeSum, PlaceInvariant, transitionSum, TransitionInvariant, NoNegative, weight, count, Lowest}
+use Rattle.weighting.specs.Tests.{lowestTransition, lowestPlace, lowestEntry, hasNegative}
+use Rattle.weighting.specs.Allowed.{Allowed}
 use Rattle.weighting.specs.Lines.{total, held}
 use Rattle.weighting.specs.Place.{placeOf}
 use Rattle.weighting.specs.declared.PlaceWeighting.the-variants as place
 use Rattle.weighting.specs.Transition.{transitionOf}
 use Rattle.weighting.specs.declared.TransitionWeighting.the-variants as transition
-use Rattle.weighting.specs.Bound.{WholePart, Judged, boundFault, foundBound, boundOf}
+use Rattle.weighting.specs.Bound.{WholePart, Judged, foundBound, boundOf}
+use Rattle.weighting.specs.Tests.{boundFault}
 use Rattle.weighting.specs.declared.Bound.the-variants.{Bounded, Refused}
 use Rattle.weighting.proofs.Sum.{mul-plus, sum-same, sum-both, sum-none, sum-at, total-at}
 use Rattle.weighting.proofs.Entries.{no-negative, weight-is}
-use Rattle.weighting.proofs.Answers.{bound-sound}
-use Rattle.weighting.proofs.Lowest.{all-zero, none-found, named, unnamed, no-negative-of, of-no-negative, of-allowed}
+use Rattle.weighting.proofs.Allowed.{of-allowed, bound-allowed-of}
+use Rattle.weighting.proofs.Lowest.{all-zero, none-found, named, unnamed, no-negative-of, of-no-negative}
 
 -- ---- accepted exactly if the published definition holds, and the named one is the lowest at which it fails
 module _ (net : Net) (y : List ℤ) (ok : Allowed net (net .places) y) where
@@ -195,4 +198,4 @@ bound-holds {net} {initial} {m} y p b e r = go (boundFault net initial y p) refl
     go Sound q =
         let z : foundBound net initial y p ≡ Bounded b = rw q at e in
         let j : Judged net initial y p (Bounded b) = rw z at (bound-judged net initial y p) in
-        invariant-bounds y p b (j .0) (j .1) (j .3) (bound-sound net initial y p q .here) r
+        invariant-bounds y p b (j .0) (j .1) (j .3) (bound-allowed-of net initial y p q .below) r

@@ -10,7 +10,8 @@ use Rattle.ground.specs.Lists.{first}
 use Rattle.net.specs.Net.{Net, Change}
 use Rattle.net.specs.Given.{Sized}
 use Rattle.net.proofs.Rows.{pre-end}
-use Rattle.weighting.specs.Weighting.{sum, entry, isZero, placeSum, transitionSum, lowestTransition, lowestPlace}
+use Rattle.weighting.specs.Weighting.{sum, entry, placeSum, transitionSum}
+use Rattle.weighting.specs.Tests.{isZero, lowestTransition, lowestPlace}
 use Rattle.weighting.specs.Lines.{cell, lineSum, lineFails, Lines}
 use Rattle.weighting.proofs.Sum.{sum-same}
 

@@ -1,4 +1,4 @@
--- What the code adds up: two unsigned sums along one line of the tables, a row for a transition or a column for a place.
+-- Only for the code's walk, no answer is made of it: two unsigned sums along one line of the tables, a row for a transition or a column for a place.
 use Prim.Native.Nat.{ℕ, zero, suc, _+_, _*_, _≤_, _<_}
 use mathlib.Core.Bool.{Bool, not}
 use mathlib.Core.List.{List}
@@ -6,7 +6,8 @@ use lib.ListN.{length, getD}
 use lib.IntN.{ℤ, pos, _-ℤ_, _*ℤ_}
 use Rattle.ground.specs.Limits.{countLimit, noCapacity, entryLimit}
 use Rattle.ground.specs.Parts.{up, dn}
-use Rattle.weighting.specs.Weighting.{sum, entry, isZero}
+use Rattle.weighting.specs.Weighting.{sum, entry}
+use Rattle.weighting.specs.Tests.{isZero}
 use Rattle.weighting.specs.declared.Sums.{Sums}
 
 -- the sum over k < n of f k, of numbers

@@ -12,11 +12,11 @@ ghost use Rattle.ground.specs.Limits.{countLimit, entryLimit};
 ghost use Rattle.ground.specs.Lists.{first};
 ghost use Rattle.net.specs.Net.{netOf};
 ghost use Rattle.net.specs.Given.{Sized, refuse};
-ghost use Rattle.weighting.specs.Weighting.{isZero, picks, lowestEntry, lowestTransition, lowestPlace, allZero, weightingFault};
+ghost use Rattle.weighting.specs.Tests.{isZero, picks, lowestEntry, lowestTransition, lowestPlace, allZero, weightingFault, boundFault};
 ghost use Rattle.weighting.specs.Lines.{productLimit, share, shareLimit, total, signed, lineSum, lineFails, Line, Lines, held};
 ghost use Rattle.weighting.specs.Place.{placeOf, placeNumbers};
 ghost use Rattle.weighting.specs.Transition.{transitionOf, transitionNumbers};
-ghost use Rattle.weighting.specs.Bound.{boundFault, foundBound, boundOf, boundNumbers};
+ghost use Rattle.weighting.specs.Bound.{foundBound, boundOf, boundNumbers};
 
 // The answer for a place weighting: invariant; not invariant, with the lowest failing transition;
 // or refused, with document 01's number and position.
@@ -303,7 +303,7 @@ fn bound_fault(
     ensures { λ r. ⌜ r ≡ boundFault (netOf places transitions (now (pre .entry)) (now (post .entry)) (now (caps .entry))) (now (initial .entry)) (now (y .entry)) place ⌝ }
 {
     let fits = y.len() == places;
-    let found = net::first_fault(places, transitions, pre, post, caps, initial, fits);
+    let found = net::marked_fault(places, transitions, pre, post, caps, initial, fits);
     match found {
         Fault::Faulty(number, at) => Fault::Faulty(number, at),
         Fault::Sound => {

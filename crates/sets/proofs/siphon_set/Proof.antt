@@ -1,7 +1,8 @@
 use mathlib.Core.Path.{sym, _∙_}
 use denote.Ref.{now}
 use Rattle.net.specs.Net.{netOf}
-use Rattle.sets.proofs.Touches.{set-sound, turned-sized, set-answers}
+use Rattle.sets.proofs.Touches.{turned-sized, set-answers}
+use Rattle.sets.proofs.Allowed.{allowed-of}
 use borrow.Author.Needs.{needs}
 use Rattle.sets.proofs.siphon_set.Statement.{statement}
 use Rattle.sets.proofs.siphon_set.Tie as tie
@@ -21,8 +22,8 @@ judge-set-requires c κs =
     let s : tie.Start = search needs in
     let f : tie.After-set-fault = search needs in
     let a = s .args in
-    let w = set-sound (netOf (a .places) (a .transitions) (now (a .pre)) (now (a .post)) (now (a .caps))) (now (a .set)) (sym (f .set-fault .ensures) ∙ search needs) in
-    let z = w .0 in
+    let w = allowed-of (netOf (a .places) (a .transitions) (now (a .pre)) (now (a .post)) (now (a .caps))) (now (a .set)) (sym (f .set-fault .ensures) ∙ search needs) in
+    let z = w .sized in
     let t = turned-sized (netOf (a .places) (a .transitions) (now (a .pre)) (now (a .post)) (now (a .caps))) z in
     search needs
 

@@ -3,7 +3,7 @@ use mathlib.Core.Path.{ap, _∙_}
 use mathlib.Core.Bool.{not}
 use native.Mathlib.Omega.{arith}
 use lib.IntN.{ℤ}
-use Rattle.weighting.specs.Weighting.{isZero}
+use Rattle.weighting.specs.Tests.{isZero}
 use Rattle.weighting.specs.Lines.{lineFails}
 use Rattle.ground.proofs.Scan.{Below, scans}
 use borrow.Author.Needs.{needs}
