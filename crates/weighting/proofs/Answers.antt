@@ -13,7 +13,7 @@ use Rattle.net.specs.declared.Fault.{Fault}
 use Rattle.net.specs.declared.Fault.the-variants.{Sound, Faulty}
 use Rattle.weighting.specs.Weighting.{entry, weight}
 use Rattle.weighting.specs.Tests.{lowestTransition, lowestPlace, lowestEntry, allZero, weightingFault}
-use Rattle.weighting.specs.Lines.{total, held}
+use Rattle.weighting.specs.Walk.{total, held}
 use Rattle.weighting.specs.Place.{placeOf, placeNumbers}
 use Rattle.weighting.specs.declared.PlaceWeighting.the-variants as place
 use Rattle.weighting.specs.Transition.{transitionOf, transitionNumbers}

@@ -16,7 +16,7 @@ use Rattle.ground.proofs.Parts.{parts-eq}
 use Rattle.net.specs.Net.{Net, tokens}
 use Rattle.weighting.specs.Weighting.{entry, weight}
 use Rattle.weighting.specs.Tests.{isZero, isNegative, picks, lowestEntry}
-use Rattle.weighting.specs.Lines.{total, held}
+use Rattle.weighting.specs.Walk.{total, held}
 use Rattle.weighting.proofs.Sum.{sum-same, sum-pos}
 
 -- an entry's sign by its parts u and d

@@ -24,7 +24,7 @@ use Rattle.net.proofs.Meaning.{kept}
 use Rattle.weighting.specs.Weighting.{sum, entry, placeSum, PlaceInvariant, transitionSum, TransitionInvariant, NoNegative, weight, count, Lowest}
 use Rattle.weighting.specs.Tests.{lowestTransition, lowestPlace, lowestEntry, hasNegative}
 use Rattle.weighting.specs.Allowed.{Allowed}
-use Rattle.weighting.specs.Lines.{total, held}
+use Rattle.weighting.specs.Walk.{total, held}
 use Rattle.weighting.specs.Place.{placeOf}
 use Rattle.weighting.specs.declared.PlaceWeighting.the-variants as place
 use Rattle.weighting.specs.Transition.{transitionOf}

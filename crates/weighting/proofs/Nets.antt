@@ -12,7 +12,7 @@ use Rattle.net.specs.Given.{Sized}
 use Rattle.net.proofs.Rows.{pre-end}
 use Rattle.weighting.specs.Weighting.{sum, entry, placeSum, transitionSum}
 use Rattle.weighting.specs.Tests.{isZero, lowestTransition, lowestPlace}
-use Rattle.weighting.specs.Lines.{cell, lineSum, lineFails, Lines}
+use Rattle.weighting.specs.Walk.{cell, lineSum, lineFails, Lines}
 use Rattle.weighting.proofs.Sum.{sum-same}
 
 module _ (net : Net) (sized : Sized net) (y : List ℤ) where

@@ -15,7 +15,7 @@ use Rattle.ground.specs.Parts.{up, dn}
 use Rattle.ground.proofs.Parts.{minus-is}
 use Rattle.weighting.specs.Weighting.{sum, entry}
 use Rattle.weighting.specs.Tests.{isZero}
-use Rattle.weighting.specs.Lines.{total, productLimit, share, shareLimit, cell, lineSum, held}
+use Rattle.weighting.specs.Walk.{total, productLimit, share, shareLimit, cell, lineSum, held}
 use Rattle.weighting.proofs.Sum.{mul-sub, zero-sub, sum-same, two-sums, total-none, total-more}
 
 -- an entry's part times a number of 16 bits

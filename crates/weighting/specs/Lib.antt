@@ -4,4 +4,4 @@ pub mod Allowed
 pub mod Place
 pub mod Transition
 pub mod Bound
-pub mod Lines
+pub mod Walk

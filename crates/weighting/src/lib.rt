@@ -13,7 +13,7 @@ ghost use Rattle.ground.specs.Lists.{first};
 ghost use Rattle.net.specs.Net.{netOf};
 ghost use Rattle.net.specs.Given.{Sized, refuse};
 ghost use Rattle.weighting.specs.Tests.{isZero, picks, lowestEntry, lowestTransition, lowestPlace, allZero, weightingFault, boundFault};
-ghost use Rattle.weighting.specs.Lines.{productLimit, share, shareLimit, total, signed, lineSum, lineFails, Line, Lines, held};
+ghost use Rattle.weighting.specs.Walk.{productLimit, share, shareLimit, total, signed, lineSum, lineFails, Line, Lines, held};
 ghost use Rattle.weighting.specs.Place.{placeOf, placeNumbers};
 ghost use Rattle.weighting.specs.Transition.{transitionOf, transitionNumbers};
 ghost use Rattle.weighting.specs.Bound.{foundBound, boundOf, boundNumbers};
@@ -57,8 +57,7 @@ fn times(part: u32, n: u16) -> u64
     (part * n as u32) as u64
 }
 
-// What an entry and one cell add to the first of the two sums; with takes and puts exchanged, to
-// the second.
+// What an entry and one cell add to what is gained; with takes and puts exchanged, to what is lost.
 fn share_of(x: i16, takes: Weight, puts: Weight) -> u64
     ensures { λ r. ⌜ (r ≡ share x takes puts) × (r ≤ shareLimit) ⌝ }
 {

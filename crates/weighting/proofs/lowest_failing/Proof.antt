@@ -4,7 +4,7 @@ use mathlib.Core.Bool.{not}
 use native.Mathlib.Omega.{arith}
 use lib.IntN.{ℤ}
 use Rattle.weighting.specs.Tests.{isZero}
-use Rattle.weighting.specs.Lines.{lineFails}
+use Rattle.weighting.specs.Walk.{lineFails}
 use Rattle.ground.proofs.Scan.{Below, scans}
 use borrow.Author.Needs.{needs}
 use Rattle.weighting.proofs.lowest_failing.Statement.{statement}

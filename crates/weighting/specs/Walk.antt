@@ -19,7 +19,7 @@ total (suc n) f = total n f + f n
 abbrev pub productLimit : ℕ
 productLimit = entryLimit * noCapacity
 
--- what the entry x adds to the first sum: x > 0 by what is put, x < 0 by what is taken
+-- what the entry x adds to what is gained, x > 0 by what is put and x < 0 by what is taken; with takes and puts exchanged, to what is lost
 abbrev pub share : ℤ → ℕ → ℕ → ℕ
 share x takes puts = up x * puts + dn x * takes
 
@@ -53,6 +53,6 @@ pub record Lines (lines apart step n size : ℕ) : Type 0 where
   pub some : 1 ≤ n
   pub inside : (i k : ℕ) → i < lines → k < n → i * apart + k * step < size
 
--- the sum of y x marking where no entry is negative
+-- what place p adds to the sum of y x marking where no entry is negative
 abbrev pub held : List ℤ → List ℕ → ℕ → ℕ
 held y m p = up (entry y p) * getD m p 0
