@@ -1,5 +1,5 @@
 -- What the answers for sets mean, by the published definitions of firing, siphons and traps. Assumes nothing.
-use Prim.Native.Nat.{ℕ, _+_, _*_, _≤_, _<_}
+use Prim.Native.Nat.{ℕ, _≤_, _<_}
 use mathlib.Core.Path.{_≡_, refl, sym, ap, _∙_}
 use mathlib.Core.Bool.{Bool, true, false, not}
 use mathlib.Core.Logic.{_↔_}
@@ -14,8 +14,6 @@ use Rattle.ground.proofs.Tests.{never, and-true}
 use Rattle.ground.proofs.Scan.{first-at, first-none, first-below, first-passes}
 use Rattle.net.specs.Net.{Net, Pre, Post, tokens}
 use Rattle.net.specs.Firing.{Firing, Fires, Reachable}
-use Rattle.net.specs.Letter.{row}
-use Rattle.net.proofs.Rows.{row-at}
 use Rattle.net.proofs.Meaning.{gives-plain, kept}
 use Rattle.sets.specs.Sets.{In, Some, PutsInto, TakesFrom, Siphon, Trap, SiphonFails, TrapFails, Marked, Unmarked}
 use Rattle.sets.specs.Allowed.{Allowed}
@@ -25,86 +23,80 @@ use Rattle.sets.proofs.Allowed.{of-allowed}
 
 -- ---- the tests say what is published
 -- a row touches the set exactly where some place of the set has an arc in it
-module _ (P t : ℕ) (l s : List ℕ) (long : length s ≡ P) where
-  touch-of : touches (row P t l) s ≡ true → Some P s (λ p. getD l (t * P + p) 0)
+module _ (P : ℕ) (s : List ℕ) (weight : ℕ → ℕ) (long : length s ≡ P) where
+  touch-of : touches s weight ≡ true → Some P s weight
   unfolding touches
   touch-of e =
-      let f : ℕ → Bool = λ p. meets (getD (row P t l) p 0) (getD s p 0) in
+      let f : ℕ → Bool = λ p. meets (weight p) (getD s p 0) in
       let h = ltb-true (first f (length s)) (length s) e in
       let m = and-true _ _ (first-passes f (length s) h) in
-      let b : first f (length s) < P = omega arith in
-      record { place = first f (length s); here = b; member = ltb-true _ _ (m .0); some = rw (← row-at P t l (first f (length s)) b) (ltb-true _ _ (m .1)) }
+      record { place = first f (length s); here = rw (← long) h; member = ltb-true _ _ (m .0); some = ltb-true _ _ (m .1) }
 
-  of-touch : Some P s (λ p. getD l (t * P + p) 0) → touches (row P t l) s ≡ true
+  of-touch : Some P s weight → touches s weight ≡ true
   unfolding touches
-  of-touch x = go (decLt (first (λ p. meets (getD (row P t l) p 0) (getD s p 0)) (length s)) (length s))
+  of-touch x = go (decLt (first (λ p. meets (weight p) (getD s p 0)) (length s)) (length s))
     where
-      met : meets (getD (row P t l) (x .place) 0) (getD s (x .place) 0) ≡ true
-      met = rw (lt-ltb 0 (getD s (x .place) 0) (x .member), row-at P t l (x .place) (x .here)) (lt-ltb 0 _ (x .some))
+      met : meets (weight (x .place)) (getD s (x .place) 0) ≡ true
+      met = rw (lt-ltb 0 (getD s (x .place) 0) (x .member)) (lt-ltb 0 _ (x .some))
 
-      go : Dec (first (λ p. meets (getD (row P t l) p 0) (getD s p 0)) (length s) < length s) → ltb (first (λ p. meets (getD (row P t l) p 0) (getD s p 0)) (length s)) (length s) ≡ true
+      go : Dec (first (λ p. meets (weight p) (getD s p 0)) (length s) < length s) → ltb (first (λ p. meets (weight p) (getD s p 0)) (length s)) (length s) ≡ true
       go (yes h) = lt-ltb _ _ h
-      go (no h) = never (sym met ∙ first-below (λ p. meets (getD (row P t l) p 0) (getD s p 0)) (length s) (x .place) (omega (arith, x .here)))
+      go (no h) = never (sym met ∙ first-below (λ p. meets (weight p) (getD s p 0)) (length s) (x .place) (omega (arith, x .here)))
 
 module _ (net : Net) (s : List ℕ) (long : length s ≡ net .places) (t : ℕ) where
-  escape-of : escapes (row (net .places) t (net .pre)) (row (net .places) t (net .post)) s ≡ true → PutsInto net s t × (TakesFrom net s t → ⊥)
+  escape-of : escapes net s t ≡ true → PutsInto net s t × (TakesFrom net s t → ⊥)
   unfolding escapes
   escape-of e =
       let a = and-true _ _ e in
-      (touch-of (net .places) t (net .post) s long (a .0), λ x. never (sym (a .1) ∙ ap not (of-touch (net .places) t (net .pre) s long x)))
+      (touch-of (net .places) s (λ p. Post net p t) long (a .0), λ x. never (sym (a .1) ∙ ap not (of-touch (net .places) s (λ p. Pre net p t) long x)))
 
-  closed-of : escapes (row (net .places) t (net .pre)) (row (net .places) t (net .post)) s ≡ false → PutsInto net s t → TakesFrom net s t
+  closed-of : escapes net s t ≡ false → PutsInto net s t → TakesFrom net s t
   unfolding escapes
-  closed-of e x = go (touches (row (net .places) t (net .pre)) s) refl
+  closed-of e x = go (touches s (λ p. Pre net p t)) refl
     where
-      go : (b : Bool) → touches (row (net .places) t (net .pre)) s ≡ b → TakesFrom net s t
-      go true q = touch-of (net .places) t (net .pre) s long q
-      go false q = never (rw (of-touch (net .places) t (net .post) s long x, q) at e)
+      go : (b : Bool) → touches s (λ p. Pre net p t) ≡ b → TakesFrom net s t
+      go true q = touch-of (net .places) s (λ p. Pre net p t) long q
+      go false q = never (rw (of-touch (net .places) s (λ p. Post net p t) long x, q) at e)
 
-  of-closed : (PutsInto net s t → TakesFrom net s t) → escapes (row (net .places) t (net .pre)) (row (net .places) t (net .post)) s ≡ false
-  of-closed f = go (escapes (row (net .places) t (net .pre)) (row (net .places) t (net .post)) s) refl
+  of-closed : (PutsInto net s t → TakesFrom net s t) → escapes net s t ≡ false
+  of-closed f = go (escapes net s t) refl
     where
-      go : (b : Bool) → escapes (row (net .places) t (net .pre)) (row (net .places) t (net .post)) s ≡ b → escapes (row (net .places) t (net .pre)) (row (net .places) t (net .post)) s ≡ false
+      go : (b : Bool) → escapes net s t ≡ b → escapes net s t ≡ false
       go true q = let x = escape-of q in absurd (x .1 (f (x .0)))
       go false q = q
 
-  of-escape : PutsInto net s t → (TakesFrom net s t → ⊥) → escapes (row (net .places) t (net .pre)) (row (net .places) t (net .post)) s ≡ true
-  of-escape x n = go (escapes (row (net .places) t (net .pre)) (row (net .places) t (net .post)) s) refl
+  of-escape : PutsInto net s t → (TakesFrom net s t → ⊥) → escapes net s t ≡ true
+  of-escape x n = go (escapes net s t) refl
     where
-      go : (b : Bool) → escapes (row (net .places) t (net .pre)) (row (net .places) t (net .post)) s ≡ b → escapes (row (net .places) t (net .pre)) (row (net .places) t (net .post)) s ≡ true
+      go : (b : Bool) → escapes net s t ≡ b → escapes net s t ≡ true
       go true q = q
       go false q = absurd (n (closed-of q x))
 
 -- ---- accepted exactly if the published definition holds, and the named transition is the lowest at which it fails
 module _ (net : Net) (s : List ℕ) (long : length s ≡ net .places) where
-  escape : ℕ → Bool
-  escape t = escapes (row (net .places) t (net .pre)) (row (net .places) t (net .post)) s
-
   judged-yes : (judgedSet net s ≡ Yes) ↔ Siphon net s
-  unfolding escape
   judged-yes = (λ e. go e (ltb (lowestEscape net s) (net .transitions)) refl, λ i. rw (le-ltb (lowestEscape net s) (net .transitions) (none i)))
     where
       none : Siphon net s → net .transitions ≤ lowestEscape net s
-      none i = let e = first-none escape (net .transitions) (λ t h. of-closed net s long t (i t h)) in omega arith
+      none i = let e = first-none (escapes net s) (net .transitions) (λ t h. of-closed net s long t (i t h)) in omega arith
 
       go : judgedSet net s ≡ Yes → (b : Bool) → ltb (lowestEscape net s) (net .transitions) ≡ b → Siphon net s
       go e true q = let z : No (lowestEscape net s) ≡ Yes = rw q at e in let k : _≡_ {A = ℕ} 0 1 = cc in absurd (omega arith)
-      go e false q = let l = ltb-false (lowestEscape net s) (net .transitions) q in λ t h. closed-of net s long t (first-below escape (net .transitions) t (omega arith))
+      go e false q = let l = ltb-false (lowestEscape net s) (net .transitions) q in λ t h. closed-of net s long t (first-below (escapes net s) (net .transitions) t (omega arith))
 
   judged-no : (t : ℕ) → (judgedSet net s ≡ No t) ↔ SiphonFails net s t
-  unfolding escape
   judged-no t = (λ e. go e (ltb (lowestEscape net s) (net .transitions)) refl, λ f. let q = low f in rw (q, lt-ltb t (net .transitions) (f .here)))
     where
       low : SiphonFails net s t → lowestEscape net s ≡ t
-      low f = first-at escape (net .transitions) t (λ u h. of-closed net s long u (f .lowest u h)) (of-escape net s long t (f .one) (f .other)) (f .here)
+      low f = first-at (escapes net s) (net .transitions) t (λ u h. of-closed net s long u (f .lowest u h)) (of-escape net s long t (f .one) (f .other)) (f .here)
 
       go : judgedSet net s ≡ No t → (b : Bool) → ltb (lowestEscape net s) (net .transitions) ≡ b → SiphonFails net s t
       go e true q =
           let z : No (lowestEscape net s) ≡ No t = rw q at e in
           let k : lowestEscape net s ≡ t = cc in
           let h = ltb-true _ _ q in
-          let x = escape-of net s long (lowestEscape net s) (first-passes escape (net .transitions) h) in
-          rw (← k) (record { here = h; one = x .0; other = x .1; lowest = λ u l. closed-of net s long u (first-below escape (net .transitions) u l) })
+          let x = escape-of net s long (lowestEscape net s) (first-passes (escapes net s) (net .transitions) h) in
+          rw (← k) (record { here = h; one = x .0; other = x .1; lowest = λ u l. closed-of net s long u (first-below (escapes net s) (net .transitions) u l) })
       go e false q = let z : Yes ≡ No t = rw q at e in let k : _≡_ {A = ℕ} 0 1 = cc in absurd (omega arith)
 
 module _ (net : Net) (s : List ℕ) (ok : Allowed net s) where

@@ -1,14 +1,15 @@
 -- Laws of the tests and answers for sets, from what the code has found. Assumes nothing.
-use Prim.Native.Nat.{ℕ, _≤_, _<_}
+use Prim.Native.Nat.{ℕ, _+_, _≤_, _<_}
 use mathlib.Core.Path.{_≡_, refl, sym, ap, _∙_}
 use mathlib.Core.Bool.{Bool, true, false, not, _&&_}
 use mathlib.Core.List.{List}
+use native.Mathlib.Omega.{arith}
 use lib.ListN.{length, getD}
 use lib.Dec.{ltb, leb}
 use borrow.Author.Tests.{lt-ltb, le-ltb, ltb-true, ltb-false, le-leb, lt-leb, not-true, not-false}
 use Rattle.ground.specs.Lists.{first}
 use Rattle.ground.proofs.Scan.{Below, scan-hit, scan-end}
-use Rattle.net.specs.Net.{Net}
+use Rattle.net.specs.Net.{Net, Pre, Post}
 use Rattle.net.specs.Given.{Sized}
 use Rattle.net.specs.declared.Fault.{Fault}
 use Rattle.net.specs.declared.Fault.the-variants.{Sound, Faulty}
@@ -25,43 +26,46 @@ module _ (weight member : ℕ) where
   meets-out h = rw (le-ltb 0 member h)
 
 -- a row: p is where the scan is, r the test's answer there
-module _ (weights s : List ℕ) (p : ℕ) (lo : Below (λ p. meets (getD weights p 0) (getD s p 0)) p) where
-  pub touch-hit : (r : Bool) → r ≡ meets (getD weights p 0) (getD s p 0) → r ≡ true → p < length s → true ≡ touches weights s
+module _ (weight : ℕ → ℕ) (s : List ℕ) (p : ℕ) (lo : Below (λ p. meets (weight p) (getD s p 0)) p) where
+  pub touch-hit : (r : Bool) → r ≡ meets (weight p) (getD s p 0) → r ≡ true → p < length s → true ≡ touches s weight
   unfolding touches
   touch-hit r e q h =
-      let f = scan-hit (λ p. meets (getD weights p 0) (getD s p 0)) (length s) p r lo e q h in
+      let f = scan-hit (λ p. meets (weight p) (getD s p 0)) (length s) p r lo e q h in
       rw (← f) (sym (lt-ltb p (length s) h))
 
-  pub touch-none : p ≤ length s → length s ≤ p → false ≡ touches weights s
+  pub touch-none : p ≤ length s → length s ≤ p → false ≡ touches s weight
   unfolding touches
   touch-none h l =
-      let f = scan-end (λ p. meets (getD weights p 0) (getD s p 0)) (length s) p lo h l in
+      let f = scan-end (λ p. meets (weight p) (getD s p 0)) (length s) p lo h l in
       rw (← f) (sym (le-ltb p (length s) l))
 
 pub ruleset touching = (meets-in, meets-out, touch-hit, touch-none)
 
 -- a transition: a and b tell whether it puts into the set, and takes from it
-module _ (takes puts s : List ℕ) (a b : Bool) (ea : a ≡ touches puts s) where
-  pub escape-asked : a ≡ true → b ≡ touches takes s → not b ≡ escapes takes puts s
+module _ (net : Net) (s : List ℕ) (t : ℕ) (a b : Bool) (ea : a ≡ touches s (λ p. Post net p t)) where
+  pub escape-asked : a ≡ true → b ≡ touches s (λ p. Pre net p t) → not b ≡ escapes net s t
   unfolding escapes
   escape-asked q eb = rw (← ea, q, ← eb)
 
-  pub escape-none : a ≡ false → false ≡ escapes takes puts s
+  pub escape-none : a ≡ false → false ≡ escapes net s t
   unfolding escapes
   escape-none q = rw (← ea, q)
 
 pub ruleset escaping = (escape-asked, escape-none)
 
 -- a set as its own row has an arc at each of its places
-own-touches : (s : List ℕ) → touches s s ≡ not (noPlaces s)
+own-touches : (s : List ℕ) → touches s (λ p. getD s (0 + p) 0) ≡ not (noPlaces s)
 unfolding touches
 own-touches s =
-    ap (λ (f : ℕ → Bool). ltb (first f (length s)) (length s)) (λ j p. twice (ltb 0 (getD s p 0)) j)
+    ap (λ (f : ℕ → Bool). ltb (first f (length s)) (length s)) (λ j p. same p j)
     ∙ turn (first (λ p. ltb 0 (getD s p 0)) (length s)) (length s)
   where
     twice : (b : Bool) → (b && b) ≡ b
     twice true = refl
     twice false = refl
+
+    same : (p : ℕ) → meets (getD s (0 + p) 0) (getD s p 0) ≡ ltb 0 (getD s p 0)
+    same p = ap (λ (k : ℕ). meets (getD s k 0) (getD s p 0)) (omega arith) ∙ twice (ltb 0 (getD s p 0))
 
     turn : (a b : ℕ) → ltb a b ≡ not (leb b a)
     turn a b = go (ltb a b) refl
@@ -71,7 +75,7 @@ own-touches s =
         go false e = e ∙ sym (ap not (le-leb b a (ltb-false a b e)))
 
 -- whether it has none, from the test a of its own row
-module _ (s : List ℕ) (a : Bool) (e : a ≡ touches s s) where
+module _ (s : List ℕ) (a : Bool) (e : a ≡ touches s (λ p. getD s (0 + p) 0)) where
   pub some-found : a ≡ true → noPlaces s ≡ false
   some-found q = not-true (noPlaces s) (sym (own-touches s) ∙ sym e ∙ q)
 

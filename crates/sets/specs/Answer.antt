@@ -6,8 +6,7 @@ use mathlib.Core.List.{List, [], _∷_}
 use lib.ListN.{length, getD}
 use lib.Dec.{ltb, leb, eqb}
 use Rattle.ground.specs.Lists.{first}
-use Rattle.net.specs.Net.{Net, netOf}
-use Rattle.net.specs.Letter.{row}
+use Rattle.net.specs.Net.{Net, netOf, Pre, Post}
 use Rattle.net.specs.Given.{refuse, orElse, netFault}
 use Rattle.net.specs.declared.Fault.{Fault}
 use Rattle.net.specs.declared.Fault.the-variants.{Sound, Faulty}
@@ -18,17 +17,17 @@ use Rattle.sets.specs.declared.SetAnswer.the-variants.{Yes, No, Refused}
 abbrev pub meets : ℕ → ℕ → Bool
 meets weight member = ltb 0 member && ltb 0 weight
 
--- a row of arcs has one at a place in the set
-unfoldable pub touches : List ℕ → List ℕ → Bool
-touches weights s = ltb (first (λ p. meets (getD weights p 0) (getD s p 0)) (length s)) (length s)
+-- of the weights of all places, one in the set has an arc
+unfoldable pub touches : List ℕ → (ℕ → ℕ) → Bool
+touches s weight = ltb (first (λ p. meets (weight p) (getD s p 0)) (length s)) (length s)
 
--- puts into the set and does not take from it
-unfoldable pub escapes : List ℕ → List ℕ → List ℕ → Bool
-escapes takes puts s = touches puts s && not (touches takes s)
+-- t puts into the set and does not take from it
+unfoldable pub escapes : Net → List ℕ → ℕ → Bool
+escapes net s t = touches s (λ p. Post net p t) && not (touches s (λ p. Pre net p t))
 
 -- the lowest transition that does, or their number
 abbrev pub lowestEscape : Net → List ℕ → ℕ
-lowestEscape net s = first (λ t. escapes (row (net .places) t (net .pre)) (row (net .places) t (net .post)) s) (net .transitions)
+lowestEscape net s = first (escapes net s) (net .transitions)
 
 -- the net with all arcs turned round: its siphons are the net's traps
 abbrev pub turned : Net → Net

@@ -88,7 +88,7 @@ module _ (net : Net) (x : List ℤ) (ok : Allowed net (net .transitions) x) wher
 
 -- ---- along any firing word
 -- one firing adds the published sum of its transition
-weight-firing : {net : Net} {m m′ : List ℕ} {t : ℕ} (y : List ℤ) → Gives net m t m′ → weight net y m′ ≡ weight net y m +ℤ placeSum net y t
+pub weight-firing : {net : Net} {m m′ : List ℕ} {t : ℕ} (y : List ℤ) → Gives net m t m′ → weight net y m′ ≡ weight net y m +ℤ placeSum net y t
 weight-firing {net} {m} {m′} {t} y g =
     sum-same (net .places) (λ p. entry y p *ℤ pos (tokens m′ p)) (λ p. entry y p *ℤ pos (tokens m p) +ℤ entry y p *ℤ Change net p t)
     (λ p h. ap (λ (z : ℤ). entry y p *ℤ z) (g .at p h) ∙ mul-plus (entry y p) (pos (tokens m p)) (Change net p t))
