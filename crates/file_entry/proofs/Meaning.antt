@@ -25,7 +25,7 @@ use Rattle.file_entry.specs.declared.CaseFile.the-variants.{Read, Refuse
 use Rattle.file_entry.specs.Entry.{Came, came, largest, Largest, blank, readAll, laid, answered, filledOf, caseFileOf, numbers, CaseRead}
 use Rattle.file_entry.specs.Cut.{feeds, Front}
 use Rattle.file_entry.proofs.Fronts.{largest-of, of-largest}
-use Rattle.file_entry.proofs.Ends.{blank-large, end-cut, left-over}
+use Rattle.file_entry.proofs.Ends.{blank-large, left-over}
 use Rattle.file_entry.proofs.Fold.{Counted, fed-file}
 
 -- `numbers` tells any two answers apart
@@ -209,13 +209,11 @@ module _ (file : List ℕ) (x : Rooms) (r : CaseFile) (x′ : Rooms) (p : CaseRe
     -- "a line .. lacks its line feed": 11 on the last line, whatever it holds
     pub last-line-cut : (line : List ℕ) → file ≡ lines ++ line → NoFeed line → (line ≡ [] → ⊥) → r ≡ Refused 11 (feeds lines + 1)
     unfolding feedAll
-    last-line-cut line e h n =
+    last-line-cut [] e h n = absurd (n refl)
+    last-line-cut (b ∷ d) e h n =
+        let line : List ℕ = b ∷ d in
         let z = then-reads line e ∙ ap (feedAll (both (going s []) (readAll lines .rooms))) (sym (append-nil line)) ∙ holds s (readAll lines .rooms) line [] [] (omega arith) h in
-        refused-with 11 (ap (λ (b : Both). caseOf (b .run)) z ∙ left-over s line ∙ sym (end-cut s (length line) (some line n)))
-      where
-        some : (line : List ℕ) → (line ≡ [] → ⊥) → length line ≡ 0 → ⊥
-        some [] n q = n refl
-        some (b ∷ d) n q = omega arith
+        refused-with 11 (ap (λ (w : Both). caseOf (w .run)) z ∙ left-over s b d)
 
     -- "frames missing at the end": 12 on the line after the last
     pub missing-frames : file ≡ lines → (s .phase ≡ 5 → ⊥) → r ≡ Refused 12 (feeds lines + 1)

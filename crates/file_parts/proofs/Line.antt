@@ -8,7 +8,7 @@ use native.Mathlib.Numerals.{add-one}
 use native.Mathlib.Nat.{not-suc-le-zero}
 use lib.Dec.{leb, ltb, eqb, lit<}
 use lib.ListN.{length, take, drop, getD, length-append, length-drop}
-use lib.Seq.{drop-cons, drop-drop}
+use lib.Seq.{drop-cons, drop-drop, take-all}
 use borrow.Author.Tests.{leb-true, leb-false, eq-eqb, ne-eqb, lt-ltb, le-ltb, eqb-true, eqb-false, ltb-true, ltb-false}
 use Rattle.file_digits.specs.Frame.{lineLimit, lineFeed, byteAt}
 use Rattle.file_line.specs.declared.Reading.{Reading}
@@ -229,8 +229,8 @@ module _ (f : List ℕ) (at e : ℕ) (h : e ≡ at + lineLen (drop at f)) (l : a
       len-split (drop at f) m ∙ ap (λ (n : ℕ). take n (drop at f) ++ lineFeed ∷ drop (suc (lineLen (drop at f))) (drop at f)) (sym same)
       ∙ ap (λ (r : List ℕ). part f at e ++ lineFeed ∷ r) (drop-drop (suc (lineLen (drop at f))) at f ∙ ap (λ (n : ℕ). drop n f) q)
 
-  pub unended : e ≡ length f → NoFeed (drop at f)
-  unended k = omega (arith, length-drop at f)
+  pub cut : e ≡ length f → drop at f ≡ part f at e
+  cut k = sym (take-all (e - at) (drop at f) (omega (arith, length-drop at f)))
 
 -- rooms of the same lengths
 pub record Same (x y : Rooms) : Type 0 where
@@ -242,44 +242,6 @@ pub record Same (x y : Rooms) : Type 0 where
 
 pub large : (x y : Rooms) → Same x y → Large y → Large x
 large x y s l = record { caps = omega arith; initial = omega arith; pre = omega arith; post = omega arith; word = omega arith }
-
--- the whole lines of f up to `at` are read: t and x are what they came to from z
-pub record Reads (f : List ℕ) (z w : Both) (at : ℕ) (t : Reading) (x : Rooms) : Type 0 where
-  pub inside : at ≤ length f
-  pub good : Good t
-  pub same : Same x (z .rooms)
-  pub comes : w ≡ feedAll (both (going t []) x) (drop at f)
-
-module _ (f : List ℕ) (z w : Both) (at : ℕ) (t : Reading) (x : Rooms) (r : Reads f z w at t x) where
-  pub reads-end : length f ≤ at → (Good t) × (at ≤ length f) × (NoFeed (drop at f)) × (w ≡ feedAll (both (going t []) x) (drop at f))
-  reads-end h = (r .good, r .inside, len-end f at h ∙ omega (arith, length-drop at f), r .comes)
-
-  module _ (e : ℕ) (h : e ≡ at + lineLen (drop at f)) where
-    pub reads-cut : e ≡ length f → (Good t) × (at ≤ length f) × (NoFeed (drop at f)) × (w ≡ feedAll (both (going t []) x) (drop at f))
-    reads-cut k = (r .good, r .inside, unended f at e h (r .inside) k, r .comes)
-
-    pub reads-next : (u : Reading) (k : Took) (y : Rooms) → (e ≡ length f → ⊥) → k ≡ took.Next u → GoodTook k → k ≡ lineOf t (part f at e) (x .caps) → y ≡ roomsOf t (part f at e) x → Same y x
-        → Reads f z w (e + 1) u y
-    reads-next u k y b p g q v s =
-        let m = bounds f at e h (r .inside) in
-        let n : e < length f = omega arith in
-        record {
-          inside = omega arith;
-          good = rw p at g;
-          same = record { caps = s .caps ∙ r .same .caps; initial = s .initial ∙ r .same .initial; pre = s .pre ∙ r .same .pre; post = s .post ∙ r .same .post; word = s .word ∙ r .same .word };
-          comes = r .comes ∙ ap (feedAll (both (going t []) x)) (split f at e h (r .inside) n)
-              ∙ next-line t x (part f at e) (drop (e + 1) f) (clear f at e h (r .inside)) u (sym p ∙ q) ∙ ap (λ (o : Rooms). feedAll (both (going u []) o) (drop (e + 1) f)) (sym v);
-        }
-
-    pub reads-broken : (n l : ℕ) (k : Took) (y : Rooms) → (e ≡ length f → ⊥) → k ≡ took.Refused n l → k ≡ lineOf t (part f at e) (x .caps) → y ≡ roomsOf t (part f at e) x
-        → (1 ≤ n) × (w ≡ both (stopped n l) y)
-    reads-broken n l k y b p q v =
-        let m = bounds f at e h (r .inside) in
-        let o : e < length f = omega arith in (
-          line-refused t (part f at e) x n l (sym p ∙ q) .2,
-          r .comes ∙ ap (feedAll (both (going t []) x)) (split f at e h (r .inside) o)
-              ∙ refused-line t x (part f at e) (drop (e + 1) f) (clear f at e h (r .inside)) n l (sym p ∙ q) ∙ ap (both (stopped n l)) (sym v),
-        )
 
 -- the end of a file, by its state
 pub finish-missing : (s : Reading) → (s .phase ≡ 5 → ⊥) → Refused 12 (s .line + 1) ≡ finishOf s

@@ -13,8 +13,6 @@ use Rattle.file_line.specs.Read.{Good, Rooms, fresh, lineOf, roomsOf}
 use Rattle.file_parts.specs.declared.Held.{Held}
 use Rattle.file_parts.specs.declared.Case.{Case}
 use Rattle.file_parts.specs.declared.Case.the-variants.{Whole, Refused}
-use Rattle.file_parts.specs.declared.Lines.{Lines}
-use Rattle.file_parts.specs.declared.Lines.the-variants.{Rest, Broken}
 
 -- a reading goes on, with the bytes of the line so far; or it stopped, with a refusal's number and line
 pub data Run : Type 0 where
@@ -96,17 +94,3 @@ NoFeed d = lineLen d ≡ length d
 -- a piece of a line, with no line feed, after the bytes d
 unfoldable pub holdOf : Reading → List ℕ → List ℕ → Run
 holdOf s d piece = cond (leb (length d + length piece) lineLimit) (going s (d ++ piece)) (stopped 11 (s .line + 1))
-
--- what the whole lines of the part f, from `at` on, come to, from z, with the rooms y after them
-abbrev pub Went : List ℕ → Both → ℕ → Lines → Rooms → Type 0
-Went f z at (Rest t e) y = (Good t) × (e ≤ length f) × (NoFeed (drop e f)) × (feedAll z (drop at f) ≡ feedAll (both (going t []) y) (drop e f))
-Went f z at (Broken n l) y = (1 ≤ n) × (feedAll z (drop at f) ≡ both (stopped n l) y)
-
--- what is asked of the whole lines' answer before the rest of the part f is held, and what then is held
-abbrev pub GoodLines : List ℕ → Lines → Type 0
-GoodLines f (Rest t e) = (Good t) × (e ≤ length f)
-GoodLines f (Broken n l) = 1 ≤ n
-
-abbrev pub heldRest : List ℕ → Lines → Run
-heldRest f (Rest t e) = holdOf t [] (drop e f)
-heldRest f (Broken n l) = stopped n l
