@@ -8,7 +8,7 @@ use lib.Dec.{eqb}
 use lib.ListN.{length, getD, length-append}
 use lib.Seq.{sets}
 use Rattle.ground.specs.Limits.{countLimit, tokenLimit, wordLimit}
-use Rattle.file_digits.specs.Frame.{lineLimit, lineFeed, block, digitsOf, lineText, byteAt, wordAt, bytesFrom, wordsFrom}
+use Rattle.file_digits.specs.Frame.{lineLimit, lineFeed, block, digitsOf, lineText, byteAt, wordAt, bytesFrom, wordsFrom, twos}
 use Rattle.file_digits.proofs.Round.{Below, none, more, canon, digits-long}
 use Rattle.file_line.specs.declared.Reading.{Reading}
 use Rattle.file_line.specs.Read.{Rooms, rooms, ruleOf, judgeOf, lettersIn, advanced, advancedKind, stored, storedKind}
@@ -18,8 +18,8 @@ use Rattle.file_line.proofs.Order.{no-counts, no-tokens, no-long, no-letters, f
 use Rattle.file_line.proofs.Meaning.{taken-exactly}
 use Rattle.file_parts.specs.File.{both, going, feedAll}
 use Rattle.file_parts.proofs.Line.{line-taken, held}
-use Rattle.file_text.specs.Text.{twos}
-use Rattle.file_text.proofs.Bytes.{below-of, of-below, below-more, below-append, no-feed, rule-digits, bytes-long, bytes-split, bytes-at, words-at, byte-digits, piece, twos-long, twos-small, words-bytes, words-digits}
+use Rattle.file_digits.proofs.Bytes.{below-of, of-below, below-more, below-append, bytes-long, bytes-split, bytes-at, words-at, byte-digits, piece, twos-long, twos-small, words-bytes, words-digits}
+use Rattle.file_text.proofs.Rules.{no-feed, rule-digits}
 
 -- a state of the reading, by its numbers
 abbrev pub state : ℕ → ℕ → ℕ → ℕ → ℕ → ℕ → Reading

@@ -10,7 +10,7 @@ use lib.Dec.{eqb}
 use lib.ListN.{length, drop, replicate, length-replicate}
 use borrow.Author.Tests.{eqb-true}
 use Rattle.ground.specs.Limits.{noCapacity, weightLimit, wordLimit}
-use Rattle.file_digits.specs.Frame.{digitOf, digitsOf}
+use Rattle.file_digits.specs.Frame.{digitOf, digitsOf, twos}
 use Rattle.net.specs.Net.{Net, netOf}
 use Rattle.replay.specs.Entry.{Allowed}
 use Rattle.file_line.specs.declared.Reading.{Reading}
@@ -20,8 +20,8 @@ use Rattle.file_line.proofs.Meaning.{refused-here, one-on-01, three-on-03}
 use Rattle.file_parts.specs.declared.Case.{Case}
 use Rattle.file_parts.specs.declared.Case.the-variants.{Whole, Refused}
 use Rattle.file_parts.specs.File.{Run, going, stopped, Both, both, readOf, finishOf, caseOf}
-use Rattle.file_text.specs.Text.{twos, joined, fileOf, Limited, Written, netIn, markingIn, wordIn, endOf, filled}
-use Rattle.file_text.proofs.Bytes.{below-of, of-below, below-most}
+use Rattle.file_text.specs.Text.{joined, fileOf, Limited, Written, netIn, markingIn, wordIn, endOf, filled}
+use Rattle.file_digits.proofs.Bytes.{below-of, of-below, below-most}
 use Rattle.file_text.proofs.Fronts.{front-of, rest-of}
 use Rattle.file_text.proofs.Stage.{Listed, Stage, start, counted, capped, rowed, lettered, reads}
 use Rattle.file_text.proofs.Whole.{whole}

@@ -22,7 +22,7 @@ use Rattle.file_line.specs.Read.{Rooms, rooms, fresh, Large, judgeOf, lettersIn
 use Rattle.file_parts.specs.File.{going, Both, both, feedOf, feedAll}
 use Rattle.file_parts.proofs.Line.{feed-push, feed-long, never-goes, line-taken, line-stopped}
 use Rattle.file_text.specs.Text.{countsLine, capsLine, tokensLine, rowLine, lettersLine, lettersLines, joined, fileOf, endOf, filled}
-use Rattle.file_text.proofs.Bytes.{below-of, below-most, below-append, bytes-long, bytes-small, words-long, words-small}
+use Rattle.file_digits.proofs.Bytes.{below-of, below-most, below-append, bytes-long, bytes-small, words-long, words-small}
 use Rattle.file_text.proofs.Fronts.{getD-sets}
 use Rattle.file_text.proofs.Lines.{state, kind-next, counts-of, caps-of, tokens-of, tokens-fine, row-of, letters-of}
 

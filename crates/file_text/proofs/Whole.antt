@@ -12,7 +12,7 @@ use lib.Seq.{sets, length-take-le, take-add, take-all}
 use borrow.Author.Tests.{eq-eqb, ne-eqb}
 use Rattle.ground.specs.Limits.{tokenLimit}
 use Rattle.ground.proofs.Stores.{sets-both}
-use Rattle.file_digits.specs.Frame.{block}
+use Rattle.file_digits.specs.Frame.{block, twos}
 use Rattle.net.specs.Net.{Net}
 use Rattle.net.specs.Letter.{row}
 use Rattle.net.proofs.Rows.{row-end, row-length}
@@ -20,8 +20,8 @@ use Rattle.file_line.specs.declared.Reading.{Reading}
 use Rattle.file_line.specs.Read.{Rooms, rooms, fresh, Large}
 use Rattle.file_parts.specs.File.{going, Both, both, feedAll}
 use Rattle.file_parts.proofs.Line.{all-append}
-use Rattle.file_text.specs.Text.{twos, countsLine, capsLine, rowLine, lettersLine, lettersLines, joined, fileOf, endOf, filled}
-use Rattle.file_text.proofs.Bytes.{below-of, below-take, below-drop}
+use Rattle.file_text.specs.Text.{countsLine, capsLine, rowLine, lettersLine, lettersLines, joined, fileOf, endOf, filled}
+use Rattle.file_digits.proofs.Bytes.{below-of, below-take, below-drop}
 use Rattle.file_text.proofs.Fronts.{getD-sets}
 use Rattle.file_text.proofs.Lines.{state, fed, takes-counts, takes-caps, takes-tokens, takes-row, takes-letters}
 use Rattle.file_text.proofs.Stage.{Listed, head}

@@ -4,7 +4,7 @@ use mathlib.Core.Path.{_≡_, refl, sym, ap, _∙_}
 use mathlib.Core.List.{List, [], _∷_, _++_}
 use Rattle.ground.specs.Lists.{first, tally, mapAt, table}
 use Rattle.net.specs.Given.{netFault, markingFault, firstFault, wordFault}
-use Rattle.file_digits.specs.Frame.{lineFeed, valueOf, isDigit, allDigits, digitOf, digitsOf, byteAt, bytesFrom, wordsFrom}
+use Rattle.file_digits.specs.Frame.{lineFeed, valueOf, isDigit, allDigits, digitOf, digitsOf, byteAt, bytesFrom, wordsFrom, four, fours}
 use Rattle.file_line.specs.declared.Reading.{Reading}
 use Rattle.file_line.specs.declared.Took.the-variants.{Next}
 use Rattle.file_line.specs.Read.{Rooms, fresh, ruleOf, countsOf, capsOf, fitTokens, tokensOf, rowOf, fitLetters, lettersOf, judgeKind, judgeOf, advancedKind, storedKind, lineOf, roomsOf, rooms}
@@ -12,7 +12,6 @@ use Rattle.file_parts.specs.File.{both, going, feedAll, finishOf, caseOf, lineL
 use Rattle.file_parts.proofs.Line.{next-line}
 use Rattle.replay.specs.Replay.{playFrom}
 use Rattle.replay.specs.Entry.{replayFault}
-use Rattle.verdict_text.specs.Verdict.{four, fours}
 use Rattle.verdict_line.specs.Answer.{lineAt, fileLine}
 
 -- "One whole case", a line of it in each row

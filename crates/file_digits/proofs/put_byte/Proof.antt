@@ -1,9 +1,9 @@
 use native.Mathlib.Omega.{arith}
 use lib.ListN.{length-set}
-use Rattle.verdict_text.proofs.Puts.{put-one}
+use Rattle.file_digits.proofs.Puts.{put-one}
 use borrow.Author.Needs.{needs}
-use Rattle.verdict_text.proofs.put_byte.Statement.{statement}
-use Rattle.verdict_text.proofs.put_byte.Tie as tie
+use Rattle.file_digits.proofs.put_byte.Statement.{statement}
+use Rattle.file_digits.proofs.put_byte.Tie as tie
 
 digit-requires : tie.Need-digit-requires
 digit-requires c κs = search needs

@@ -1,20 +1,17 @@
 -- Frames and their digits: entries below a bound, pieces of a frame read back, numbers of two bytes. Assumes nothing.
 use mathlib.Core.Path.{_≡_, refl, sym, _∙_, ap}
-use mathlib.Core.Bool.{Bool, true, false, cond, false≢true}
+use mathlib.Core.Bool.{Bool, true, false}
 use mathlib.Core.List.{List, [], _∷_, _++_, append-nil}
 use Prim.Native.Nat.{ℕ, zero, suc, _+_, _*_, _/_, _%_, _≤_, _<_, zero-le}
 use native.Mathlib.Omega.{arith}
 use native.Mathlib.Nat.{not-suc-le-zero, zero-add, suc-add}
 use native.Mathlib.Decide.{decLt}
-use lib.Dec.{leb, eqb}
+use lib.Dec.{leb}
 use lib.ListN.{length, take, drop, getD, List·getD-eq-default}
-use borrow.Author.Tests.{le-ltb, ne-eqb, leb-true, leb-false}
-use Rattle.file_digits.specs.Frame.{lineLimit, lineFeed, valueOf, isDigit, allDigits, digitOf, digitsOf, byteAt, wordAt, bytesFrom, wordsFrom}
+use borrow.Author.Tests.{leb-true, leb-false}
+use Rattle.file_digits.specs.Frame.{valueOf, allDigits, digitOf, digitsOf, byteAt, wordAt, bytesFrom, wordsFrom, twos}
 use Rattle.file_digits.proofs.Frames.{low, num, mid, letter, high}
-use Rattle.file_digits.proofs.Round.{Below, none, more, value-digit, byte-shift, bytes-shift, byte-first, digits-long}
-use Rattle.file_line.specs.Read.{ruleOf}
-use Rattle.file_parts.specs.File.{lineLen, NoFeed}
-use Rattle.file_text.specs.Text.{twos}
+use Rattle.file_digits.proofs.Round.{Below, none, more, value-digit, byte-shift, bytes-shift, byte-first}
 
 -- entries below a bound, one by one and together
 pub below-of : (n : ℕ) (l : List ℕ) → ((k : ℕ) → k < length l → getD l k 0 < n) → Below n l
@@ -50,7 +47,7 @@ below-drop zero l w = w
 below-drop (suc i) [] w = none
 below-drop (suc i) (x ∷ l) (more h w) = below-drop i l w
 
--- the digits of bytes are digits, and no line feed is among them
+-- the digits of bytes are digits
 pub digits-all : (f : List ℕ) → Below 256 f → allDigits (digitsOf f) ≡ true
 unfolding digitsOf allDigits
 digits-all [] w = refl
@@ -58,30 +55,6 @@ digits-all (b ∷ f) (more h w) =
     let hi = value-digit (b / 16) (omega arith) .1 in
     let lo = value-digit (b % 16) (omega arith) .1 in
     simp (hi, lo) (digits-all f w)
-
-pub no-feed : (d : List ℕ) → allDigits d ≡ true → NoFeed d
-unfolding allDigits lineLen
-no-feed [] t = refl
-no-feed (x ∷ d) t = go (isDigit x) refl t (λ u. no-feed d u) where
-  plain : isDigit x ≡ true → x ≡ lineFeed → ⊥
-  plain p e = false≢true (sym (low x (omega arith) .1) ∙ p)
-
-  go : (a : Bool) → isDigit x ≡ a → cond a (allDigits d) false ≡ true → (allDigits d ≡ true → NoFeed d)
-      → cond (eqb x lineFeed) 0 (suc (lineLen d)) ≡ suc (length d)
-  go false p u r = absurd (false≢true u)
-  go true p u r = simp (ne-eqb x lineFeed (plain p)) (ap suc (r u))
-
--- the digits of a frame of 1 to 130 bytes keep the rule
-pub rule-digits : (f : List ℕ) → Below 256 f → 1 ≤ length f → 2 * length f ≤ lineLimit → ruleOf (digitsOf f) ≡ true
-unfolding ruleOf
-rule-digits f w h k =
-    let e = digits-long f in
-    simp (
-      le-ltb (length (digitsOf f)) 2 (omega arith),
-      le-ltb lineLimit (length (digitsOf f)) (omega arith),
-      ne-eqb (length (digitsOf f) % 2) 1 (λ q. omega (arith, e)),
-    )
-    (digits-all f w)
 
 -- a frame's bytes, as many as asked for, and in two pieces
 pub bytes-long : (d : List ℕ) (i n : ℕ) → length (bytesFrom d i n) ≡ n
