@@ -2,6 +2,7 @@
 use Prim.Native.Nat.{ℕ, _+_, _*_, _≤_, _<_, zero-le}
 use mathlib.Core.Path.{_≡_, refl, sym, ap, _∙_}
 use mathlib.Core.List.{List, [], _∷_, _++_}
+use mathlib.Core.Logic.{_↔_}
 use native.Mathlib.Omega.{arith}
 use native.Mathlib.Decide.{decLt}
 use lib.ListN.{length, getD, List·getD-eq-default}
@@ -9,10 +10,35 @@ use lib.IntN.{pos}
 use lib.Seq.{ext-getD}
 use Rattle.ground.specs.Limits.{weightLimit, tokenLimit, wordLimit, replayLimit}
 use Rattle.ground.specs.Parts.{up}
-use Rattle.ground.proofs.Parts.{moved-is, le-pos}
-use Rattle.net.specs.Net.{Net, Pre, Post, capacity, tokens}
-use Rattle.net.specs.Firing.{Gives, Firing, Fires, nothing, letter, Reachable, Within, Light}
+use Rattle.ground.proofs.Parts.{moved-is, moved-le, le-pos}
+use Rattle.net.specs.Net.{Net, Pre, Post, rise, capacity, Capped, tokens}
+use Rattle.net.specs.Firing.{causeNumber, causeValues, result, level, Keeps, Gives, Firing, Fires, nothing, letter, Reachable, Within}
 use Rattle.net.specs.Letter.{Small}
+use Rattle.net.specs.Given.{Light}
+use Rattle.net.specs.declared.Cause.{Cause}
+use Rattle.net.specs.declared.Cause.the-variants.{Short, Over}
+
+-- the capacity rule looks at 01's "m(p) + Change(p,t)"
+pub level-is-result : (net : Net) (m : List ℕ) (t p : ℕ) → level net m t p ≡ result net m t p
+level-is-result net m t p = refl
+
+-- at a place that is within its capacity the rule keeps exactly where there is room for tokens plus rise
+pub keeps-rise : (net : Net) (m : List ℕ) (t p : ℕ) → (Capped net p → tokens m p ≤ capacity net p) → Keeps net m t p ↔ (Capped net p → tokens m p + rise net p t ≤ capacity net p)
+keeps-rise net m t p within = (
+  λ k c. let w = within c in omega (arith, moved-le (tokens m p) (Post net p t) (Pre net p t) (capacity net p) .0 (k c)),
+  λ r c. moved-le (tokens m p) (Post net p t) (Pre net p t) (capacity net p) .1 (let h = r c in let w = within c in omega arith),
+)
+
+-- a cause's number and values tell it apart
+pub cause-apart : (a b : Cause) → causeNumber a ≡ causeNumber b → causeValues a ≡ causeValues b → a ≡ b
+cause-apart (Short p) (Short q) e v = let x : p ≡ q = cc in cc
+cause-apart (Short p) (Over q) e v = let z : _≡_ {A = ℕ} 1 2 = e in absurd (omega arith)
+cause-apart (Over p) (Short q) e v = let z : _≡_ {A = ℕ} 2 1 = e in absurd (omega arith)
+cause-apart (Over p) (Over q) e v = let x : p ≡ q = cc in cc
+
+pub cause-some : (why : Cause) → causeNumber why ≡ 0 → ⊥
+cause-some (Short p) e = omega arith
+cause-some (Over p) e = omega arith
 
 -- firing in numbers that are not signed
 pub gives-plain : {net : Net} {m m′ : List ℕ} {t : ℕ} → Gives net m t m′ → (p : ℕ) → p < net .places → tokens m′ p + Pre net p t ≡ tokens m p + Post net p t

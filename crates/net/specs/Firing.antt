@@ -3,11 +3,10 @@
 use Prim.Native.Nat.{ℕ, _≤_, _<_}
 use mathlib.Core.Path.{_≡_}
 use mathlib.Core.List.{List, [], _∷_}
-use lib.ListN.{length, getD}
-use lib.IntN.{ℤ, pos, _+ℤ_}
+use lib.ListN.{length}
+use lib.IntN.{ℤ, pos, _+ℤ_, _-ℤ_}
 use lib.Signed.{_≤ℤ_, _<ℤ_}
-use Rattle.ground.specs.Limits.{weightLimit}
-use Rattle.net.specs.Net.{Net, Pre, Change, capacity, Capped, tokens}
+use Rattle.net.specs.Net.{Net, Pre, Post, Change, leaves, capacity, Capped, tokens}
 use Rattle.net.specs.declared.Cause.{Cause}
 use Rattle.net.specs.declared.Cause.the-variants.{Short, Over}
 
@@ -19,9 +18,14 @@ result net m t p = pos (tokens m p) +ℤ Change net p t
 abbrev pub Covers : Net → List ℕ → ℕ → ℕ → Type 0
 Covers net m t p = Pre net p t ≤ tokens m p
 
+-- what the capacity rule looks at: the tokens without what leaves first, with what t puts there. As all that t takes leaves first,
+-- this is "m(p) + Change(p,t)" (`level-is-result` in proofs/Meaning.antt).
+abbrev pub level : Net → List ℕ → ℕ → ℕ → ℤ
+level net m t p = pos (tokens m p) +ℤ (pos (Post net p t) -ℤ pos (leaves net p t))
+
 -- one place: "m(p) + Change(p,t) <= capacity where there is one. .. This capacity rule is 001's."
 abbrev pub Keeps : Net → List ℕ → ℕ → ℕ → Type 0
-Keeps net m t p = Capped net p → result net m t p ≤ℤ pos (capacity net p)
+Keeps net m t p = Capped net p → level net m t p ≤ℤ pos (capacity net p)
 
 -- "Transition t is enabled at m if at every place" both hold.
 pub record Enabled (net : Net) (m : List ℕ) (t : ℕ) : Type 0 where
@@ -59,7 +63,7 @@ abbrev pub ShortAt : Net → List ℕ → ℕ → ℕ → Type 0
 ShortAt net m t p = tokens m p < Pre net p t
 
 abbrev pub OverAt : Net → List ℕ → ℕ → ℕ → Type 0
-OverAt net m t p = Capped net p × (pos (capacity net p) <ℤ result net m t p)
+OverAt net m t p = Capped net p × (pos (capacity net p) <ℤ level net m t p)
 
 -- "If any place is short, the lowest short place is named"
 pub record LowestShort (net : Net) (m : List ℕ) (t p : ℕ) : Type 0 where
@@ -79,7 +83,14 @@ abbrev pub Names : Net → List ℕ → ℕ → Cause → Type 0
 Names net m t (Short p) = LowestShort net m t p
 Names net m t (Over p) = LowestOver net m t p
 
--- no weight is above the limit, as bytes never are
-pub record Light (net : Net) : Type 0 where
-  pub pre : (k : ℕ) → getD (net .pre) k 0 ≤ weightLimit
-  pub post : (k : ℕ) → getD (net .post) k 0 ≤ weightLimit
+-- a cause in numbers: which of the two it is, its place, and all that it carries
+abbrev pub causeNumber : Cause → ℕ
+causeNumber (Short p) = 1
+causeNumber (Over p) = 2
+
+abbrev pub causePlace : Cause → ℕ
+causePlace (Short p) = p
+causePlace (Over p) = p
+
+abbrev pub causeValues : Cause → List ℕ
+causeValues why = causePlace why ∷ []

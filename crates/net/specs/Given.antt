@@ -5,7 +5,7 @@ use mathlib.Core.Bool.{Bool, true, false, not, _&&_, _||_}
 use mathlib.Core.List.{List}
 use lib.ListN.{length, getD, take, drop}
 use lib.Dec.{ltb, leb, eqb}
-use Rattle.ground.specs.Limits.{countLimit, tokenLimit, wordLimit}
+use Rattle.ground.specs.Limits.{countLimit, weightLimit, tokenLimit, wordLimit}
 use Rattle.ground.specs.Lists.{first}
 use Rattle.net.specs.Net.{Net}
 use Rattle.net.specs.Letter.{Small}
@@ -43,19 +43,28 @@ tokenBad cap tokens = ltb tokenLimit tokens || ltb cap tokens
 abbrev pub badToken : List ℕ → List ℕ → ℕ
 badToken caps m = first (λ p. tokenBad (getD caps p 0) (getD m p 0)) (length m)
 
--- refusals 1 and 2 for a net; `fits` tells whether the lengths of all else that is lent agree with the counts
-unfoldable pub netFault : Net → Bool → Fault
-netFault net fits =
+-- The chain of refusals that the questions share, in four names, so that a refusal more stands in one of them:
+-- what is wrong with counts and lengths, 1 and 2; `fits` tells whether the lengths of all else that is lent agree with the counts
+unfoldable pub countsFault : Net → Bool → Fault
+countsFault net fits =
     orElse (refuse (outside (net .places) || outside (net .transitions)) 1 0) (refuse (misfit net || not fits) 2 0)
+
+-- with a net, for questions without a marking
+unfoldable pub netFault : Net → Bool → Fault
+netFault net fits = countsFault net fits
 
 -- refusal 3 for a marking
 unfoldable pub markingFault : List ℕ → List ℕ → Fault
 markingFault caps m = refuse (ltb (badToken caps m) (length m)) 3 (badToken caps m)
 
--- refusals 1, 2 and 3 for a net and its initial marking
-unfoldable pub firstFault : Net → List ℕ → Bool → Fault
-firstFault net initial fits =
-    orElse (netFault net (eqb (length initial) (net .places) && fits)) (markingFault (net .caps) initial)
+-- with counts, lengths and the initial marking, for questions whose list or target has a 3 of its own: they add what comes after it
+unfoldable pub startFault : Net → List ℕ → Bool → Fault
+startFault net initial fits =
+    orElse (countsFault net (eqb (length initial) (net .places) && fits)) (markingFault (net .caps) initial)
+
+-- with a net and its marking, for questions with one marking
+unfoldable pub markedFault : Net → List ℕ → Bool → Fault
+markedFault net initial fits = startFault net initial fits
 
 -- the letters from number a up to number b, and that they are inside the word
 abbrev pub stretch : List ℕ → ℕ → ℕ → List ℕ
@@ -73,6 +82,11 @@ badLetter n w = first (λ k. leb n (getD w k 0)) (length w)
 unfoldable pub wordFault : ℕ → List ℕ → Fault
 wordFault n w = orElse (refuse (ltb wordLimit (length w)) 4 0) (refuse (ltb (badLetter n w) (length w)) 5 (badLetter n w))
 
+-- no weight is above the limit, as bytes never are
+pub record Light (net : Net) : Type 0 where
+  pub pre : (k : ℕ) → getD (net .pre) k 0 ≤ weightLimit
+  pub post : (k : ℕ) → getD (net .post) k 0 ≤ weightLimit
+
 -- the counts are in range, and the net's lists have the lengths that they say
 pub record Sized (net : Net) : Type 0 where
   pub some-places : 1 ≤ net .places
@@ -82,6 +96,10 @@ pub record Sized (net : Net) : Type 0 where
   pub pres : length (net .pre) ≡ net .transitions * net .places
   pub posts : length (net .post) ≡ net .transitions * net .places
   pub capped : length (net .caps) ≡ net .places
+
+-- its test
+abbrev pub sizedNet : Net → Bool
+sizedNet net = not (outside (net .places) || outside (net .transitions)) && not (misfit net)
 
 -- a given marking with no more tokens than allowed at any place, nor than its capacity
 pub record Fine (caps m : List ℕ) : Type 0 where

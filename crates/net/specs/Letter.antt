@@ -7,7 +7,7 @@ use lib.ListN.{length, getD, take, drop}
 use lib.Dec.{ltb, eqb}
 use Rattle.ground.specs.Limits.{countLimit, noCapacity, replayLimit}
 use Rattle.ground.specs.Lists.{first, tally, mapAt}
-use Rattle.net.specs.Net.{Net}
+use Rattle.net.specs.Net.{Net, leavesFirst}
 use Rattle.net.specs.declared.Cause.{Cause}
 use Rattle.net.specs.declared.Cause.the-variants.{Short, Over}
 use Rattle.net.specs.declared.Letter.{Letter}
@@ -17,9 +17,9 @@ use Rattle.net.specs.declared.Letter.the-variants.{Passes, Stops}
 abbrev pub shortAt : ℕ → ℕ → Bool
 shortAt takes tokens = ltb tokens takes
 
--- one place is "over capacity": it has one, and tokens + puts - takes is above it
+-- one place is "over capacity": it has one, and its tokens, without what leaves first and with what is put, are above it
 abbrev pub overAt : ℕ → ℕ → ℕ → ℕ → Bool
-overAt takes puts cap tokens = ltb cap noCapacity && ltb (cap + takes) (tokens + puts)
+overAt takes puts cap tokens = ltb cap noCapacity && ltb (cap + leavesFirst takes) (tokens + puts)
 
 -- one transition: what it takes and puts at each place, with the capacities
 pub record Arcs : Type 0 where

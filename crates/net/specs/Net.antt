@@ -1,5 +1,5 @@
 -- A net as lent, and its parts by document 01's names ("Nets and firing"; 001, "Elementary System Nets" and its capacities).
-use Prim.Native.Nat.{ℕ, _+_, _*_, _<_}
+use Prim.Native.Nat.{ℕ, _+_, _-_, _*_, _<_}
 use mathlib.Core.List.{List}
 use lib.ListN.{getD}
 use lib.IntN.{ℤ, pos, _-ℤ_}
@@ -27,6 +27,20 @@ Post net p t = getD (net .post) (t * net .places + p) 0
 -- "Change(p,t) = Post - Pre."
 abbrev pub Change : Net → ℕ → ℕ → ℤ
 Change net p t = pos (Post net p t) -ℤ pos (Pre net p t)
+
+-- The capacity rule's one choice: of what a transition takes from a place, what leaves before anything arrives. 001: all of it.
+abbrev pub leavesFirst : ℕ → ℕ
+leavesFirst takes = takes
+
+abbrev pub leaves : Net → ℕ → ℕ → ℕ
+leaves net p t = leavesFirst (Pre net p t)
+
+-- how far a place rises above its tokens while it is taken from and put to: 0 where it does not
+abbrev pub riseOf : ℕ → ℕ → ℕ
+riseOf takes puts = puts - leavesFirst takes
+
+abbrev pub rise : Net → ℕ → ℕ → ℕ
+rise net p t = riseOf (Pre net p t) (Post net p t)
 
 abbrev pub capacity : Net → ℕ → ℕ
 capacity net p = getD (net .caps) p 0

@@ -7,15 +7,15 @@ use ground::TOKEN_LIMIT;
 use ground::WORD_LIMIT;
 use ground::Weight;
 ghost use mathlib.Core.Path.{_≡_};
-ghost use mathlib.Core.Bool.{_||_};
+ghost use mathlib.Core.Bool.{true, false, _||_};
 ghost use Prim.Native.Nat.{_+_, _-_, _<_, _≤_};
 ghost use lib.Dec.{leb};
 ghost use lib.ListN.{length};
 ghost use Rattle.ground.specs.Limits.{countLimit, replayLimit};
 ghost use Rattle.ground.specs.Lists.{bit};
-ghost use Rattle.net.specs.Net.{netOf};
-ghost use Rattle.net.specs.Letter.{shortAt, overAt, arcsOf, arcsAt, lowestShort, lowestOver, cause, passes, fired, Small, Enough, Rows, Played};
-ghost use Rattle.net.specs.Given.{outside, misfit, tokenBad, badToken, netFault, markingFault, firstFault, badLetter, wordFault, Sized};
+ghost use Rattle.net.specs.Net.{netOf, leavesFirst, riseOf};
+ghost use Rattle.net.specs.Letter.{shortAt, overAt, arcsOf, arcsAt, lowestShort, lowestOver, cause, passes, fired, firedAt, Small, Enough, Rows, Played};
+ghost use Rattle.net.specs.Given.{outside, misfit, sizedNet, tokenBad, badToken, countsFault, netFault, markingFault, startFault, markedFault, badLetter, wordFault, Sized};
 
 // Why a letter is not enabled: short of tokens, or over capacity, at a place.
 pub enum Cause {
@@ -42,14 +42,31 @@ fn is_short(takes: Weight, tokens: u32) -> bool
     tokens < takes as u32
 }
 
-// One place has a capacity and would hold more. Both sides have what is taken added, so that
+// Of what is taken from a place, what leaves before anything arrives: all of it, by 001's rule. Here
+// and in `leavesFirst` alone stands which rule is in force.
+fn leaves(takes: Weight) -> Weight
+    ensures { λ r. ⌜ r ≡ leavesFirst takes ⌝ }
+{
+    takes
+}
+
+// How far a place rises above its tokens: what is put there above what leaves first, or 0.
+pub fn rise(takes: Weight, puts: Weight) -> Weight
+    ensures { λ r. ⌜ r ≡ riseOf takes puts ⌝ }
+{
+    let left = leaves(takes);
+    if puts < left { 0 } else { puts - left }
+}
+
+// One place has a capacity and would hold more. Both sides have what leaves first added, so that
 // nothing is subtracted.
 fn is_over(takes: Weight, puts: Weight, cap: u16, tokens: u32) -> bool
     requires { ⌜ tokens ≤ replayLimit ⌝ }
     ensures { λ r. ⌜ r ≡ overAt takes puts cap tokens ⌝ }
 {
     if cap < NO_CAPACITY {
-        return cap as u32 + (takes as u32) < tokens + puts as u32;
+        let left = leaves(takes);
+        return cap as u32 + (left as u32) < tokens + puts as u32;
     }
     false
 }
@@ -122,9 +139,10 @@ fn lowest_over(takes: &[Weight], puts: &[Weight], caps: &[u16], marking: &[u32])
     p
 }
 
-// Why a letter is stopped: the lowest short place, else the lowest place over.
+// Why a letter that some place stops is stopped: the lowest short place, else the lowest place over.
 pub fn why_stopped(takes: &[Weight], puts: &[Weight], caps: &[u16], marking: &[u32]) -> Cause
     requires { ⌜ Rows (arcsOf (now takes) (now puts) (now caps)) (now marking) ⌝ }
+    requires { ⌜ passes (arcsOf (now takes) (now puts) (now caps)) (now marking) ≡ false ⌝ }
     ensures { λ r. ⌜ r ≡ cause (arcsOf (now (takes .entry)) (now (puts .entry)) (now (caps .entry))) (now (marking .entry)) ⌝ }
 {
     let s = lowest_short(takes, marking);
@@ -184,6 +202,49 @@ pub fn play_letter(
     play_rows(&pre[a..e], &post[a..e], caps, marking)
 }
 
+// Whether a transition, by its number, may fire.
+pub fn may_fire_at(
+    places: usize,
+    transitions: usize,
+    pre: &[Weight],
+    post: &[Weight],
+    caps: &[u16],
+    t: usize,
+    marking: &[u32],
+) -> bool
+    requires { ⌜ Sized (netOf places transitions (now pre) (now post) (now caps)) ⌝ }
+    requires { ⌜ length (now marking) ≡ places ⌝ }
+    requires { ⌜ Small replayLimit (now marking) ⌝ }
+    requires { ⌜ t < transitions ⌝ }
+    ensures { λ r. ⌜ r ≡ passes (arcsAt (netOf places transitions (now (pre .entry)) (now (post .entry)) (now (caps .entry))) t) (now (marking .entry)) ⌝ }
+{
+    let a = t * places;
+    let e = a + places;
+    may_fire(&pre[a..e], &post[a..e], caps, marking)
+}
+
+// Fires a transition that may fire, by its number, in place.
+pub fn fire_at(
+    places: usize,
+    transitions: usize,
+    pre: &[Weight],
+    post: &[Weight],
+    caps: &[u16],
+    t: usize,
+    marking: &mut [u32],
+)
+    requires { ⌜ Sized (netOf places transitions (now pre) (now post) (now caps)) ⌝ }
+    requires { ⌜ length (now marking) ≡ places ⌝ }
+    requires { ⌜ Small replayLimit (now marking) ⌝ }
+    requires { ⌜ t < transitions ⌝ }
+    requires { ⌜ passes (arcsAt (netOf places transitions (now pre) (now post) (now caps)) t) (now marking) ≡ true ⌝ }
+    ensures { λ r. ⌜ now (marking .exit) ≡ firedAt (netOf places transitions (now (pre .entry)) (now (post .entry)) (now (caps .entry))) t (now (marking .entry)) ⌝ }
+{
+    let a = t * places;
+    let e = a + places;
+    fire(&pre[a..e], &post[a..e], marking);
+}
+
 // Refusal 1 for one count.
 pub fn is_outside(count: usize) -> bool
     ensures { λ r. ⌜ r ≡ outside count ⌝ }
@@ -240,9 +301,28 @@ fn bad_token(caps: &[u16], marking: &[u16]) -> usize
     p
 }
 
-// Refusals 1 and 2 for a net. `fits` tells whether the lengths of all else that an entry is lent
-// agree with the counts, which is refusal 2 too.
-pub fn net_fault(
+// Whether the counts are in range and the net's lists have the lengths that they say.
+pub fn is_sized(
+    places: usize,
+    transitions: usize,
+    pre: &[Weight],
+    post: &[Weight],
+    caps: &[u16],
+) -> bool
+    ensures { λ r. ⌜ r ≡ sizedNet (netOf places transitions (now (pre .entry)) (now (post .entry)) (now (caps .entry))) ⌝ }
+{
+    if is_outside(places) {
+        return false;
+    }
+    if is_outside(transitions) {
+        return false;
+    }
+    !is_misfit(places, transitions, pre, post, caps)
+}
+
+// Refusals 1 and 2: counts and lengths. `fits` tells whether the lengths of all else that an entry
+// is lent agree with the counts, which is refusal 2 too.
+pub fn counts_fault(
     places: usize,
     transitions: usize,
     pre: &[Weight],
@@ -250,7 +330,7 @@ pub fn net_fault(
     caps: &[u16],
     fits: bool,
 ) -> Fault
-    ensures { λ r. ⌜ r ≡ netFault (netOf places transitions (now (pre .entry)) (now (post .entry)) (now (caps .entry))) fits ⌝ }
+    ensures { λ r. ⌜ r ≡ countsFault (netOf places transitions (now (pre .entry)) (now (post .entry)) (now (caps .entry))) fits ⌝ }
 {
     if is_outside(places) {
         return Fault::Faulty(1, 0);
@@ -268,6 +348,20 @@ pub fn net_fault(
     }
 }
 
+// What is wrong with a net, for questions without a marking.
+pub fn net_fault(
+    places: usize,
+    transitions: usize,
+    pre: &[Weight],
+    post: &[Weight],
+    caps: &[u16],
+    fits: bool,
+) -> Fault
+    ensures { λ r. ⌜ r ≡ netFault (netOf places transitions (now (pre .entry)) (now (post .entry)) (now (caps .entry))) fits ⌝ }
+{
+    counts_fault(places, transitions, pre, post, caps, fits)
+}
+
 // Refusal 3 for a marking.
 pub fn marking_fault(caps: &[u16], marking: &[u16]) -> Fault
     requires { ⌜ length (now caps) ≡ length (now marking) ⌝ }
@@ -281,8 +375,9 @@ pub fn marking_fault(caps: &[u16], marking: &[u16]) -> Fault
     }
 }
 
-// Refusals 1, 2 and 3 for a net and its initial marking, as every entry that is lent both gives them.
-pub fn first_fault(
+// Refusals 1, 2 and 3 for a net and its initial marking, for questions whose list or target has a 3
+// of its own.
+pub fn start_fault(
     places: usize,
     transitions: usize,
     pre: &[Weight],
@@ -291,16 +386,31 @@ pub fn first_fault(
     initial: &[u16],
     fits: bool,
 ) -> Fault
-    ensures { λ r. ⌜ r ≡ firstFault (netOf places transitions (now (pre .entry)) (now (post .entry)) (now (caps .entry))) (now (initial .entry)) fits ⌝ }
+    ensures { λ r. ⌜ r ≡ startFault (netOf places transitions (now (pre .entry)) (now (post .entry)) (now (caps .entry))) (now (initial .entry)) fits ⌝ }
 {
     if initial.len() != places {
-        return net_fault(places, transitions, pre, post, caps, false);
+        return counts_fault(places, transitions, pre, post, caps, false);
     }
-    let found = net_fault(places, transitions, pre, post, caps, fits);
+    let found = counts_fault(places, transitions, pre, post, caps, fits);
     match found {
         Fault::Faulty(number, at) => Fault::Faulty(number, at),
         Fault::Sound => marking_fault(caps, initial),
     }
+}
+
+// What is wrong with a net and its marking, for questions with one marking.
+pub fn marked_fault(
+    places: usize,
+    transitions: usize,
+    pre: &[Weight],
+    post: &[Weight],
+    caps: &[u16],
+    initial: &[u16],
+    fits: bool,
+) -> Fault
+    ensures { λ r. ⌜ r ≡ markedFault (netOf places transitions (now (pre .entry)) (now (post .entry)) (now (caps .entry))) (now (initial .entry)) fits ⌝ }
+{
+    start_fault(places, transitions, pre, post, caps, initial, fits)
 }
 
 // Whether a letter names no transition.

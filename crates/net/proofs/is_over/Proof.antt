@@ -7,6 +7,12 @@ use borrow.Author.Needs.{needs}
 use Rattle.net.proofs.is_over.Statement.{statement}
 use Rattle.net.proofs.is_over.Tie as tie
 
+leaves-requires : tie.Need-leaves-requires
+leaves-requires c κs = search needs
+
+cast-result : tie.Need-cast-result
+cast-result c = search needs
+
 add-result : tie.Need-add-result
 add-result c = search needs
 
@@ -16,6 +22,8 @@ add-result-2 c = search needs
 returns : tie.Need-returns
 returns c =
     let s : tie.Start = search needs in
+    let l : tie.After-leaves = search needs in
+    let e = l .leaves .ensures in
     and-next _ _ _ (lt-ltb (s .args .cap) noCapacity (omega arith))
     (below-is _ (s .args .cap + s .args .takes) (s .args .tokens + s .args .puts)
     (λ h. omega (arith, ltb-true, leb-true))
@@ -25,4 +33,4 @@ returns-2 : tie.Need-returns-2
 returns-2 c = search (tests, needs)
 
 pub is-over-spec : {M : Type 1} → statement M
-is-over-spec = tie.close (tie.spec add-result add-result-2 returns returns-2)
+is-over-spec = tie.close (tie.spec leaves-requires cast-result add-result add-result-2 returns returns-2)

@@ -1,41 +1,13 @@
-use Rattle.net.proofs.Refusals.{net-faults}
+use Rattle.net.proofs.Refusals.{net-is}
 use borrow.Author.Needs.{needs}
 use Rattle.net.proofs.net_fault.Statement.{statement}
 use Rattle.net.proofs.net_fault.Tie as tie
 
-is-outside-requires : tie.Need-is-outside-requires
-is-outside-requires c κs = search needs
+counts-fault-requires : tie.Need-counts-fault-requires
+counts-fault-requires c κs = search needs
 
 returns : tie.Need-returns
-returns c = search (net-faults, needs)
-
-is-outside-requires-2 : tie.Need-is-outside-requires-2
-is-outside-requires-2 c κs = search needs
-
-returns-2 : tie.Need-returns-2
-returns-2 c = search (net-faults, needs)
-
-is-misfit-requires : tie.Need-is-misfit-requires
-is-misfit-requires c κs = search (net-faults, needs)
-
-returns-3 : tie.Need-returns-3
-returns-3 c = search (net-faults, needs)
-
-returns-4 : tie.Need-returns-4
-returns-4 c = search (net-faults, needs)
-
-returns-5 : tie.Need-returns-5
-returns-5 c = search (net-faults, needs)
+returns c = search (net-is, needs)
 
 pub net-fault-spec : {M : Type 1} → statement M
-net-fault-spec =
-    tie.close
-    (tie.spec
-    is-outside-requires
-    returns
-    is-outside-requires-2
-    returns-2
-    is-misfit-requires
-    returns-3
-    returns-4
-    returns-5)
+net-fault-spec = tie.close (tie.spec counts-fault-requires returns)

@@ -1,4 +1,5 @@
 use denote.Ref.{now}
+use mathlib.Core.Path.{sym, _∙_}
 use Rattle.net.specs.Letter.{arcsOf}
 use Rattle.net.proofs.Letters.{plays, enough-of}
 use borrow.Author.Needs.{needs}
@@ -30,7 +31,9 @@ returns : tie.Need-returns
 returns c = search (plays, needs)
 
 why-stopped-requires : tie.Need-why-stopped-requires
-why-stopped-requires c κs = search needs
+why-stopped-requires c κs =
+    let m : tie.After-may-fire = search needs in
+    (search needs, sym (m .may-fire .ensures) ∙ search needs)
 
 same-length-2 : tie.Need-same-length-2
 same-length-2 c = search needs
