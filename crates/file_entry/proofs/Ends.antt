@@ -9,11 +9,13 @@ use lib.Dec.{leb}
 use Rattle.ground.specs.Limits.{countLimit, wordLimit}
 use Rattle.file_digits.specs.Frame.{lineLimit}
 use Rattle.file_line.specs.declared.Reading.{Reading}
-use Rattle.file_line.specs.Read.{cellLimit, fresh, Good, Rooms, Large}
+use Rattle.file_line.specs.Read.{cellLimit, fresh, Rooms}
+use Rattle.file_line.specs.Walk.{Good, Large}
 use Rattle.file_parts.specs.declared.Case.{Case}
 use Rattle.file_parts.specs.declared.Case.the-variants as case
 use Rattle.file_parts.specs.declared.Held.{Held}
-use Rattle.file_parts.specs.File.{Run, going, stopped, Both, both, feedAll, caseOf, GoodCase, holdOf, abs}
+use Rattle.file_parts.specs.File.{Run, going, stopped, Both, both, feedAll, caseOf}
+use Rattle.file_parts.specs.Held.{GoodCase, holdOf, abs}
 use Rattle.file_entry.specs.declared.CaseFile.{CaseFile}
 use Rattle.file_entry.specs.declared.CaseFile.the-variants.{Read, Refused}
 use Rattle.file_entry.specs.Entry.{Came, came, Comes, blank, laid, answered, largest, filledOf, numbers, CaseRead}

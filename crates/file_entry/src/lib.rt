@@ -12,8 +12,10 @@ ghost use Prim.Native.Nat.{_≤_};
 ghost use lib.ListN.{length, replicate};
 ghost use lib.Seq.{sets};
 ghost use Rattle.ground.specs.Limits.{countLimit, wordLimit};
-ghost use Rattle.file_line.specs.Read.{cellLimit, fresh, Good, Large, rooms};
-ghost use Rattle.file_parts.specs.File.{going, both, feedAll, GoodCase};
+ghost use Rattle.file_line.specs.Read.{cellLimit, fresh, rooms};
+ghost use Rattle.file_line.specs.Walk.{Good, Large};
+ghost use Rattle.file_parts.specs.File.{going, both, feedAll};
+ghost use Rattle.file_parts.specs.Held.{GoodCase};
 ghost use Rattle.file_entry.specs.Entry.{came, Comes, largestOf, laid, answered, filledOf, CaseRead};
 
 // The answer to a case file: read, with its places, transitions and letters; or refused, with

@@ -12,11 +12,13 @@ use Rattle.file_digits.specs.Frame.{lineLimit, lineFeed}
 use Rattle.file_line.specs.declared.Reading.{Reading}
 use Rattle.file_line.specs.declared.Took.{Took}
 use Rattle.file_line.specs.declared.Took.the-variants as took
-use Rattle.file_line.specs.Read.{GoodTook, Good, Rooms, lineOf, roomsOf}
+use Rattle.file_line.specs.Read.{Rooms, lineOf, roomsOf}
+use Rattle.file_line.specs.Walk.{GoodTook, Good}
 use Rattle.file_parts.specs.declared.Held.{Held}
 use Rattle.file_parts.specs.declared.Case.{Case}
 use Rattle.file_parts.specs.declared.Case.the-variants.{Refused}
-use Rattle.file_parts.specs.File.{Run, going, stopped, Both, both, ended, fedTo, feedOf, feedAll, finishOf, caseOf, abs, Sound, lineLen, NoFeed, holdOf}
+use Rattle.file_parts.specs.File.{Run, going, stopped, Both, both, ended, fedTo, feedOf, feedAll, finishOf, caseOf, lineLen, NoFeed}
+use Rattle.file_parts.specs.Held.{abs, Sound, holdOf}
 use Rattle.file_parts.proofs.Line.{stays, holds, bounds, part, clear, split, cut, Same}
 
 -- a piece of a line is stored up to entry i
@@ -84,7 +86,7 @@ module _ (h : Held) (piece : List ℕ) (s : Sound h) where
     hold-sound = rw (e, length-sets) (s .line)
 
 -- the held line, read at its line feed
-pub ended-line : (h : Held) (x y : Rooms) (k : Took) (a : Run) → h .refusal ≡ 0 → k ≡ lineOf (h .reading) (take (h .len) (h .line)) (x .caps)
+pub ended-line : (h : Held) (x y : Rooms) (k : Took) (a : Run) → h .refusal ≡ 0 → k ≡ lineOf (h .reading) (take (h .len) (h .line)) x
     → y ≡ roomsOf (h .reading) (take (h .len) (h .line)) x → a ≡ ended k → both a y ≡ feedOf (both (abs h) x) lineFeed
 unfolding fedTo
 ended-line h x y k a r e f g = rw (g, e, f) (simp (eq-eqb _ _ r))

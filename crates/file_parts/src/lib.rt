@@ -10,8 +10,10 @@ ghost use Prim.Native.Nat.{_+_, _≤_};
 ghost use lib.ListN.{length, take, drop};
 ghost use lib.Seq.{sets};
 ghost use Rattle.file_digits.specs.Frame.{lineFeed};
-ghost use Rattle.file_line.specs.Read.{Good, GoodTook, rooms, Large};
-ghost use Rattle.file_parts.specs.File.{going, stopped, both, ended, feedOf, feedAll, finishOf, caseOf, GoodCase, abs, Sound, lineLen, holdOf};
+ghost use Rattle.file_line.specs.Read.{rooms};
+ghost use Rattle.file_line.specs.Walk.{Good, GoodTook, Large};
+ghost use Rattle.file_parts.specs.File.{going, stopped, both, ended, feedOf, feedAll, finishOf, caseOf, lineLen};
+ghost use Rattle.file_parts.specs.Held.{GoodCase, abs, Sound, holdOf};
 
 // What a whole file comes to.
 pub enum Case {

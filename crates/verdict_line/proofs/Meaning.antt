@@ -9,7 +9,8 @@ use Rattle.ground.proofs.Fill.{table-length}
 use Rattle.file_digits.specs.Frame.{allDigits, digitsOf, lineFeed, lineText, four, fours}
 use Rattle.file_digits.proofs.Round.{Below, none, more}
 use Rattle.file_line.specs.declared.Reading.{Reading}
-use Rattle.file_line.specs.Read.{Rooms, Large, fresh}
+use Rattle.file_line.specs.Read.{Rooms, fresh}
+use Rattle.file_line.specs.Walk.{Large}
 use Rattle.file_parts.specs.declared.Case.{Case}
 use Rattle.file_parts.specs.declared.Case.the-variants as file
 use Rattle.file_parts.specs.File.{Both, both, going, stopped, feedAll, readOf, together, feedParts, caseOf}
