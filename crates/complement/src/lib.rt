@@ -15,7 +15,7 @@ ghost use Rattle.net.specs.Net.{netOf};
 ghost use Rattle.net.specs.Given.{orElse, markedFault, Sized, Fine};
 ghost use Rattle.complement.specs.Complement.{made, madePlaces, fallOf, joined};
 ghost use Rattle.complement.specs.Told.{limitFault, Told};
-ghost use Rattle.complement.specs.Entry.{roomsOf, lengthsFit, netFits, complementFault, written, Allowed, Complemented};
+ghost use Rattle.complement.specs.Entry.{roomsOf, lengthsFit, netFits, complementFault, Complemented};
 ghost use Rattle.complement.specs.Walk.{Inside, rises, falls, newPre, newPost, spares};
 
 // How many places the complement net has; or refused, with document 01's number and position.
@@ -337,39 +337,6 @@ fn find_fault(
     later_fault(places, transitions, pre, post, caps, initial, wide, fits)
 }
 
-// The whole complement net, into rooms of its lengths.
-fn write_net(
-    places: usize,
-    transitions: usize,
-    pre: &[Weight],
-    post: &[Weight],
-    caps: &[u16],
-    initial: &[u16],
-    pre2: &mut [Weight],
-    post2: &mut [Weight],
-    caps2: &mut [u16],
-    initial2: &mut [u16],
-)
-    requires { ⌜ Allowed (netOf places transitions (now pre) (now post) (now caps)) (now initial) (roomsOf (now pre2) (now post2) (now caps2) (now initial2)) ⌝ }
-    ensures { λ r. ⌜ roomsOf (now (pre2 .exit)) (now (post2 .exit)) (now (caps2 .exit)) (now (initial2 .exit)) ≡ written (netOf places transitions (now (pre .entry)) (now (post .entry)) (now (caps .entry))) (now (initial .entry)) ⌝ }
-{
-    let wide = caps2.len();
-    let count = wide - places;
-    let chosen = made_places(places, transitions, pre, post, caps);
-    write_rows(
-        places,
-        transitions,
-        wide,
-        pre,
-        post,
-        &chosen[..count],
-        pre2,
-        post2,
-    );
-    write_caps(caps2);
-    write_tokens(caps, initial, &chosen[..count], initial2);
-}
-
 // How many places the complement net of a net has.
 pub fn complement_places(
     places: usize,
@@ -426,18 +393,21 @@ pub fn complement_net(
     match found {
         Fault::Faulty(number, at) => ComplementNet::Refused(number, at),
         Fault::Sound => {
-            write_net(
+            let wide = caps2.len();
+            let count = wide - places;
+            let chosen = made_places(places, transitions, pre, post, caps);
+            write_rows(
                 places,
                 transitions,
+                wide,
                 pre,
                 post,
-                caps,
-                initial,
+                &chosen[..count],
                 pre2,
                 post2,
-                caps2,
-                initial2,
             );
+            write_caps(caps2);
+            write_tokens(caps, initial, &chosen[..count], initial2);
             ComplementNet::Made
         }
     }

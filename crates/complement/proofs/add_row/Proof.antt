@@ -1,7 +1,12 @@
-use Prim.Native.Nat.{_-_}
-use lib.ListN.{length}
+use Prim.Native.Nat.{_-_, _<_}
+use mathlib.Core.Path.{refl}
+use native.Mathlib.Omega.{arith}
+use lib.ListN.{length, getD}
+use denote.Ref.{now}
+use Rattle.net.specs.Net.{riseOf}
+use Rattle.complement.specs.Complement.{fallOf}
 use Rattle.complement.specs.Walk.{rises, falls}
-use Rattle.complement.proofs.Written.{Copying, maps}
+use Rattle.complement.proofs.Written.{Copying, maps, map-next}
 use borrow.Author.Needs.{needs}
 use Rattle.complement.proofs.add_row.Statement.{statement}
 use Rattle.complement.proofs.add_row.Tie as tie
@@ -58,7 +63,15 @@ loop-less : tie.Need-loop-less Inv-loop μ-loop
 loop-less c = search needs
 
 loop-again : tie.Need-loop-again Inv-loop μ-loop
-loop-again c = (search (maps, needs), search (maps, needs))
+loop-again c =
+    let r : tie.After-rise Inv-loop μ-loop = c .before .before .before in
+    let l : tie.At-loop Inv-loop μ-loop = r .before .before .before .before .before in
+    let s : tie.Start Inv-loop μ-loop = l .before .before .before .before .before .before in
+    let a = s .args in
+    let h : l .loop .j < length (now (a .chosen)) = search needs in (
+      map-next (λ p. riseOf (getD (now (a .takes)) p 0) (getD (now (a .puts)) p 0)) (now (a .chosen)) (now (a .pre2)) (a .to) (l .loop .j) (l .loop .pre2) (l .loop .inv .0) _ _ h refl (omega (arith, r .rise .ensures)),
+      map-next (λ p. fallOf (getD (now (a .takes)) p 0) (getD (now (a .puts)) p 0)) (now (a .chosen)) (now (a .post2)) (a .to) (l .loop .j) (l .loop .post2) (l .loop .inv .1) _ _ h refl (omega (arith, c .fall .ensures)),
+    )
 
 same-length : tie.Need-same-length Inv-loop μ-loop
 same-length c = search needs

@@ -18,7 +18,7 @@ copy-row-requires-2 c κs = search needs
 add-row-requires : tie.Need-add-row-requires
 add-row-requires c κs =
     let s : tie.Start = search needs in
-    (s .pre .0, (s .pre .1 .0, (search needs, search needs)))
+    (omega (arith, s .pre .0), (record { at = λ j h. omega (arith, s .pre .0, s .pre .1 .0 .at j h) }, (search needs, search needs)))
 
 same-length : tie.Need-same-length
 same-length c = search needs
