@@ -1,28 +1,23 @@
 use Prim.Native.Nat.{_-_}
 use mathlib.Core.Logic.{⊎-elim}
-use lib.ListN.{length}
+use Rattle.net.specs.Net.{netOf}
+use Rattle.complement.specs.Complement.{made}
 use Rattle.complement.proofs.Written.{Counted, counts}
 use borrow.Author.Needs.{needs}
-use Rattle.complement.proofs.count_capped.Statement.{statement}
-use Rattle.complement.proofs.count_capped.Tie as tie
+use Rattle.complement.proofs.count_made.Statement.{statement}
+use Rattle.complement.proofs.count_made.Tie as tie
 
 abbrev Inv-loop : tie.InvT-loop
-Inv-loop caps count₀ p₀ count p = Counted caps count p
+Inv-loop places transitions pre post caps count₀ p₀ count p = Counted (made (netOf places transitions pre post caps)) places count p
 
 abbrev μ-loop : tie.MeasureT-loop
-μ-loop caps count₀ p₀ count p = length caps - p
+μ-loop places transitions pre post caps count₀ p₀ count p = places - p
 
 loop-holds : tie.Need-loop-holds Inv-loop μ-loop
 loop-holds c = search (counts, needs)
 
-mul-is-capped : tie.Need-mul-is-capped Inv-loop μ-loop
-mul-is-capped c = search needs
-
-shared-slice-read-is-capped : tie.Need-shared-slice-read-is-capped Inv-loop μ-loop
-shared-slice-read-is-capped c = search needs
-
-is-capped-requires : tie.Need-is-capped-requires Inv-loop μ-loop
-is-capped-requires c κs = search needs
+is-made-requires : tie.Need-is-made-requires Inv-loop μ-loop
+is-made-requires c κs = search needs
 
 add-count : tie.Need-add-count Inv-loop μ-loop
 add-count c = search needs
@@ -39,16 +34,14 @@ loop-again c = ⊎-elim (λ w. search (counts, needs)) (λ w. search (counts, ne
 returns : tie.Need-returns Inv-loop μ-loop
 returns c = search (counts, needs)
 
-pub count-capped-spec : {M : Type 1} → statement M
-count-capped-spec =
+pub count-made-spec : {M : Type 1} → statement M
+count-made-spec =
     tie.close
     (tie.spec
     Inv-loop
     μ-loop
     loop-holds
-    mul-is-capped
-    shared-slice-read-is-capped
-    is-capped-requires
+    is-made-requires
     add-count
     add-p
     loop-less
