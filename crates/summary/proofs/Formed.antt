@@ -18,7 +18,8 @@ use Rattle.net.specs.Net.{Net}
 use Rattle.net.specs.Firing.{Light}
 use Rattle.net.specs.declared.Fault.the-variants.{Sound}
 use Rattle.summary_place.specs.Place.{letterAt}
-use Rattle.summary_place.specs.Slots.{nil, slotOf, slotAt, slotsOf, joined, joinedAll, Well}
+use Rattle.summary_place.specs.Slots.{nil, slotOf, slotAt, slotsOf, joined, joinedAll}
+use Rattle.summary_place.specs.Walk.{Well}
 use Rattle.summary_place.specs.declared.Slot.{Slot}
 use Rattle.summary_place.proofs.Words.{slot-append, slot-well}
 use Rattle.summary_place.proofs.Joins.{joined-well, nil-joined, joined-nil, all-length, all-at, all-assoc}

@@ -15,7 +15,8 @@ use Rattle.net.specs.Given.{refuse, outside, unlike}
 use Rattle.net.specs.declared.Fault.{Fault}
 use Rattle.net.specs.declared.Fault.the-variants.{Sound, Faulty}
 use Rattle.net.proofs.Refusals.{or-sound, sound-or, refuse-sound, sound-refuse}
-use Rattle.summary_place.specs.Slots.{nil, slotLimit, Well, Wells}
+use Rattle.summary_place.specs.Slots.{nil}
+use Rattle.summary_place.specs.Walk.{slotLimit, Well, Wells}
 use Rattle.summary_place.proofs.Tests.{of-wells, wells}
 use Rattle.summary.specs.Summary.{badOf, shapeFault}
 use Rattle.summary.specs.Join.{laterFault, joinFault}

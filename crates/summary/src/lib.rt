@@ -14,7 +14,7 @@ ghost use lib.ListN.{length};
 ghost use Rattle.ground.specs.Limits.{countLimit, wordLimit};
 ghost use Rattle.net.specs.Net.{netOf};
 ghost use Rattle.net.specs.Given.{stretch, inside};
-ghost use Rattle.summary_place.specs.Slots.{slotLimit, Wells};
+ghost use Rattle.summary_place.specs.Walk.{slotLimit, Wells};
 ghost use Rattle.summary.specs.Summary.{emptySummary, refusal, Answers, emptyAnswer, partFault, wordAnswer, shapeFault};
 ghost use Rattle.summary.specs.Join.{laterFault, joinFault, joinAnswer};
 ghost use Rattle.summary.specs.Ask.{askFault, Judged, Replied};

@@ -13,8 +13,9 @@ use Rattle.ground.specs.Limits.{countLimit, noCapacity}
 use Rattle.ground.specs.Parts.{up, dn}
 use Rattle.ground.proofs.Tests.{or-false, both-false}
 use Rattle.ground.proofs.Scan.{first-below, first-none}
-use Rattle.summary_place.specs.Slots.{nil, slotBad, badAt, badSlot, Well, Wells}
-use Rattle.summary_place.specs.Asked.{noAt, lowestNo, Covered}
+use Rattle.summary_place.specs.Slots.{nil, slotBad, badAt, badSlot}
+use Rattle.summary_place.specs.Asked.{noAt, lowestNo}
+use Rattle.summary_place.specs.Walk.{Well, Wells, NeedsMet}
 use Rattle.summary_place.specs.declared.Slot.{Slot}
 use Rattle.summary_place.proofs.Border.{up-read, dn-read}
 
@@ -117,6 +118,6 @@ at-yes need climb cap tokens h l = both-false _ _ (le-ltb tokens need h) (go (lt
     go false q = refl
 
 -- where no place says no, every need is covered
-pub covered-of : (slots : List Slot) (caps m : List ℕ) (r : ℕ) → r ≡ lowestNo slots caps m → length m ≤ r → Covered slots m
-covered-of slots caps m r e h =
+pub needs-met : (slots : List Slot) (caps m : List ℕ) (r : ℕ) → r ≡ lowestNo slots caps m → length m ≤ r → NeedsMet slots m
+needs-met slots caps m r e h =
     record { at = λ p l. yes-at (getD slots p nil .need) (getD slots p nil .climb) (getD caps p 0) (getD m p 0) (first-below (λ p. noAt (getD slots p nil .need) (getD slots p nil .climb) (getD caps p 0) (getD m p 0)) (length m) p (omega arith)) .0 }

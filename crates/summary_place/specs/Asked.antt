@@ -1,5 +1,5 @@
--- "A summary asked against a marking": one place, then all.
-use Prim.Native.Nat.{ℕ, _+_, _-_, _≤_, _<_}
+-- To be believed: "A summary asked against a marking", one place, then all.
+use Prim.Native.Nat.{ℕ, _+_, _-_}
 use mathlib.Core.Bool.{Bool, _&&_, _||_}
 use mathlib.Core.List.{List}
 use lib.ListN.{length, getD}
@@ -25,7 +25,3 @@ endAt s tokens = tokens + up (s .change) - dn (s .change)
 -- the end marking
 abbrev pub ends : List Slot → List ℕ → List ℕ
 ends slots m = table (λ p. endAt (getD slots p nil) (getD m p 0)) (length m)
-
--- every place has what its slot needs
-pub record Covered (slots : List Slot) (m : List ℕ) : Type 0 where
-  pub at : (p : ℕ) → p < length m → getD slots p nil .need ≤ getD m p 0

@@ -1,5 +1,5 @@
 use Rattle.summary.proofs.Asking.{judges}
-use Rattle.summary_place.proofs.Tests.{covered-of}
+use Rattle.summary_place.proofs.Tests.{needs-met}
 use borrow.Author.Needs.{needs}
 use Rattle.summary.proofs.ask_slots.Statement.{statement}
 use Rattle.summary.proofs.ask_slots.Tie as tie
@@ -11,7 +11,7 @@ returns : tie.Need-returns
 returns c = search (judges, needs)
 
 write-end-requires : tie.Need-write-end-requires
-write-end-requires c κs = (search needs, (search needs, (search needs, search (covered-of, needs))))
+write-end-requires c κs = (search needs, (search needs, (search needs, search (needs-met, needs))))
 
 same-length : tie.Need-same-length
 same-length c = search needs
