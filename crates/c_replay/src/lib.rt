@@ -10,6 +10,7 @@ ghost use mathlib.Core.Path.{_≡_};
 ghost use mathlib.Core.Bool.{true};
 ghost use mathlib.Core.List.{[], _∷_};
 ghost use Rattle.net.specs.Net.{netOf};
+ghost use Rattle.net.specs.Firing.{causeNumber, causeValues};
 ghost use Rattle.net.specs.Given.{stretch, inside};
 ghost use Rattle.replay.specs.Entry as replay;
 ghost use Rattle.replay.specs.Entry.{replayOf};
@@ -26,7 +27,7 @@ pub struct ReplayAnswer {
 
 // A block: 1 short or 2 over, with the letter and the place.
 fn of_block(at: usize, why: Cause) -> ReplayAnswer
-    ensures { λ r. ⌜ r ≡ handedReplay (0x81 ∷ replay.causeNumber why ∷ at ∷ replay.causePlace why ∷ []) ⌝ }
+    ensures { λ r. ⌜ r ≡ handedReplay (0x81 ∷ causeNumber why ∷ at ∷ causeValues why) ⌝ }
 {
     match why {
         Cause::Short(short) => ReplayAnswer {

@@ -7,9 +7,8 @@ use lib.Seq.{sets}
 use Rattle.ground.specs.Limits.{noCapacity, wordLimit}
 use Rattle.file_digits.specs.Frame.{block, lineText}
 use Rattle.net.specs.Net.{Net, netOf}
-use Rattle.net.specs.Firing.{Light}
 use Rattle.net.specs.Letter.{row, Small}
-use Rattle.net.specs.Given.{Sized, Fine, Letters}
+use Rattle.net.specs.Given.{Sized, Light, Fine, Letters}
 use Rattle.file_line.specs.declared.Reading.{Reading}
 use Rattle.file_line.specs.Read.{Rooms, rooms}
 

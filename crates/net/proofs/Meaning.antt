@@ -36,6 +36,10 @@ cause-apart (Short p) (Over q) e v = let z : _≡_ {A = ℕ} 1 2 = e in absurd (
 cause-apart (Over p) (Short q) e v = let z : _≡_ {A = ℕ} 2 1 = e in absurd (omega arith)
 cause-apart (Over p) (Over q) e v = let x : p ≡ q = cc in cc
 
+pub cause-some : (why : Cause) → causeNumber why ≡ 0 → ⊥
+cause-some (Short p) e = omega arith
+cause-some (Over p) e = omega arith
+
 -- firing in numbers that are not signed
 pub gives-plain : {net : Net} {m m′ : List ℕ} {t : ℕ} → Gives net m t m′ → (p : ℕ) → p < net .places → tokens m′ p + Pre net p t ≡ tokens m p + Post net p t
 gives-plain {net} {m} {m′} {t} g p h = moved-is (tokens m p) (Post net p t) (Pre net p t) (tokens m′ p) .0 (g .at p h)

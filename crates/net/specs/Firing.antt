@@ -83,11 +83,14 @@ abbrev pub Names : Net → List ℕ → ℕ → Cause → Type 0
 Names net m t (Short p) = LowestShort net m t p
 Names net m t (Over p) = LowestOver net m t p
 
--- a cause in numbers: which of the two it is, and what it carries
+-- a cause in numbers: which of the two it is, its place, and all that it carries
 abbrev pub causeNumber : Cause → ℕ
 causeNumber (Short p) = 1
 causeNumber (Over p) = 2
 
+abbrev pub causePlace : Cause → ℕ
+causePlace (Short p) = p
+causePlace (Over p) = p
+
 abbrev pub causeValues : Cause → List ℕ
-causeValues (Short p) = p ∷ []
-causeValues (Over p) = p ∷ []
+causeValues why = causePlace why ∷ []

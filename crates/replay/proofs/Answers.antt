@@ -9,24 +9,25 @@ use borrow.Author.Tests.{eqb-true, le-leb, lt-leb}
 use Rattle.ground.specs.Limits.{wordLimit}
 use Rattle.ground.proofs.Tests.{never, and-true}
 use Rattle.net.specs.Net.{Net}
-use Rattle.net.specs.Given.{firstFault, wordFault, stretch, inside, Sized, Fine, Letters}
+use Rattle.net.specs.Given.{orElse, countsFault, markedFault, wordFault, stretch, inside, Sized, Fine, Letters}
 use Rattle.net.specs.declared.Fault.{Fault}
 use Rattle.net.specs.declared.Fault.the-variants.{Sound, Faulty}
-use Rattle.net.proofs.Refusals.{or-sound, sound-or, first-sound, sound-first, word-sound, sound-word, unfit-all}
+use Rattle.net.proofs.Chains.{chain-first, chain-next, or-sound, sound-or}
+use Rattle.net.proofs.Refusals.{counts-met, marked-met, met-marked, word-met, met-word, counts-unfit, marked-unfit}
 use Rattle.replay.specs.Replay.{Ran, playFrom, Ended}
 use Rattle.replay.specs.Entry.{replayFault, answered, replayOf, numbers, Replayed}
 use Rattle.replay.specs.declared.Replay.{Replay}
 use Rattle.replay.specs.declared.Replay.the-variants.{Refused}
 
--- which refusal: found is what the first three tests gave
-module _ (net : Net) (initial w : List ℕ) (fits : Bool) (found : Fault) (e : found ≡ firstFault net initial fits) where
+-- which refusal: found is what the tests of the net and its marking gave
+module _ (net : Net) (initial w : List ℕ) (fits : Bool) (found : Fault) (e : found ≡ markedFault net initial fits) where
   pub replay-first : (n at : ℕ) → found ≡ Faulty n at → Faulty n at ≡ replayFault net initial w fits
   unfolding replayFault
-  replay-first n at q = rw (← e, q)
+  replay-first n at q = chain-first _ _ found n at e q
 
   pub replay-word : (r : Fault) → found ≡ Sound → r ≡ wordFault (net .transitions) w → r ≡ replayFault net initial w fits
   unfolding replayFault
-  replay-word r q k = rw (← e, q) k
+  replay-word r q k = chain-next _ _ found r e q k
 
 pub ruleset replay-faults = (replay-first, replay-word)
 
@@ -42,24 +43,29 @@ pub record Sane (net : Net) (initial w : List ℕ) (fits : Bool) : Type 0 where
 pub sane-of : (net : Net) (initial w : List ℕ) (fits : Bool) → replayFault net initial w fits ≡ Sound → Sane net initial w fits
 unfolding replayFault
 sane-of net initial w fits e =
-    let a = or-sound (firstFault net initial fits) (wordFault (net .transitions) w) e in
-    let f = first-sound net initial fits (a .0) in
-    let l = word-sound (net .transitions) w (a .1) in
-    record { sized = f .0; marked = f .1; fitting = f .2; fine = f .3; short = l .0; letters = l .1 }
+    let a = or-sound (markedFault net initial fits) (wordFault (net .transitions) w) e in
+    let f = marked-met net initial fits (a .0) in
+    let l = word-met (net .transitions) w (a .1) in
+    record { sized = f .sized; marked = f .marked; fitting = f .fitting; fine = f .fine; short = l .short; letters = l .letters }
 
 pub sane-is : (net : Net) (initial w : List ℕ) (fits : Bool) → Sane net initial w fits → replayFault net initial w fits ≡ Sound
 unfolding replayFault
 sane-is net initial w fits s =
-    sound-or _ _ (sound-first net initial fits (s .sized) (s .marked) (s .fitting) (s .fine)) (sound-word (net .transitions) w (s .short) (s .letters))
+    sound-or _ _
+    (met-marked net initial fits (record { sized = s .sized; marked = s .marked; fitting = s .fitting; fine = s .fine }))
+    (met-word (net .transitions) w (record { short = s .short; letters = s .letters }))
 
 -- where the room or the stretch does not fit, the letters do not matter
-unfit-same : (net : Net) (initial u w room : List ℕ) → replayOf net initial u false room ≡ replayOf net initial w false room
+unfit-fault : (net : Net) (initial w : List ℕ) → replayFault net initial w false ≡ countsFault net false
 unfolding replayFault
-unfit-same net initial u w room = rw and-false (rw (unfit-all net initial (wordFault (net .transitions) u), unfit-all net initial (wordFault (net .transitions) w)) (go (firstFault net initial false) refl))
+unfit-fault net initial w = rw (marked-unfit net initial) (counts-unfit net (wordFault (net .transitions) w))
+
+unfit-same : (net : Net) (initial u w room : List ℕ) → replayOf net initial u false room ≡ replayOf net initial w false room
+unfit-same net initial u w room = rw and-false (rw (unfit-fault net initial u, unfit-fault net initial w) (go (countsFault net false) refl))
   where
-    go : (f : Fault) → firstFault net initial false ≡ f → answered (firstFault net initial false) (playFrom net 0 initial u) room ≡ answered (firstFault net initial false) (playFrom net 0 initial w) room
+    go : (f : Fault) → countsFault net false ≡ f → answered (countsFault net false) (playFrom net 0 initial u) room ≡ answered (countsFault net false) (playFrom net 0 initial w) room
     go (Faulty n at) e = rw e
-    go Sound e = never (sym (first-sound net initial false e .2))
+    go Sound e = never (sym (counts-met net false e .fitting))
 
 -- the answer, from the fault that was found
 module _ (net : Net) (initial w : List ℕ) (within : Bool) (room : List ℕ) (fits : Bool) (found : Fault)

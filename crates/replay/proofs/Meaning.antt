@@ -1,7 +1,7 @@
 -- What a replay's answer means: the demands of document 01, over the published relation. Assumes nothing.
 use Prim.Native.Nat.{ℕ, _+_, _<_}
 use mathlib.Core.Path.{_≡_, refl, sym, ap, _∙_}
-use mathlib.Core.Bool.{Bool, _&&_}
+use mathlib.Core.Bool.{Bool, true, _&&_}
 use mathlib.Core.List.{List, []}
 use mathlib.Core.Logic.{_↔_}
 use native.Mathlib.Omega.{arith}
@@ -12,16 +12,18 @@ use borrow.Author.Tests.{eqb-true, eq-eqb}
 use Rattle.ground.specs.Limits.{replayLimit}
 use Rattle.ground.proofs.Tests.{and-true}
 use Rattle.net.specs.Net.{Net}
-use Rattle.net.specs.Firing.{Fires, Reachable, Within, Names, Light}
+use Rattle.net.specs.Firing.{Fires, Reachable, Within, Names, causeNumber, causeValues}
+use Rattle.net.specs.Given.{Light}
 use Rattle.net.specs.Letter.{Small}
 use Rattle.net.specs.declared.Cause.{Cause}
 use Rattle.net.specs.declared.Cause.the-variants.{Short, Over}
 use Rattle.net.specs.declared.Fault.{Fault}
 use Rattle.net.specs.declared.Fault.the-variants.{Sound, Faulty}
 use Rattle.net.proofs.Judged.{named-stops}
-use Rattle.net.proofs.Meaning.{deterministic, within-stays, replay-reaches}
+use Rattle.net.proofs.Meaning.{cause-apart, cause-some, deterministic, within-stays, replay-reaches}
+use Rattle.net.proofs.Exactly.{Answers, Chain, reads-both, reads-all, marked-reads, word-reads, fault-is, exactly-refused, is-answered, is-allowed}
 use Rattle.replay.specs.Replay.{playFrom}
-use Rattle.replay.specs.Entry.{replayFault, replayOf, numbers, Replayed, Allowed, lettersFired, Longest}
+use Rattle.replay.specs.Entry.{replayFault, replayOf, numbers, Replayed, Allowed, Refusal, lettersFired, Longest}
 use Rattle.replay.specs.declared.Replay.{Replay}
 use Rattle.replay.specs.declared.Replay.the-variants.{Fired, Blocked, Refused}
 use Rattle.replay.proofs.Answers.{sane-of, sane-is}
@@ -30,25 +32,36 @@ use Rattle.replay.proofs.Ending.{Ending, whole, stops, ending, no-more}
 -- `numbers` tells any two answers apart
 pub numbers-apart : (a b : Replay) → numbers a ≡ numbers b → a ≡ b
 numbers-apart (Fired n) (Fired k) e = ap Fired (cc)
-numbers-apart (Fired n) (Blocked k (Short p)) e = let z : _≡_ {A = ℕ} 0 1 = cc in absurd (omega arith)
-numbers-apart (Fired n) (Blocked k (Over p)) e = let z : _≡_ {A = ℕ} 0 2 = cc in absurd (omega arith)
+numbers-apart (Fired n) (Blocked k why) e = let z : _≡_ {A = ℕ} 0 (causeNumber why) = cc in absurd (cause-some why (sym z))
 numbers-apart (Fired n) (Refused k p) e = let z : _≡_ {A = ℕ} 0x81 0x82 = cc in absurd (omega arith)
-numbers-apart (Blocked n (Short p)) (Fired k) e = let z : _≡_ {A = ℕ} 1 0 = cc in absurd (omega arith)
-numbers-apart (Blocked n (Short p)) (Blocked k (Short q)) e = let x : n ≡ k = cc in let y : p ≡ q = cc in cc
-numbers-apart (Blocked n (Short p)) (Blocked k (Over q)) e = let z : _≡_ {A = ℕ} 1 2 = cc in absurd (omega arith)
-numbers-apart (Blocked n (Short p)) (Refused k q) e = let z : _≡_ {A = ℕ} 0x81 0x82 = cc in absurd (omega arith)
-numbers-apart (Blocked n (Over p)) (Fired k) e = let z : _≡_ {A = ℕ} 2 0 = cc in absurd (omega arith)
-numbers-apart (Blocked n (Over p)) (Blocked k (Short q)) e = let z : _≡_ {A = ℕ} 2 1 = cc in absurd (omega arith)
-numbers-apart (Blocked n (Over p)) (Blocked k (Over q)) e = let x : n ≡ k = cc in let y : p ≡ q = cc in cc
-numbers-apart (Blocked n (Over p)) (Refused k q) e = let z : _≡_ {A = ℕ} 0x81 0x82 = cc in absurd (omega arith)
+numbers-apart (Blocked n why) (Fired k) e = let z : causeNumber why ≡ 0 = cc in absurd (cause-some why z)
+numbers-apart (Blocked n why) (Blocked k who) e =
+    let x : n ≡ k = cc in
+    let c : causeNumber why ≡ causeNumber who = cc in
+    let v : causeValues why ≡ causeValues who = cc in
+    rw (x, cause-apart why who c v)
+numbers-apart (Blocked n why) (Refused k p) e = let z : _≡_ {A = ℕ} 0x81 0x82 = cc in absurd (omega arith)
 numbers-apart (Refused n p) (Fired k) e = let z : _≡_ {A = ℕ} 0x82 0x81 = cc in absurd (omega arith)
-numbers-apart (Refused n p) (Blocked k (Short q)) e = let z : _≡_ {A = ℕ} 0x82 0x81 = cc in absurd (omega arith)
-numbers-apart (Refused n p) (Blocked k (Over q)) e = let z : _≡_ {A = ℕ} 0x82 0x81 = cc in absurd (omega arith)
+numbers-apart (Refused n p) (Blocked k why) e = let z : _≡_ {A = ℕ} 0x82 0x81 = cc in absurd (omega arith)
 numbers-apart (Refused n p) (Refused k q) e = let x : n ≡ k = cc in let y : p ≡ q = cc in cc
+
+refused-one : (n at k p : ℕ) → Refused n at ≡ Refused k p → (n ≡ k) × (at ≡ p)
+refused-one n at k p e = (cc, cc)
 
 -- the promise has one answer, and one content of the room
 pub unique : (net : Net) (initial w : List ℕ) (within : Bool) (room : List ℕ) (r r′ : Replay) (m m′ : List ℕ) → Replayed net initial w within room r m → Replayed net initial w within room r′ m′ → (r ≡ r′) × (m ≡ m′)
 unique net initial w within room r r′ m m′ a b = (numbers-apart r r′ (a .answer ∙ sym (b .answer)), a .left ∙ sym (b .left))
+
+-- the chain of refusals, read demand by demand
+read-chain : (net : Net) (initial w : List ℕ) (within : Bool) (room : List ℕ) → Chain (replayFault net initial w (eqb (length room) (net .places) && within)) (Refusal net initial w within room)
+unfolding replayFault
+read-chain net initial w within room = reads-all (reads-both (marked-reads net initial _ out into) (word-reads (net .transitions) w))
+  where
+    out : (eqb (length room) (net .places) && within) ≡ true → (length room ≡ net .places) × (within ≡ true)
+    out e = let f = and-true (eqb (length room) (net .places)) within e in (eqb-true _ _ (f .0), f .1)
+
+    into : (length room ≡ net .places) × (within ≡ true) → (eqb (length room) (net .places) && within) ≡ true
+    into o = rw (eq-eqb (length room) (net .places) (o .0)) (o .1)
 
 module _ (net : Net) (initial w : List ℕ) (within : Bool) (room : List ℕ) where
   -- nothing is refused exactly where all that document 01 asks holds
@@ -75,38 +88,32 @@ module _ (net : Net) (initial w : List ℕ) (within : Bool) (room : List ℕ) wh
         let y : room′ ≡ playFrom net 0 initial w .left = rw f at (p .left) in
         rw (x, y) (ending net 0 initial w (a .marked) (a .letters))
 
-    -- "A refusal leaves lent memory as found", and has the number and position of the first fault
-    pub refused-exactly : (n at : ℕ) → (r ≡ Refused n at) ↔ (replayFault net initial w (eqb (length room) (net .places) && within) ≡ Faulty n at)
-    refused-exactly n at = (λ e. go e (replayFault net initial w (eqb (length room) (net .places) && within)) refl, λ f. answer-is ∙ rw f)
+    -- the answer is the refusal of the first fault, and none where there is no fault
+    answers : Answers Refused (replayFault net initial w (eqb (length room) (net .places) && within)) r
+    answers =
+        record {
+          given = λ n at f. answer-is ∙ rw f;
+          never = λ f n at e. never-refused n at e (ended (allowed-of f));
+        }
       where
-        go : r ≡ Refused n at → (f : Fault) → replayFault net initial w (eqb (length room) (net .places) && within) ≡ f → replayFault net initial w (eqb (length room) (net .places) && within) ≡ Faulty n at
-        go e (Faulty k q) f = f ∙ sym (same (rw f at answer-is))
-          where
-            same : r ≡ Refused k q → Faulty n at ≡ Faulty k q
-            same g = let x : n ≡ k = cc in let y : at ≡ q = cc in cc
-        go e Sound f = never-refused (ended (allowed-of f))
-          where
-            never-refused : Ending net 0 initial w (record { answer = r; left = room′ }) → replayFault net initial w (eqb (length room) (net .places) && within) ≡ Faulty n at
-            never-refused (whole g h) = let z : _≡_ {A = ℕ} 0 1 = cc in absurd (omega arith)
-            never-refused (stops k why g h i j) = let z : _≡_ {A = ℕ} 0 1 = cc in absurd (omega arith)
+        never-refused : (n at : ℕ) → r ≡ Refused n at → Ending net 0 initial w (record { answer = r; left = room′ }) → ⊥
+        never-refused n at e (whole g h) = let z : _≡_ {A = ℕ} 0 1 = cc in omega arith
+        never-refused n at e (stops k why g h i j) = let z : _≡_ {A = ℕ} 0 1 = cc in omega arith
 
+    -- a refusal has the number and position of the first of 01's demands that does not hold, and is given exactly then
+    pub refused-exactly : (n at : ℕ) → (r ≡ Refused n at) ↔ Refusal net initial w within room n at
+    refused-exactly = exactly-refused answers refused-one (read-chain net initial w within room)
+
+    -- "A refusal leaves lent memory as found"
     pub refused-as-found : (n at : ℕ) → r ≡ Refused n at → room′ ≡ room
-    refused-as-found n at e = let f = refused-exactly n at .0 e in rw f at (p .left)
+    refused-as-found n at e = let f = fault-is answers refused-one n at e in rw f at (p .left)
 
     -- a refusal is given exactly where something that document 01 asks does not hold
     pub allowed-answered : Allowed net initial w within room → (n at : ℕ) → r ≡ Refused n at → ⊥
-    allowed-answered a n at e =
-        let f = of-allowed a in
-        let g = refused-exactly n at .0 e in
-        let z : _≡_ {A = ℕ} 0 1 = cc in
-        omega arith
+    allowed-answered = is-answered answers of-allowed
 
     pub answered-allowed : ((n at : ℕ) → r ≡ Refused n at → ⊥) → Allowed net initial w within room
-    answered-allowed h = go (replayFault net initial w (eqb (length room) (net .places) && within)) refl
-      where
-        go : (f : Fault) → replayFault net initial w (eqb (length room) (net .places) && within) ≡ f → Allowed net initial w within room
-        go Sound f = allowed-of f
-        go (Faulty n at) f = absurd (h n at (refused-exactly n at .1 f))
+    answered-allowed = is-allowed answers allowed-of
 
     module _ (allowed : Allowed net initial w within room) where
       -- "fired" exactly when the whole word fires; then the room holds the marking that it fires to

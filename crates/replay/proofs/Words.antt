@@ -12,7 +12,7 @@ use Rattle.ground.specs.Limits.{weightLimit, tokenLimit, wordLimit, tokensAfter
 use Rattle.ground.specs.Lists.{mapAt}
 use Rattle.ground.proofs.Fill.{mapAt-length, mapAt-at}
 use Rattle.net.specs.Net.{Net}
-use Rattle.net.specs.Firing.{Light}
+use Rattle.net.specs.Given.{Light}
 use Rattle.net.specs.Letter.{arcsAt, passes, after, judgeAt, firedAt, Small, Played}
 use Rattle.net.specs.Given.{Letters}
 use Rattle.net.specs.declared.Cause.{Cause}

@@ -7,10 +7,9 @@ use lib.ListN.{length, take}
 use lib.Dec.{eqb}
 use Rattle.ground.specs.Limits.{wordLimit}
 use Rattle.net.specs.Net.{Net}
-use Rattle.net.specs.Firing.{Fires}
-use Rattle.net.specs.Given.{orElse, firstFault, wordFault, Sized, Fine, Letters}
-use Rattle.net.specs.declared.Cause.{Cause}
-use Rattle.net.specs.declared.Cause.the-variants.{Short, Over}
+use Rattle.net.specs.Firing.{Fires, causeNumber, causeValues}
+use Rattle.net.specs.Given.{orElse, markedFault, wordFault, Sized, Fine, Letters}
+use Rattle.net.specs.First.{MarkedFirst, WordFirst}
 use Rattle.net.specs.declared.Fault.{Fault}
 use Rattle.net.specs.declared.Fault.the-variants.{Sound, Faulty}
 use Rattle.replay.specs.Replay.{Ran, playFrom}
@@ -19,7 +18,7 @@ use Rattle.replay.specs.declared.Replay.the-variants.{Fired, Blocked, Re
 
 -- 1, 2, 3, then 4 and 5; `fits` tells whether the room's length and the stretch's ends are right
 unfoldable pub replayFault : Net → List ℕ → List ℕ → Bool → Fault
-replayFault net initial w fits = orElse (firstFault net initial fits) (wordFault (net .transitions) w)
+replayFault net initial w fits = orElse (markedFault net initial fits) (wordFault (net .transitions) w)
 
 -- "A refusal leaves lent memory as found."
 abbrev pub answered : Fault → Ran → List ℕ → Ran
@@ -33,17 +32,9 @@ replayOf net initial w within room =
 
 -- document 01's numbers for each case: 81 00 and the letters fired; 81 01 (short) or 81 02 (over), position and place;
 -- 82, a refusal's number and position
-abbrev pub causeNumber : Cause → ℕ
-causeNumber (Short p) = 1
-causeNumber (Over p) = 2
-
-abbrev pub causePlace : Cause → ℕ
-causePlace (Short p) = p
-causePlace (Over p) = p
-
 abbrev pub numbers : Replay → List ℕ
 numbers (Fired n) = 0x81 ∷ 0 ∷ n ∷ []
-numbers (Blocked i why) = 0x81 ∷ causeNumber why ∷ i ∷ causePlace why ∷ []
+numbers (Blocked i why) = 0x81 ∷ causeNumber why ∷ i ∷ causeValues why
 numbers (Refused n at) = 0x82 ∷ n ∷ at ∷ []
 
 -- what a replay promises of its answer r and of the room at its end
@@ -60,6 +51,11 @@ pub record Allowed (net : Net) (initial w : List ℕ) (within : Bool) (room : Li
   pub fine : Fine (net .caps) initial
   pub short : length w ≤ wordLimit
   pub letters : Letters (net .transitions) w
+
+-- its refusals "in number order", each exactly when its demand is the first that does not hold: n and at are what is given
+abbrev pub Refusal : Net → List ℕ → List ℕ → Bool → List ℕ → ℕ → ℕ → Type 0
+Refusal net initial w within room n at =
+    MarkedFirst net initial ((length room ≡ net .places) × (within ≡ true)) n at (WordFirst (net .transitions) w n at ⊥)
 
 -- the letters fired
 abbrev pub lettersFired : Replay → ℕ

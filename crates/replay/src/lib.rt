@@ -12,7 +12,7 @@ ghost use lib.ListN.{length};
 ghost use Rattle.ground.specs.Limits.{tokenLimit, wordLimit};
 ghost use Rattle.net.specs.Net.{netOf};
 ghost use Rattle.net.specs.Letter.{Small};
-ghost use Rattle.net.specs.Given.{Sized, Letters, stretch, inside};
+ghost use Rattle.net.specs.Given.{Sized, Light, Letters, stretch, inside};
 ghost use Rattle.replay.specs.Replay.{Ended};
 ghost use Rattle.replay.specs.Entry.{replayFault, Replayed};
 
@@ -35,6 +35,7 @@ fn play_word(
     marking: &mut [u32],
 ) -> Replay
     requires { ⌜ Sized (netOf places transitions (now pre) (now post) (now caps)) ⌝ }
+    requires { ⌜ Light (netOf places transitions (now pre) (now post) (now caps)) ⌝ }
     requires { ⌜ length (now marking) ≡ places ⌝ }
     requires { ⌜ Small tokenLimit (now marking) ⌝ }
     requires { ⌜ Letters transitions (now word) ⌝ }
@@ -69,7 +70,7 @@ fn find_fault(
 ) -> Fault
     ensures { λ r. ⌜ r ≡ replayFault (netOf places transitions (now (pre .entry)) (now (post .entry)) (now (caps .entry))) (now (initial .entry)) (now (word .entry)) fits ⌝ }
 {
-    let found = net::first_fault(places, transitions, pre, post, caps, initial, fits);
+    let found = net::marked_fault(places, transitions, pre, post, caps, initial, fits);
     match found {
         Fault::Faulty(number, at) => Fault::Faulty(number, at),
         Fault::Sound => net::word_fault(transitions, word),

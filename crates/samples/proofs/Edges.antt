@@ -3,7 +3,7 @@
 use mathlib.Core.Path.{_≡_, refl}
 use mathlib.Core.Bool.{true}
 use Rattle.ground.specs.Lists.{first, tally, mapAt}
-use Rattle.net.specs.Given.{netFault, markingFault, firstFault}
+use Rattle.net.specs.Given.{countsFault, netFault, markingFault, startFault, markedFault}
 use Rattle.net.specs.declared.Fault.the-variants.{Sound}
 use Rattle.lists.specs.Some.{some, none}
 use Rattle.lists.specs.Whole.{sizeFault}
@@ -16,5 +16,5 @@ use Rattle.samples.specs.Samples.{net, initial}
 use Rattle.samples.specs.Edges.{allTwelve, struckOut}
 
 pub edges : (closedOf net initial allTwelve true Sound ≡ Accepted) × (closedOf net initial struckOut true Sound ≡ Failed (ResultMissing 5 0))
-unfolding first tally mapAt netFault markingFault firstFault some none sizeFault resultsOf lookedOf missing entryFault listFault closedFault
+unfolding first tally mapAt countsFault netFault markingFault startFault markedFault some none sizeFault resultsOf lookedOf missing entryFault listFault closedFault
 edges = (refl, refl)

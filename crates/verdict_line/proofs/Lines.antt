@@ -14,13 +14,13 @@ use Rattle.file_parts.specs.declared.Case.{Case}
 use Rattle.file_parts.specs.declared.Case.the-variants as file
 use Rattle.file_parts.specs.File.{GoodCase}
 use Rattle.net.specs.Net.{Net}
-use Rattle.net.specs.Firing.{Names}
+use Rattle.net.specs.Firing.{Names, causePlace}
 use Rattle.net.specs.declared.Cause.{Cause}
 use Rattle.net.specs.declared.Cause.the-variants.{Short, Over}
 use Rattle.net.specs.declared.Fault.{Fault}
 use Rattle.net.specs.declared.Fault.the-variants.{Sound, Faulty}
 use Rattle.replay.specs.Replay.{playFrom}
-use Rattle.replay.specs.Entry.{replayFault, replayOf, answered, causePlace, Replayed}
+use Rattle.replay.specs.Entry.{replayFault, replayOf, answered, Replayed}
 use Rattle.replay.specs.declared.Replay.{Replay}
 use Rattle.replay.specs.declared.Replay.the-variants.{Fired, Blocked, Refused}
 use Rattle.replay.proofs.Meaning.{numbers-apart, answered-allowed, blocked-cause}

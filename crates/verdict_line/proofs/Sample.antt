@@ -3,7 +3,7 @@ use Prim.Native.Nat.{ℕ}
 use mathlib.Core.Path.{_≡_, refl, sym, ap, _∙_}
 use mathlib.Core.List.{List, [], _∷_, _++_}
 use Rattle.ground.specs.Lists.{first, tally, mapAt, table}
-use Rattle.net.specs.Given.{netFault, markingFault, firstFault, wordFault}
+use Rattle.net.specs.Given.{countsFault, netFault, markingFault, startFault, markedFault, wordFault}
 use Rattle.file_digits.specs.Frame.{lineFeed, valueOf, isDigit, allDigits, digitOf, digitsOf, byteAt, bytesFrom, wordsFrom}
 use Rattle.file_line.specs.declared.Reading.{Reading}
 use Rattle.file_line.specs.declared.Took.the-variants.{Next}
@@ -124,5 +124,5 @@ module _ (caps initial pre post word : List ℕ) where
 
   -- whatever the rooms hold beyond the case
   pub sample : fileLine file rooms0 ≡ answer
-  unfolding feedAll finishOf caseOf first tally mapAt table netFault markingFault firstFault wordFault digitOf digitsOf playFrom replayFault four fours
+  unfolding feedAll finishOf caseOf first tally mapAt table countsFault netFault markingFault startFault markedFault wordFault digitOf digitsOf playFrom replayFault four fours
   sample = ap lineAt (read1 ∙ read2 ∙ read3 ∙ read4 ∙ read5 ∙ read6 ∙ read7) ∙ refl

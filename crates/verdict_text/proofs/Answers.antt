@@ -10,7 +10,7 @@ use Rattle.ground.specs.Limits.{countLimit}
 use Rattle.file_digits.specs.Frame.{digitsOf, lineFeed, lineText}
 use Rattle.net.specs.declared.Cause.{Cause}
 use Rattle.net.specs.declared.Cause.the-variants.{Short, Over}
-use Rattle.replay.specs.Entry.{causePlace}
+use Rattle.net.specs.Firing.{causePlace}
 use Rattle.replay.specs.declared.Replay.{Replay}
 use Rattle.replay.specs.declared.Replay.the-variants.{Fired, Blocked, Refused}
 use Rattle.verdict_text.specs.Verdict.{four, fours, bytesOf, answerLimit, Placed, WrittenBytes}

@@ -6,7 +6,7 @@ use lib.ListN.{length}
 use lib.Seq.{sets}
 use Rattle.ground.specs.Limits.{countLimit}
 use Rattle.file_digits.specs.Frame.{digitsOf, lineText}
-use Rattle.replay.specs.Entry.{causeNumber, causePlace}
+use Rattle.net.specs.Firing.{causeNumber, causePlace}
 use Rattle.replay.specs.declared.Replay.{Replay}
 use Rattle.replay.specs.declared.Replay.the-variants.{Fired, Blocked, Refused}
 

@@ -3,8 +3,8 @@ use borrow.Author.Needs.{needs}
 use Rattle.replay.proofs.find_fault.Statement.{statement}
 use Rattle.replay.proofs.find_fault.Tie as tie
 
-first-fault-requires : tie.Need-first-fault-requires
-first-fault-requires c κs = search needs
+marked-fault-requires : tie.Need-marked-fault-requires
+marked-fault-requires c κs = search needs
 
 enum-known-found : tie.Need-enum-known-found
 enum-known-found c = search needs
@@ -25,7 +25,7 @@ pub find-fault-spec : {M : Type 1} → statement M
 find-fault-spec =
     tie.close
     (tie.spec
-    first-fault-requires
+    marked-fault-requires
     enum-known-found
     enum-told
     word-fault-requires

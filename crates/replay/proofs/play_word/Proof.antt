@@ -1,9 +1,6 @@
 use Prim.Native.Nat.{_-_}
 use lib.ListN.{length}
-use denote.Ref.{now}
-use native.Mathlib.Omega.{arith}
 use Rattle.net.specs.Net.{netOf}
-use Rattle.net.specs.Firing.{Light}
 use Rattle.replay.proofs.Words.{Running, runs}
 use borrow.Author.Needs.{needs}
 use Rattle.replay.proofs.play_word.Statement.{statement}
@@ -34,12 +31,7 @@ loop-less : tie.Need-loop-less Inv-loop μ-loop
 loop-less c = search needs
 
 loop-again : tie.Need-loop-again Inv-loop μ-loop
-loop-again c =
-    let s : tie.After-shared-slice-known2 Inv-loop μ-loop = search needs in
-    let a = s .before .before .args in
-    let l : Light (netOf (a .places) (a .transitions) (now (a .pre)) (now (a .post)) (now (a .caps))) =
-    record { pre = λ k. omega (arith, s .before .shared-slice-known .given k); post = λ k. omega (arith, s .shared-slice-known2 .given k) } in
-    search (runs, needs)
+loop-again c = search (runs, needs)
 
 enum-known-played : tie.Need-enum-known-played Inv-loop μ-loop
 enum-known-played c = search needs
