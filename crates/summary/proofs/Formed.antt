@@ -15,7 +15,7 @@ use Rattle.ground.specs.Limits.{countLimit, weightLimit, wordLimit}
 use Rattle.ground.proofs.Fill.{table-length, table-at}
 use Rattle.ground.proofs.Parts.{parts-eq, le-pos, neg-le}
 use Rattle.net.specs.Net.{Net}
-use Rattle.net.specs.Firing.{Light}
+use Rattle.net.specs.Given.{Light}
 use Rattle.net.specs.declared.Fault.the-variants.{Sound}
 use Rattle.summary_place.specs.Place.{letterAt}
 use Rattle.summary_place.specs.Slots.{nil, slotOf, slotAt, slotsOf, joined, joinedAll}

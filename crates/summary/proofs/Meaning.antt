@@ -14,9 +14,9 @@ use Rattle.ground.specs.Limits.{countLimit, wordLimit}
 use Rattle.ground.specs.Parts.{up}
 use Rattle.ground.proofs.Fill.{table-length, table-at}
 use Rattle.ground.proofs.Parts.{up-sum}
-use Rattle.net.specs.Net.{Net, capacity, Capped, tokens}
-use Rattle.net.specs.Given.{outside, stretch, inside, Sized, Letters}
-use Rattle.net.specs.Firing.{Fires, Within, Light}
+use Rattle.net.specs.Net.{Net, tokens}
+use Rattle.net.specs.Given.{outside, stretch, inside, Light, Sized, Letters}
+use Rattle.net.specs.Firing.{Fires, Within}
 use Rattle.net.specs.declared.Fault.the-variants.{Sound}
 use Rattle.net.proofs.Meaning.{within-stays}
 use Rattle.net.proofs.Refusals.{inside-is}
@@ -26,21 +26,22 @@ use Rattle.replay.specs.declared.Replay.the-variants.{Fired}
 use Rattle.replay.proofs.Meaning.{fired-means, fires-fired}
 use Rattle.summary_place.specs.Place.{letterAt, need, climb, change, prefixClimb}
 use Rattle.summary_place.specs.Slots.{nil, slotOf, slotAt, slotsOf}
-use Rattle.summary_place.specs.Asked.{endAt, ends}
+use Rattle.summary_place.specs.Asked.{endAt, ends, Suffices}
 use Rattle.summary_place.specs.declared.Slot.{Slot}
 use Rattle.summary_place.proofs.Words.{need-peak, climb-peak, climb-prefix}
 use Rattle.summary_place.proofs.Firing.{fires-then, then-fires}
 use Rattle.summary.specs.Summary.{summaryOf, emptySummary, refusal, Answers, emptyAnswer, wordAnswer, shapeFault, WellFormed, Held}
 use Rattle.summary.specs.Join.{joinSummary, joinAnswer, thenJoin}
-use Rattle.summary.specs.Ask.{Replied}
+use Rattle.summary.specs.Ask.{Replied, SufficesWord}
+use Rattle.summary.specs.Allowed.{Count, AskAllowed}
 use Rattle.summary.specs.declared.Summary.{Summary}
 use Rattle.summary.specs.declared.Made.the-variants.{Done}
 use Rattle.summary.specs.declared.Summed.{Summed}
 use Rattle.summary.specs.declared.Asked.{Asked}
 use Rattle.summary.specs.declared.Asked.the-variants.{Yes, No}
 use Rattle.summary.proofs.Answers.{answers-is}
-use Rattle.summary.proofs.Shapes.{of-joinable, over-joined}
-use Rattle.summary.proofs.Asking.{asked-apart, Askable, judged-of, Keeping, yes-means, means-yes, no-means}
+use Rattle.summary.proofs.Joining.{of-join-allowed, over-joined}
+use Rattle.summary.proofs.Asking.{asked-apart, slots-asked, yes-means, means-yes, no-means}
 use Rattle.summary.proofs.Places.{Room, room-less, rising, at-each, from-each, ends-at}
 use Rattle.summary.proofs.Formed.{Shaped, formed-of, of-formed, word-shaped, words-joined, join-shaped, join-grouped, empty-shaped, empty-then, then-empty}
 
@@ -93,6 +94,9 @@ word-well-formed net w sized light h =
 shaped : {P : ℕ} {s : Summary} → Held P s → Shaped s
 shaped {P} {s} h = record { slots = h .slots; shaped = of-formed s (h .formed) }
 
+in-range : {P : ℕ} {s : Summary} → Held P s → Count (s .places)
+in-range {P} {s} h = rw (h .count) (record { some = h .some; few = h .most })
+
 counted : {P : ℕ} {s : Summary} → Held P s → outside (s .places) ≡ false
 counted {P} {s} h = rw (h .count) (inside-is P (h .some) (h .most))
 
@@ -101,7 +105,7 @@ module _ {P : ℕ} {a b : Summary} (x : Held P a) (y : Held P b) where
   -- a join is refused exactly where 7 says so
   pub join-done : a .letters + b .letters ≤ wordLimit → joinAnswer a b ≡ record { answer = Done; summary = joinSummary a b }
   join-done h =
-      rw (of-joinable a b (record { first-count = counted x; second-count = counted y; like = x .count ∙ sym (y .count); first-shape = shaped x .shaped; second-shape = shaped y .shaped; few = h }))
+      rw (of-join-allowed a b (record { first-count = in-range x; second-count = in-range y; like = x .count ∙ sym (y .count); first-formed = x .formed; second-formed = y .formed; few = h }))
 
   pub join-over : wordLimit < a .letters + b .letters → joinAnswer a b ≡ refusal 7 0
   join-over h = rw (over-joined a b (counted x) (counted y) (x .count ∙ sym (y .count)) (shaped x .shaped) (shaped y .shaped) h)
@@ -168,19 +172,17 @@ empty-right {P} {s} h =
     ∙ ap (λ (t : Summary). record { answer = Done; summary = t }) (ap (λ (Q : ℕ). joinSummary s (emptySummary Q)) (sym (h .count)) ∙ then-empty s (shaped h))
 
 -- ---- demand 3
--- the need is covered at each place, and marking plus climb keeps to each capacity
-abbrev pub Keeps : Net → List ℕ → List ℕ → Type 0
-Keeps net w m = (p : ℕ) → p < net .places → (need (letterAt net p) w ≤ tokens m p) × (Capped net p → tokens m p + climb (letterAt net p) w ≤ capacity net p)
-
--- from a marking within capacities a word fires exactly then, and it ends at marking plus change
-pub fires-iff : (net : Net) (w m : List ℕ) → Within net m → Letters (net .transitions) w → ((m′ : List ℕ) × Fires net m w m′) ↔ Keeps net w m
+-- from a marking within capacities a word fires exactly where the need is covered at each place and marking plus climb keeps to each capacity
+pub fires-iff : (net : Net) (w m : List ℕ) → Within net m → Letters (net .transitions) w → ((m′ : List ℕ) × Fires net m w m′) ↔ SufficesWord net w m
 fires-iff net w m i letters = (
-  λ f p h.
-      let q = fires-then (letterAt net p) (Room net p) (room-less net p) (rising net p) w (tokens m p) (i .at p h) (at-each (f .1) i p h) in
-      (rw (need-peak (letterAt net p) (rising net p) w) (q .0), rw (climb-peak (letterAt net p) (rising net p) w) (q .1)),
+  λ f. record {
+    at = λ p h.
+        let q = fires-then (letterAt net p) (Room net p) (room-less net p) (rising net p) w (tokens m p) (i .at p h) (at-each (f .1) i p h) in
+        record { covers = rw (need-peak (letterAt net p) (rising net p) w) (q .0); keeps = rw (climb-peak (letterAt net p) (rising net p) w) (q .1) };
+  },
   λ k. from-each net w m (i .long) letters
       (λ p h. then-fires (letterAt net p) (Room net p) (room-less net p) (rising net p) w (tokens m p)
-      (rw (need-peak (letterAt net p) (rising net p) w) at (k p h .0)) (rw (climb-peak (letterAt net p) (rising net p) w) at (k p h .1))),
+      (rw (need-peak (letterAt net p) (rising net p) w) at (k .at p h .covers)) (rw (climb-peak (letterAt net p) (rising net p) w) at (k .at p h .keeps))),
 )
 
 pub fires-ends : {net : Net} {m w m′ : List ℕ} → Fires net m w m′ → (p : ℕ) → p < net .places → pos (tokens m′ p) ≡ pos (tokens m p) +ℤ change (letterAt net p) w
@@ -188,29 +190,29 @@ fires-ends f p h = ends-at f p h
 
 -- ---- asking
 -- of any summary: yes exactly where the arithmetic holds, and then the room has marking plus change; a no leaves the room
-module _ (net : Net) (m : List ℕ) (s : Summary) (room : List ℕ) (askable : Askable net m s room) (r : Asked) (room′ : List ℕ) (p : Replied net m s room r room′) where
-  pub ask-yes : (r ≡ Yes) ↔ Keeping (s .slots) (net .caps) m
+module _ (net : Net) (m : List ℕ) (s : Summary) (room : List ℕ) (allowed : AskAllowed net m s room) (r : Asked) (room′ : List ℕ) (p : Replied net m s room r room′) where
+  pub ask-yes : (r ≡ Yes) ↔ Suffices (s .slots) (net .caps) m
   ask-yes =
-      let j = judged-of net m s room askable r room′ p in
+      let j = slots-asked net m s room allowed r room′ p in
       (λ e. yes-means (s .slots) (net .caps) m room r room′ j e .0, means-yes (s .slots) (net .caps) m room r room′ j)
 
   pub ask-left : r ≡ Yes → room′ ≡ ends (s .slots) m
-  ask-left e = yes-means (s .slots) (net .caps) m room r room′ (judged-of net m s room askable r room′ p) e .1
+  ask-left e = yes-means (s .slots) (net .caps) m room r room′ (slots-asked net m s room allowed r room′ p) e .1
 
   pub ask-no : r ≡ No → room′ ≡ room
-  ask-no e = no-means (s .slots) (net .caps) m room r room′ (judged-of net m s room askable r room′ p) e .0
+  ask-no e = no-means (s .slots) (net .caps) m room r room′ (slots-asked net m s room allowed r room′ p) e .0
 
 -- of a word's summary: yes exactly where the word fires, with the same end marking
 module _ (net : Net) (light : Light net) (m w room : List ℕ) (allowed : Allowed net m w true room) where
-  askable-word : Askable net m (summaryOf net w) room
-  askable-word =
+  ask-allowed : AskAllowed net m (summaryOf net w) room
+  ask-allowed =
       record {
         sized = allowed .sized;
         marked = allowed .marked;
         roomy = allowed .roomy;
         counted = refl;
         fine = allowed .fine;
-        shaped = word-shaped net light w (allowed .short) .shaped;
+        formed = word-well-formed net w (allowed .sized) light (allowed .short) .formed;
       }
 
   within-given : Within net m
@@ -219,13 +221,13 @@ module _ (net : Net) (light : Light net) (m w room : List ℕ) (allowed : Allowe
   slot-is : (p : ℕ) → p < net .places → getD (slotsOf net w) p nil ≡ slotOf (letterAt net p) w
   slot-is p h = slot-here net w p (allowed .sized .few-places) h
 
-  keeps-of : Keeping (slotsOf net w) (net .caps) m → Keeps net w m
+  word-suffices : Suffices (slotsOf net w) (net .caps) m → SufficesWord net w m
   unfolding slotOf
-  keeps-of k p h = rw (slot-is p h) at (k p (omega (arith, allowed .marked)))
+  word-suffices k = record { at = λ p h. rw (slot-is p h) at (k .at p (omega (arith, allowed .marked))) }
 
-  of-keeps : Keeps net w m → Keeping (slotsOf net w) (net .caps) m
+  suffices-word : SufficesWord net w m → Suffices (slotsOf net w) (net .caps) m
   unfolding slotOf
-  of-keeps k p h = let l : p < net .places = omega (arith, allowed .marked) in rw (slot-is p l) (k p l)
+  suffices-word k = record { at = λ p h. let l : p < net .places = omega (arith, allowed .marked) in rw (slot-is p l) (k .at p l) }
 
   ends-is : (m′ : List ℕ) → Fires net m w m′ → ends (slotsOf net w) m ≡ m′
   unfolding slotOf
@@ -242,14 +244,14 @@ module _ (net : Net) (light : Light net) (m w room : List ℕ) (allowed : Allowe
   module _ (r : Asked) (room′ : List ℕ) (p : Replied net m (summaryOf net w) room r room′) where
     pub ask-fires : r ≡ Yes → Fires net m w room′
     ask-fires e =
-        let k = keeps-of (ask-yes net m (summaryOf net w) room askable-word r room′ p .0 e) in
+        let k = word-suffices (ask-yes net m (summaryOf net w) room ask-allowed r room′ p .0 e) in
         let f = fires-iff net w m within-given (allowed .letters) .1 k in
-        rw (ask-left net m (summaryOf net w) room askable-word r room′ p e ∙ ends-is (f .0) (f .1)) (f .1)
+        rw (ask-left net m (summaryOf net w) room ask-allowed r room′ p e ∙ ends-is (f .0) (f .1)) (f .1)
 
     pub fires-ask : (m′ : List ℕ) → Fires net m w m′ → (r ≡ Yes) × (room′ ≡ m′)
     fires-ask m′ f =
-        let y = ask-yes net m (summaryOf net w) room askable-word r room′ p .1 (of-keeps (fires-iff net w m within-given (allowed .letters) .0 (m′, f))) in
-        (y, ask-left net m (summaryOf net w) room askable-word r room′ p y ∙ ends-is m′ f)
+        let y = ask-yes net m (summaryOf net w) room ask-allowed r room′ p .1 (suffices-word (fires-iff net w m within-given (allowed .letters) .0 (m′, f))) in
+        (y, ask-left net m (summaryOf net w) room ask-allowed r room′ p y ∙ ends-is m′ f)
 
     -- `ask_summary` of `summary_word` answers yes exactly where `replay_word` answers fired, with the same end marking
     module _ (x : Replay) (left : List ℕ) (q : Replayed net m w true room x left) where

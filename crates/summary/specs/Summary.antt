@@ -1,4 +1,4 @@
--- The summary of a word, the empty summary, and when a summary is well formed (document 01, "Summaries").
+-- To be believed: the summary of a word, the empty summary, and when a summary is well formed (document 01, "Summaries").
 use Prim.Native.Nat.{ℕ, _*_, _≤_, _<_}
 use mathlib.Core.Path.{_≡_}
 use mathlib.Core.Bool.{Bool}
@@ -37,13 +37,13 @@ summed Sound s = record { answer = Done; summary = s }
 summed (Faulty n at) s = refusal n at
 
 -- document 01's numbers for each case: 81 00; 82, a refusal's number and position
-abbrev pub numbers : Made → List ℕ
-numbers Done = 0x81 ∷ 0 ∷ []
-numbers (Refused n at) = 0x82 ∷ n ∷ at ∷ []
+abbrev pub madeNumbers : Made → List ℕ
+madeNumbers Done = 0x81 ∷ 0 ∷ []
+madeNumbers (Refused n at) = 0x82 ∷ n ∷ at ∷ []
 
 -- what is promised of an answer r, where x is the answer
 pub record Answers (x r : Summed) : Type 0 where
-  pub answer : numbers (r .answer) ≡ numbers (x .answer)
+  pub answer : madeNumbers (r .answer) ≡ madeNumbers (x .answer)
   pub summary : r .summary ≡ x .summary
 
 -- the empty summary's answer: refusal 1

@@ -1,4 +1,4 @@
--- For the code's walk only: nothing here stands in a public promise.
+-- Only for the code's walk, no answer is made of it: the form in which numbers are computed, and bounds that keep them inside 32 bits.
 use Prim.Native.Nat.{ℕ, _+_, _-_, _*_, _≤_, _<_, max}
 use mathlib.Core.List.{List}
 use lib.ListN.{length, getD}
