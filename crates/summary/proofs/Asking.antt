@@ -65,10 +65,10 @@ pub ruleset slots-answers = (slots-no, slots-yes)
 
 -- nothing is refused exactly where all that 01 asks holds
 module _ (net : Net) (m : List ℕ) (s : Summary) (room : List ℕ) where
-  fits-of : (eqb (length room) (net .places) && eqb (s .places) (net .places)) ≡ true → (length room ≡ net .places) × (s .places ≡ net .places)
+  pub fits-of : (eqb (length room) (net .places) && eqb (s .places) (net .places)) ≡ true → (length room ≡ net .places) × (s .places ≡ net .places)
   fits-of e = let f = and-true (eqb (length room) (net .places)) (eqb (s .places) (net .places)) e in (eqb-true _ _ (f .0), eqb-true _ _ (f .1))
 
-  of-fits : (length room ≡ net .places) × (s .places ≡ net .places) → (eqb (length room) (net .places) && eqb (s .places) (net .places)) ≡ true
+  pub of-fits : (length room ≡ net .places) × (s .places ≡ net .places) → (eqb (length room) (net .places) && eqb (s .places) (net .places)) ≡ true
   of-fits f = rw (eq-eqb (length room) (net .places) (f .0)) (eq-eqb (s .places) (net .places) (f .1))
 
   pub ask-allowed-of : askFault net m s (eqb (length room) (net .places)) ≡ Sound → AskAllowed net m s room

@@ -47,7 +47,7 @@ module _ (a b : Summary) (x : Bool) (ex : x ≡ outside (a .places)) where
 
 pub ruleset join-faults = (join-count, join-count-2, join-unlike, join-like)
 
-count-of : (n : ℕ) → outside n ≡ false → Count n
+pub count-of : (n : ℕ) → outside n ≡ false → Count n
 count-of n e = let i = inside-of n e in record { some = i .0; few = i .1 }
 
 pub of-count : (n : ℕ) → Count n → outside n ≡ false

@@ -5,3 +5,4 @@ pub mod Answers
 pub mod Joining
 pub mod Asking
 pub mod Meaning
+pub mod Exactly

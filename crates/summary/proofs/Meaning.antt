@@ -1,19 +1,21 @@
 -- What summaries mean: the demands of document 01, over its published definitions and the published relation. Assumes nothing.
 use Prim.Native.Nat.{ℕ, _+_, _≤_, _<_}
 use mathlib.Core.Path.{_≡_, refl, sym, ap, _∙_}
-use mathlib.Core.Bool.{true, false}
-use mathlib.Core.List.{List, _++_}
+use mathlib.Core.Bool.{Bool, true, false, cond}
+use mathlib.Core.List.{List, [], _++_}
 use mathlib.Core.Logic.{_↔_}
 use native.Mathlib.Decide.{decLe}
 use native.Mathlib.Omega.{arith}
-use lib.ListN.{length, getD}
+use lib.ListN.{length, getD, replicate, length-replicate, getD-replicate}
+use lib.Dec.{ltb}
 use lib.Seq.{ext-getD}
-use lib.IntN.{pos, _+ℤ_}
+use lib.IntN.{ℤ, pos, _+ℤ_}
 use borrow.Author.Tests.{lt-ltb}
 use Rattle.ground.specs.Limits.{countLimit, wordLimit}
-use Rattle.ground.specs.Parts.{up}
+use Rattle.ground.specs.Parts.{up, dn}
+use Rattle.ground.specs.Lists.{most}
 use Rattle.ground.proofs.Fill.{table-length, table-at}
-use Rattle.ground.proofs.Parts.{up-sum}
+use Rattle.ground.proofs.Parts.{parts-eq, up-sum, dn-sum}
 use Rattle.net.specs.Net.{Net, tokens}
 use Rattle.net.specs.Given.{outside, stretch, inside, Light, Sized, Letters}
 use Rattle.net.specs.Firing.{Fires, Within}
@@ -24,18 +26,17 @@ use Rattle.replay.specs.Entry.{Replayed, Allowed}
 use Rattle.replay.specs.declared.Replay.{Replay}
 use Rattle.replay.specs.declared.Replay.the-variants.{Fired}
 use Rattle.replay.proofs.Meaning.{fired-means, fires-fired}
-use Rattle.summary_place.specs.Place.{letterAt, need, climb, change, prefixClimb}
+use Rattle.summary_place.specs.Place.{Move, letterAt, need, climb, change, prefixClimb}
 use Rattle.summary_place.specs.Slots.{nil, slotOf, slotAt, slotsOf}
 use Rattle.summary_place.specs.Asked.{endAt, ends, Suffices}
 use Rattle.summary_place.specs.declared.Slot.{Slot}
 use Rattle.summary_place.proofs.Words.{need-peak, climb-peak, climb-prefix}
 use Rattle.summary_place.proofs.Firing.{fires-then, then-fires}
-use Rattle.summary.specs.Summary.{summaryOf, emptySummary, refusal, Answers, emptyAnswer, wordAnswer, shapeFault, WellFormed, Held}
+use Rattle.summary.specs.Summary.{summaryOf, emptySummary, refusal, made, Answers, emptyAnswer, wordAnswer, shapeFault, WellFormed, Held}
 use Rattle.summary.specs.Join.{joinSummary, joinAnswer, thenJoin}
 use Rattle.summary.specs.Ask.{Replied, SufficesWord}
 use Rattle.summary.specs.Allowed.{Count, AskAllowed}
 use Rattle.summary.specs.declared.Summary.{Summary}
-use Rattle.summary.specs.declared.Made.the-variants.{Done}
 use Rattle.summary.specs.declared.Summed.{Summed}
 use Rattle.summary.specs.declared.Asked.{Asked}
 use Rattle.summary.specs.declared.Asked.the-variants.{Yes, No}
@@ -43,7 +44,7 @@ use Rattle.summary.proofs.Answers.{answers-is}
 use Rattle.summary.proofs.Joining.{of-join-allowed, over-joined}
 use Rattle.summary.proofs.Asking.{asked-apart, slots-asked, yes-means, means-yes, no-means}
 use Rattle.summary.proofs.Places.{Room, room-less, rising, at-each, from-each, ends-at}
-use Rattle.summary.proofs.Formed.{Shaped, formed-of, of-formed, word-shaped, words-joined, join-shaped, join-grouped, empty-shaped, empty-then, then-empty}
+use Rattle.summary.proofs.Formed.{Shaped, at-formed, formed-of, of-formed, word-shaped, words-joined, join-shaped, join-grouped, empty-shaped, empty-then, then-empty}
 
 -- ---- each promise has one answer, and one content of the room
 pub empty-unique : (P : ℕ) (r r′ : Summed) → Answers (emptyAnswer P) r → Answers (emptyAnswer P) r′ → r ≡ r′
@@ -76,6 +77,24 @@ summary-published net w p h l =
     slot-here net w p h l
     ∙ (λ i. record { need = need (letterAt net p) w; climb = climb-published net p w i; change = change (letterAt net p) w })
 
+-- the summary of the empty word is the empty summary
+slot-none : (at : ℕ → Move) → slotOf at [] ≡ nil
+unfolding slotOf need climb change most
+slot-none at = refl
+
+pub empty-word : (net : Net) → summaryOf net [] ≡ emptySummary (net .places)
+empty-word net = λ i. record { places = net .places; letters = 0; slots = same i }
+  where
+    each : (p : ℕ) (b : Bool) → cond b (slotOf (letterAt net p) []) nil ≡ nil
+    each p true = slot-none (letterAt net p)
+    each p false = refl
+
+    same : slotsOf net [] ≡ replicate countLimit nil
+    same =
+        ext-getD nil (slotsOf net []) (replicate countLimit nil) (table-length (slotAt net []) countLimit ∙ sym (length-replicate countLimit nil))
+        (λ k h. let l : k < countLimit = omega (arith, table-length (slotAt net []) countLimit) in
+        table-at (slotAt net []) countLimit k nil l ∙ each k (ltb k (net .places)) ∙ sym (getD-replicate countLimit k nil nil l))
+
 -- ---- well formed
 -- refusal 6 is not given exactly where a summary is well formed as published
 pub well-formed-iff : (s : Summary) → (shapeFault s ≡ Sound) ↔ WellFormed s
@@ -103,7 +122,7 @@ counted {P} {s} h = rw (h .count) (inside-is P (h .some) (h .most))
 -- ---- joining
 module _ {P : ℕ} {a b : Summary} (x : Held P a) (y : Held P b) where
   -- a join is refused exactly where 7 says so
-  pub join-done : a .letters + b .letters ≤ wordLimit → joinAnswer a b ≡ record { answer = Done; summary = joinSummary a b }
+  pub join-done : a .letters + b .letters ≤ wordLimit → joinAnswer a b ≡ made (joinSummary a b)
   join-done h =
       rw (of-join-allowed a b (record { first-count = in-range x; second-count = in-range y; like = x .count ∙ sym (y .count); first-formed = x .formed; second-formed = y .formed; few = h }))
 
@@ -118,10 +137,10 @@ module _ {P : ℕ} {a b : Summary} (x : Held P a) (y : Held P b) where
 
 -- the join of two words' summaries is the summary of the word that they make, refused exactly where that word is too long
 module _ (net : Net) (u w : List ℕ) (sized : Sized net) (light : Light net) (hu : length u ≤ wordLimit) (hw : length w ≤ wordLimit) where
-  pub join-of-words : length u + length w ≤ wordLimit → joinAnswer (summaryOf net u) (summaryOf net w) ≡ record { answer = Done; summary = summaryOf net (u ++ w) }
+  pub join-of-words : length u + length w ≤ wordLimit → joinAnswer (summaryOf net u) (summaryOf net w) ≡ made (summaryOf net (u ++ w))
   join-of-words h =
       join-done (word-well-formed net u sized light hu) (word-well-formed net w sized light hw) h
-      ∙ ap (λ (s : Summary). record { answer = Done; summary = s }) (words-joined net u w)
+      ∙ ap (λ (s : Summary). made s) (words-joined net u w)
 
   pub join-of-long-words : wordLimit < length u + length w → joinAnswer (summaryOf net u) (summaryOf net w) ≡ refusal 7 0
   join-of-long-words h = join-over (word-well-formed net u sized light hu) (word-well-formed net w sized light hw) h
@@ -130,7 +149,7 @@ module _ (net : Net) (u w : List ℕ) (sized : Sized net) (light : Light net) (h
 pub join-associative : {P : ℕ} {a b c : Summary} → Held P a → Held P b → Held P c → thenJoin (joinAnswer a b) (λ s. joinAnswer s c) ≡ thenJoin (joinAnswer b c) (λ s. joinAnswer a s)
 join-associative {P} {a} {b} {c} x y z = elim (decLe (a .letters + b .letters) wordLimit) [ yes h ↦ left h | no h ↦ left-over (omega arith) ]
   where
-    go : (j : Summed) (s : Summary) → j ≡ record { answer = Done; summary = s } → (f : Summary → Summed) → thenJoin j f ≡ f s
+    go : (j : Summed) (s : Summary) → j ≡ made s → (f : Summary → Summed) → thenJoin j f ≡ f s
     go j s e f = ap (λ (k : Summed). thenJoin k f) e
 
     stop : (j : Summed) → j ≡ refusal 7 0 → (f : Summary → Summed) → thenJoin j f ≡ refusal 7 0
@@ -152,7 +171,7 @@ join-associative {P} {a} {b} {c} x y z = elim (decLe (a .letters + b .letters) w
         elim (decLe (a .letters + b .letters + c .letters) wordLimit) [
           | yes k ↦
               go _ _ (join-done x y h) (λ s. joinAnswer s c) ∙ join-done (join-held x y h) z k
-              ∙ ap (λ (s : Summary). record { answer = Done; summary = s }) (join-grouped a b c (shaped x) (shaped y))
+              ∙ ap (λ (s : Summary). made s) (join-grouped a b c (shaped x) (shaped y))
               ∙ sym (go _ _ (join-done y z (omega arith)) (λ s. joinAnswer a s) ∙ join-done x (join-held y z (omega arith)) (omega arith))
           | no k ↦ go _ _ (join-done x y h) (λ s. joinAnswer s c) ∙ join-over (join-held x y h) z (omega arith) ∙ sym (right-over (omega arith))
         ]
@@ -161,15 +180,15 @@ join-associative {P} {a} {b} {c} x y z = elim (decLe (a .letters + b .letters) w
 pub empty-held : (P : ℕ) → 1 ≤ P → P ≤ countLimit → Held P (emptySummary P)
 empty-held P h l = record { some = h; most = l; count = refl; slots = empty-shaped P .slots; formed = formed-of (emptySummary P) (empty-shaped P .shaped) }
 
-pub empty-left : {P : ℕ} {s : Summary} → Held P s → joinAnswer (emptySummary P) s ≡ record { answer = Done; summary = s }
+pub empty-left : {P : ℕ} {s : Summary} → Held P s → joinAnswer (emptySummary P) s ≡ made s
 empty-left {P} {s} h =
     join-done (empty-held P (h .some) (h .most)) h (omega (arith, h .formed .few))
-    ∙ ap (λ (t : Summary). record { answer = Done; summary = t }) (ap (λ (Q : ℕ). joinSummary (emptySummary Q) s) (sym (h .count)) ∙ empty-then s (shaped h))
+    ∙ ap (λ (t : Summary). made t) (ap (λ (Q : ℕ). joinSummary (emptySummary Q) s) (sym (h .count)) ∙ empty-then s (shaped h))
 
-pub empty-right : {P : ℕ} {s : Summary} → Held P s → joinAnswer s (emptySummary P) ≡ record { answer = Done; summary = s }
+pub empty-right : {P : ℕ} {s : Summary} → Held P s → joinAnswer s (emptySummary P) ≡ made s
 empty-right {P} {s} h =
     join-done h (empty-held P (h .some) (h .most)) (omega (arith, h .formed .few))
-    ∙ ap (λ (t : Summary). record { answer = Done; summary = t }) (ap (λ (Q : ℕ). joinSummary s (emptySummary Q)) (sym (h .count)) ∙ then-empty s (shaped h))
+    ∙ ap (λ (t : Summary). made t) (ap (λ (Q : ℕ). joinSummary s (emptySummary Q)) (sym (h .count)) ∙ then-empty s (shaped h))
 
 -- ---- demand 3
 -- from a marking within capacities a word fires exactly where the need is covered at each place and marking plus climb keeps to each capacity
@@ -198,6 +217,19 @@ module _ (net : Net) (m : List ℕ) (s : Summary) (room : List ℕ) (allowed : A
 
   pub ask-left : r ≡ Yes → room′ ≡ ends (s .slots) m
   ask-left e = yes-means (s .slots) (net .caps) m room r room′ (slots-asked net m s room allowed r room′ p) e .1
+
+  -- in signed numbers
+  pub ask-ends : r ≡ Yes → (k : ℕ) → k < net .places → pos (tokens room′ k) ≡ pos (tokens m k) +ℤ (getD (s .slots) k nil .change)
+  ask-ends e k h =
+      let y = yes-means (s .slots) (net .caps) m room r room′ (slots-asked net m s room allowed r room′ p) e in
+      let l : k < length m = omega (arith, allowed .marked) in
+      let b : k < countLimit = omega (arith, allowed .sized .few-places) in
+      let w = at-formed s k (record { at = λ h. allowed .formed .at k h b; past = λ h. allowed .formed .past k h b }) in
+      let c : ℤ = getD (s .slots) k nil .change in
+      let a : tokens room′ k ≡ endAt (getD (s .slots) k nil) (tokens m k) = ap (λ (x : List ℕ). getD x k 0) (y .1) ∙ table-at (λ k. endAt (getD (s .slots) k nil) (getD m k 0)) (length m) k 0 l in
+      let n = y .0 .at k l .covers in
+      let d = w .down in
+      parts-eq (pos (tokens room′ k)) (pos (tokens m k) +ℤ c) (omega (arith, up-sum (pos (tokens m k)) c)) (omega (arith, dn-sum (pos (tokens m k)) c))
 
   pub ask-no : r ≡ No → room′ ≡ room
   ask-no e = no-means (s .slots) (net .caps) m room r room′ (slots-asked net m s room allowed r room′ p) e .0

@@ -31,9 +31,13 @@ emptySummary P = record { places = P; letters = 0; slots = replicate countLimit 
 abbrev pub refusal : ℕ → ℕ → Summed
 refusal n at = record { answer = Refused n at; summary = emptySummary 0 }
 
+-- a summary that was made
+abbrev pub made : Summary → Summed
+made s = record { answer = Done; summary = s }
+
 -- an answer: a summary, or where something was at fault a refusal
 abbrev pub summed : Fault → Summary → Summed
-summed Sound s = record { answer = Done; summary = s }
+summed Sound s = made s
 summed (Faulty n at) s = refusal n at
 
 -- document 01's numbers for each case: 81 00; 82, a refusal's number and position
