@@ -7,13 +7,13 @@ use lib.ListN.{length}
 use lib.Dec.{eqb}
 use Rattle.ground.proofs.Tests.{never, and-true}
 use Rattle.net.specs.Net.{Net}
-use Rattle.net.specs.Given.{refuse, orElse, outside, countsFault, markedFault, stretch, inside}
+use Rattle.net.specs.Given.{refuse, orElse, outside, countsFault, stretch, inside}
 use Rattle.net.specs.declared.Fault.{Fault}
 use Rattle.net.specs.declared.Fault.the-variants.{Sound, Faulty}
 use Rattle.net.proofs.Chains.{or-sound}
 use Rattle.net.proofs.Refusals.{counts-met, counts-unfit, marked-unfit}
 use Rattle.summary_place.specs.declared.Slot.{Slot}
-use Rattle.summary.specs.Summary.{emptySummary, refusal, summed, Answers, emptyAnswer, summaryOf, partFault, wordAnswer, shapeFault}
+use Rattle.summary.specs.Summary.{emptySummary, refusal, summed, Answers, emptyAnswer, summaryOf, wordAnswer, shapeFault}
 use Rattle.summary.specs.Join.{joinFault, joinSummary, joinAnswer}
 use Rattle.summary.specs.Ask.{Reply, askFault, slotsReply, replied, askedNumbers, Replied}
 use Rattle.summary.specs.declared.Summary.{Summary}

@@ -21,10 +21,10 @@ use Rattle.net.proofs.Exactly as law
 use Rattle.net.proofs.Exactly.{Chain, Reads, tells-as, tells-test, tells-scan, reads-test, reads-both, reads-all, net-reads, marked-reads, word-reads, fault-is, exactly-refused, is-answered, is-allowed}
 use Rattle.summary_place.specs.Slots.{nil, badAt}
 use Rattle.summary_place.proofs.Tests.{not-bad, well-not}
-use Rattle.summary.specs.Summary.{summaryOf, emptySummary, refusal, made, summed, Answers, emptyAnswer, partFault, wordAnswer, shapeFault}
+use Rattle.summary.specs.Summary.{summaryOf, emptySummary, refusal, made, summed, Answers, emptyAnswer, partFault, wordAnswer, shapeFault, FormedAt, SlotsFormed, Count}
 use Rattle.summary.specs.Join.{joinSummary, laterFault, joinFault, joinAnswer}
 use Rattle.summary.specs.Ask.{askFault, askAnswer, Replied}
-use Rattle.summary.specs.Allowed.{Count, Inside, FormedAt, SlotsFormed, FormedFirst, EmptyAllowed, EmptyRefusal, WordAllowed, WordRefusal, StretchAllowed, StretchRefusal, JoinAllowed, JoinRefusal, AskAllowed, AskRefusal}
+use Rattle.summary.specs.Allowed.{Inside, FormedFirst, EmptyAllowed, EmptyRefusal, WordAllowed, WordRefusal, StretchAllowed, StretchRefusal, JoinAllowed, JoinRefusal, AskAllowed, AskRefusal}
 use Rattle.summary.specs.declared.Summary.{Summary}
 use Rattle.summary.specs.declared.Summed.{Summed}
 use Rattle.summary.specs.declared.Asked.{Asked}

@@ -24,9 +24,8 @@ use Rattle.summary_place.specs.declared.Slot.{Slot}
 use Rattle.summary_place.proofs.Words.{slot-append, slot-well}
 use Rattle.summary_place.proofs.Joins.{joined-well, nil-joined, joined-nil, all-length, all-at, all-assoc}
 use Rattle.summary_place.proofs.Tests.{wells-of, nil-well}
-use Rattle.summary.specs.Summary.{summaryOf, emptySummary, shapeFault, WellFormed}
+use Rattle.summary.specs.Summary.{summaryOf, emptySummary, shapeFault, FormedAt, WellFormed}
 use Rattle.summary.specs.Join.{joinSummary}
-use Rattle.summary.specs.Allowed.{FormedAt}
 use Rattle.summary.specs.declared.Summary.{Summary}
 use Rattle.summary.proofs.Shapes.{shape-sound, sound-shape}
 use Rattle.summary.proofs.Places.{rising}
@@ -71,14 +70,10 @@ module _ (s : Summary) (p : ℕ) where
 pub formed-of : (s : Summary) → shapeFault s ≡ Sound → WellFormed s
 formed-of s e =
     let a = shape-sound s e in
-    record {
-      few = a .0;
-      at = λ p h l. formed-at s p (wells-of (s .places) (weightLimit * s .letters) (s .slots) (a .1) p l) .at h;
-      past = λ p h l. formed-at s p (wells-of (s .places) (weightLimit * s .letters) (s .slots) (a .1) p l) .past h;
-    }
+    record { few = a .0; slots = record { each = λ p l. formed-at s p (wells-of (s .places) (weightLimit * s .letters) (s .slots) (a .1) p l) } }
 
 pub of-formed : (s : Summary) → WellFormed s → shapeFault s ≡ Sound
-of-formed s f = sound-shape s (f .few) (λ p l. at-formed s p (record { at = λ h. f .at p h l; past = λ h. f .past p h l }))
+of-formed s f = sound-shape s (f .few) (λ p l. at-formed s p (f .slots .each p l))
 
 -- a summary as the code holds one: 64 slots, well formed
 pub record Shaped (s : Summary) : Type 0 where

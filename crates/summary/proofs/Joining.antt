@@ -14,9 +14,9 @@ use Rattle.net.specs.declared.Fault.{Fault}
 use Rattle.net.specs.declared.Fault.the-variants.{Sound, Faulty}
 use Rattle.net.proofs.Chains.{or-sound, sound-or, refuse-sound, sound-refuse}
 use Rattle.net.proofs.Refusals.{inside-of, inside-is}
-use Rattle.summary.specs.Summary.{shapeFault}
+use Rattle.summary.specs.Summary.{shapeFault, WellFormed, Count}
 use Rattle.summary.specs.Join.{laterFault, joinFault}
-use Rattle.summary.specs.Allowed.{Count, JoinAllowed}
+use Rattle.summary.specs.Allowed.{JoinAllowed}
 use Rattle.summary.specs.declared.Summary.{Summary}
 use Rattle.summary.proofs.Shapes.{shape-few}
 use Rattle.summary.proofs.Formed.{formed-of, of-formed}
@@ -79,6 +79,7 @@ of-join-allowed a b j =
     (sound-or _ _ (of-formed a (j .first-formed)) (sound-or _ _ (of-formed b (j .second-formed)) (sound-refuse _ 7 0 (le-ltb wordLimit (a .letters + b .letters) (j .few))))))
 
 -- lengths that are too large together are the last thing that is looked at
-pub over-joined : (a b : Summary) → outside (a .places) ≡ false → outside (b .places) ≡ false → a .places ≡ b .places → shapeFault a ≡ Sound → shapeFault b ≡ Sound → wordLimit < a .letters + b .letters → joinFault a b ≡ Faulty 7 0
+pub over-joined : (a b : Summary) → Count (a .places) → Count (b .places) → a .places ≡ b .places → WellFormed a → WellFormed b → wordLimit < a .letters + b .letters → joinFault a b ≡ Faulty 7 0
 unfolding joinFault laterFault
-over-joined a b x y e p q h = rw (x, y, eq-eqb (a .places) (b .places) e, p, q, lt-ltb wordLimit (a .letters + b .letters) h)
+over-joined a b x y e p q h =
+    rw (of-count (a .places) x, of-count (b .places) y, eq-eqb (a .places) (b .places) e, of-formed a p, of-formed b q, lt-ltb wordLimit (a .letters + b .letters) h)

@@ -12,16 +12,15 @@ use lib.Seq.{ext-getD}
 use lib.IntN.{ℤ, pos, _+ℤ_}
 use borrow.Author.Tests.{lt-ltb}
 use Rattle.ground.specs.Limits.{countLimit, wordLimit}
-use Rattle.ground.specs.Parts.{up, dn}
+use Rattle.ground.specs.Parts.{up}
 use Rattle.ground.specs.Lists.{most}
 use Rattle.ground.proofs.Fill.{table-length, table-at}
 use Rattle.ground.proofs.Parts.{parts-eq, up-sum, dn-sum}
 use Rattle.net.specs.Net.{Net, tokens}
-use Rattle.net.specs.Given.{outside, stretch, inside, Light, Sized, Letters}
+use Rattle.net.specs.Given.{stretch, inside, Light, Sized, Letters}
 use Rattle.net.specs.Firing.{Fires, Within}
 use Rattle.net.specs.declared.Fault.the-variants.{Sound}
 use Rattle.net.proofs.Meaning.{within-stays}
-use Rattle.net.proofs.Refusals.{inside-is}
 use Rattle.replay.specs.Entry.{Replayed, Allowed}
 use Rattle.replay.specs.declared.Replay.{Replay}
 use Rattle.replay.specs.declared.Replay.the-variants.{Fired}
@@ -32,10 +31,10 @@ use Rattle.summary_place.specs.Asked.{endAt, ends, Suffices}
 use Rattle.summary_place.specs.declared.Slot.{Slot}
 use Rattle.summary_place.proofs.Words.{need-peak, climb-peak, climb-prefix}
 use Rattle.summary_place.proofs.Firing.{fires-then, then-fires}
-use Rattle.summary.specs.Summary.{summaryOf, emptySummary, refusal, made, Answers, emptyAnswer, wordAnswer, shapeFault, WellFormed, Held}
+use Rattle.summary.specs.Summary.{summaryOf, emptySummary, refusal, made, Answers, emptyAnswer, wordAnswer, shapeFault, WellFormed, Count, Held}
 use Rattle.summary.specs.Join.{joinSummary, joinAnswer, thenJoin}
 use Rattle.summary.specs.Ask.{Replied, SufficesWord}
-use Rattle.summary.specs.Allowed.{Count, AskAllowed}
+use Rattle.summary.specs.Allowed.{AskAllowed}
 use Rattle.summary.specs.declared.Summary.{Summary}
 use Rattle.summary.specs.declared.Summed.{Summed}
 use Rattle.summary.specs.declared.Asked.{Asked}
@@ -103,8 +102,7 @@ well-formed-iff s = (formed-of s, of-formed s)
 pub word-well-formed : (net : Net) (w : List ℕ) → Sized net → Light net → length w ≤ wordLimit → Held (net .places) (summaryOf net w)
 word-well-formed net w sized light h =
     record {
-      some = sized .some-places;
-      most = sized .few-places;
+      range = record { some = sized .some-places; few = sized .few-places };
       count = refl;
       slots = word-shaped net light w h .slots;
       formed = formed-of (summaryOf net w) (word-shaped net light w h .shaped);
@@ -114,10 +112,7 @@ shaped : {P : ℕ} {s : Summary} → Held P s → Shaped s
 shaped {P} {s} h = record { slots = h .slots; shaped = of-formed s (h .formed) }
 
 in-range : {P : ℕ} {s : Summary} → Held P s → Count (s .places)
-in-range {P} {s} h = rw (h .count) (record { some = h .some; few = h .most })
-
-counted : {P : ℕ} {s : Summary} → Held P s → outside (s .places) ≡ false
-counted {P} {s} h = rw (h .count) (inside-is P (h .some) (h .most))
+in-range {P} {s} h = rw (h .count) (h .range)
 
 -- ---- joining
 module _ {P : ℕ} {a b : Summary} (x : Held P a) (y : Held P b) where
@@ -127,13 +122,13 @@ module _ {P : ℕ} {a b : Summary} (x : Held P a) (y : Held P b) where
       rw (of-join-allowed a b (record { first-count = in-range x; second-count = in-range y; like = x .count ∙ sym (y .count); first-formed = x .formed; second-formed = y .formed; few = h }))
 
   pub join-over : wordLimit < a .letters + b .letters → joinAnswer a b ≡ refusal 7 0
-  join-over h = rw (over-joined a b (counted x) (counted y) (x .count ∙ sym (y .count)) (shaped x .shaped) (shaped y .shaped) h)
+  join-over h = rw (over-joined a b (in-range x) (in-range y) (x .count ∙ sym (y .count)) (x .formed) (y .formed) h)
 
   -- the join of two well-formed summaries is one
   pub join-held : a .letters + b .letters ≤ wordLimit → Held P (joinSummary a b)
   join-held h =
       let j = join-shaped a b (shaped x) (shaped y) (x .count ∙ sym (y .count)) h in
-      record { some = x .some; most = x .most; count = x .count; slots = j .slots; formed = formed-of (joinSummary a b) (j .shaped) }
+      record { range = x .range; count = x .count; slots = j .slots; formed = formed-of (joinSummary a b) (j .shaped) }
 
 -- the join of two words' summaries is the summary of the word that they make, refused exactly where that word is too long
 module _ (net : Net) (u w : List ℕ) (sized : Sized net) (light : Light net) (hu : length u ≤ wordLimit) (hw : length w ≤ wordLimit) where
@@ -177,17 +172,17 @@ join-associative {P} {a} {b} {c} x y z = elim (decLe (a .letters + b .letters) w
         ]
 
 -- the empty summary is neutral on both sides, for whole summaries
-pub empty-held : (P : ℕ) → 1 ≤ P → P ≤ countLimit → Held P (emptySummary P)
-empty-held P h l = record { some = h; most = l; count = refl; slots = empty-shaped P .slots; formed = formed-of (emptySummary P) (empty-shaped P .shaped) }
+pub empty-held : (P : ℕ) → Count P → Held P (emptySummary P)
+empty-held P c = record { range = c; count = refl; slots = empty-shaped P .slots; formed = formed-of (emptySummary P) (empty-shaped P .shaped) }
 
 pub empty-left : {P : ℕ} {s : Summary} → Held P s → joinAnswer (emptySummary P) s ≡ made s
 empty-left {P} {s} h =
-    join-done (empty-held P (h .some) (h .most)) h (omega (arith, h .formed .few))
+    join-done (empty-held P (h .range)) h (omega (arith, h .formed .few))
     ∙ ap (λ (t : Summary). made t) (ap (λ (Q : ℕ). joinSummary (emptySummary Q) s) (sym (h .count)) ∙ empty-then s (shaped h))
 
 pub empty-right : {P : ℕ} {s : Summary} → Held P s → joinAnswer s (emptySummary P) ≡ made s
 empty-right {P} {s} h =
-    join-done h (empty-held P (h .some) (h .most)) (omega (arith, h .formed .few))
+    join-done h (empty-held P (h .range)) (omega (arith, h .formed .few))
     ∙ ap (λ (t : Summary). made t) (ap (λ (Q : ℕ). joinSummary s (emptySummary Q)) (sym (h .count)) ∙ then-empty s (shaped h))
 
 -- ---- demand 3
@@ -224,7 +219,7 @@ module _ (net : Net) (m : List ℕ) (s : Summary) (room : List ℕ) (allowed : A
       let y = yes-means (s .slots) (net .caps) m room r room′ (slots-asked net m s room allowed r room′ p) e in
       let l : k < length m = omega (arith, allowed .marked) in
       let b : k < countLimit = omega (arith, allowed .sized .few-places) in
-      let w = at-formed s k (record { at = λ h. allowed .formed .at k h b; past = λ h. allowed .formed .past k h b }) in
+      let w = at-formed s k (allowed .formed .slots .each k b) in
       let c : ℤ = getD (s .slots) k nil .change in
       let a : tokens room′ k ≡ endAt (getD (s .slots) k nil) (tokens m k) = ap (λ (x : List ℕ). getD x k 0) (y .1) ∙ table-at (λ k. endAt (getD (s .slots) k nil) (getD m k 0)) (length m) k 0 l in
       let n = y .0 .at k l .covers in

@@ -1,34 +1,14 @@
 -- To be believed: what 01 asks of what is lent for each question about summaries, and which refusal is given exactly when.
-use Prim.Native.Nat.{ℕ, _+_, _≤_, _<_}
+use Prim.Native.Nat.{ℕ, _+_, _≤_}
 use mathlib.Core.Path.{_≡_}
 use mathlib.Core.List.{List}
-use lib.ListN.{length, getD}
+use lib.ListN.{length}
 use Rattle.ground.specs.Limits.{countLimit, wordLimit}
 use Rattle.net.specs.Net.{Net}
 use Rattle.net.specs.Given.{stretch, Sized, Fine, Letters}
 use Rattle.net.specs.First.{First, Given, GivenAt, NetFirst, MarkedFirst, WordFirst}
-use Rattle.summary_place.specs.Slots.{nil}
-use Rattle.summary.specs.Summary.{WellAt, WellFormed}
+use Rattle.summary.specs.Summary.{FormedAt, SlotsFormed, WellFormed, Count}
 use Rattle.summary.specs.declared.Summary.{Summary}
-
--- ---- what the demands speak of
--- 1 unless a summary's place count is in range
-pub record Count (P : ℕ) : Type 0 where
-  pub some : 1 ≤ P
-  pub few : P ≤ countLimit
-
--- 2 unless a stretch ends neither before its start nor past its word
-pub record Inside (w : List ℕ) (a b : ℕ) : Type 0 where
-  pub forward : a ≤ b
-  pub within : b ≤ length w
-
--- 6 unless each slot is well formed: at a place as published, past the places zero
-pub record FormedAt (s : Summary) (p : ℕ) : Type 0 where
-  pub at : p < s .places → WellAt (s .letters) (getD (s .slots) p nil)
-  pub past : s .places ≤ p → getD (s .slots) p nil ≡ nil
-
-pub record SlotsFormed (s : Summary) : Type 0 where
-  pub each : (p : ℕ) → p < countLimit → FormedAt s p
 
 -- 6, "a summary isn't well formed", with position "0 if n is too large, else the lowest place or slot"; `Next` is what comes after it
 abbrev pub FormedFirst : Summary → ℕ → ℕ → Type 0 → Type 0
@@ -52,7 +32,13 @@ pub record WordAllowed (net : Net) (w : List ℕ) : Type 0 where
 abbrev pub WordRefusal : Net → List ℕ → ℕ → ℕ → Type 0
 WordRefusal net w n at = NetFirst net (Unit {0}) n at (WordFirst (net .transitions) w n at ⊥)
 
--- ---- a stretch's summary: "refusals 4 and 5 look at the stretch only"
+-- ---- a stretch's summary
+-- 2 unless a stretch ends neither before its start nor past its word
+pub record Inside (w : List ℕ) (a b : ℕ) : Type 0 where
+  pub forward : a ≤ b
+  pub within : b ≤ length w
+
+-- "refusals 4 and 5 look at the stretch only"
 pub record StretchAllowed (net : Net) (w : List ℕ) (a b : ℕ) : Type 0 where
   pub sized : Sized net
   pub inside : Inside w a b

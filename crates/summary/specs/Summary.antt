@@ -75,16 +75,27 @@ pub record WellAt (n : ℕ) (s : Slot) : Type 0 where
   pub low : negℤ (pos (s .need)) ≤ℤ s .change
   pub high : s .change ≤ℤ pos (s .climb)
 
--- "It is well formed if n <= 65,535 and at each place .. ; slots past the place count, if the form has any, are zero."
+-- slot p of a summary: at a place as above; "slots past the place count, if the form has any, are zero"
+pub record FormedAt (s : Summary) (p : ℕ) : Type 0 where
+  pub at : p < s .places → WellAt (s .letters) (getD (s .slots) p nil)
+  pub past : s .places ≤ p → getD (s .slots) p nil ≡ nil
+
+pub record SlotsFormed (s : Summary) : Type 0 where
+  pub each : (p : ℕ) → p < countLimit → FormedAt s p
+
+-- "It is well formed if n <= 65,535 and at each place .."
 pub record WellFormed (s : Summary) : Type 0 where
   pub few : s .letters ≤ wordLimit
-  pub at : (p : ℕ) → p < s .places → p < countLimit → WellAt (s .letters) (getD (s .slots) p nil)
-  pub past : (p : ℕ) → s .places ≤ p → p < countLimit → getD (s .slots) p nil ≡ nil
+  pub slots : SlotsFormed s
 
--- a well-formed summary of P places, 1 to 64, as the struct holds one: with 64 slots
-pub record Held (P : ℕ) (s : Summary) : Type 0 where
+-- a place count of 1 to 64
+pub record Count (P : ℕ) : Type 0 where
   pub some : 1 ≤ P
-  pub most : P ≤ countLimit
+  pub few : P ≤ countLimit
+
+-- a well-formed summary of P places as the struct holds one: with 64 slots
+pub record Held (P : ℕ) (s : Summary) : Type 0 where
+  pub range : Count P
   pub count : s .places ≡ P
   pub slots : length (s .slots) ≡ countLimit
   pub formed : WellFormed s
