@@ -22,7 +22,8 @@ use Rattle.weighting.specs.Weighting.{sum}
 use Rattle.weighting.specs.Bound.{foundBound}
 use Rattle.weighting.proofs.Meaning.{bound-holds}
 use Rattle.sets.specs.Sets.{Siphon, Trap}
-use Rattle.sets.proofs.Meaning.{allowed-of, siphon-accepted, trap-accepted}
+use Rattle.sets.proofs.Allowed.{allowed-of}
+use Rattle.sets.proofs.Meaning.{siphon-accepted, trap-accepted}
 use Rattle.sets.specs.Answer.{touches, escapes, setFault}
 use Rattle.lists.specs.Some.{some, none}
 use Rattle.lists.specs.Whole.{targetFault, sizeFault}

@@ -13,8 +13,9 @@ use borrow.Author.Tests.{eq-eqb, ne-eqb}
 use Rattle.ground.specs.Lists.{bit}
 use Rattle.ground.specs.Parts.{up, dn}
 use Rattle.ground.proofs.Parts.{up-sub, dn-sub, parts-eq, is-sub, sub-eq, sum-sub, sub-sum, up-mul, dn-mul}
-use Rattle.weighting.specs.Weighting.{sum, isZero}
-use Rattle.weighting.specs.Lines.{total}
+use Rattle.weighting.specs.Weighting.{sum}
+use Rattle.weighting.specs.Tests.{isZero}
+use Rattle.weighting.specs.Walk.{total}
 
 -- ---- products of signed numbers
 -- k times a difference, either way

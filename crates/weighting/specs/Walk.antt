@@ -1,4 +1,4 @@
--- What the code adds up: two unsigned sums along one line of the tables, a row for a transition or a column for a place.
+-- Only for the code's walk, no answer is made of it: two unsigned sums along one line of the tables, a row for a transition or a column for a place.
 use Prim.Native.Nat.{ℕ, zero, suc, _+_, _*_, _≤_, _<_}
 use mathlib.Core.Bool.{Bool, not}
 use mathlib.Core.List.{List}
@@ -6,7 +6,9 @@ use lib.ListN.{length, getD}
 use lib.IntN.{ℤ, pos, _-ℤ_, _*ℤ_}
 use Rattle.ground.specs.Limits.{countLimit, noCapacity, entryLimit}
 use Rattle.ground.specs.Parts.{up, dn}
-use Rattle.weighting.specs.Weighting.{sum, entry, isZero}
+use Rattle.weighting.specs.Weighting.{sum, entry}
+use Rattle.weighting.specs.Tests.{isZero}
+use Rattle.weighting.specs.declared.Sums.{Sums}
 
 -- the sum over k < n of f k, of numbers
 unfoldable pub total : ℕ → (ℕ → ℕ) → ℕ
@@ -17,7 +19,7 @@ total (suc n) f = total n f + f n
 abbrev pub productLimit : ℕ
 productLimit = entryLimit * noCapacity
 
--- what the entry x adds to the first sum: x > 0 by what is put, x < 0 by what is taken
+-- what the entry x adds to what is gained, x > 0 by what is put and x < 0 by what is taken; with takes and puts exchanged, to what is lost
 abbrev pub share : ℤ → ℕ → ℕ → ℕ
 share x takes puts = up x * puts + dn x * takes
 
@@ -28,10 +30,17 @@ shareLimit = productLimit + productLimit
 abbrev pub cell : List ℕ → ℕ → ℕ → ℕ → ℕ
 cell l start step k = getD l (start + k * step) 0
 
--- the signed sum along a line is not 0
-unfoldable pub lineFails : List ℕ → List ℕ → List ℤ → ℕ → ℕ → Bool
-lineFails pre post y start step =
-    not (isZero (sum (length y) (λ k. entry y k *ℤ (pos (cell post start step k) -ℤ pos (cell pre start step k)))))
+-- the sum along a line: entry times change
+unfoldable pub lineSum : List ℕ → List ℕ → List ℤ → ℕ → ℕ → ℤ
+lineSum pre post y start step = sum (length y) (λ k. entry y k *ℤ (pos (cell post start step k) -ℤ pos (cell pre start step k)))
+
+-- it is not 0
+abbrev pub lineFails : List ℕ → List ℕ → List ℤ → ℕ → ℕ → Bool
+lineFails pre post y start step = not (isZero (lineSum pre post y start step))
+
+-- the sum that the two unsigned ones stand for
+abbrev pub signed : Sums → ℤ
+signed s = pos (s .gained) -ℤ pos (s .lost)
 
 -- a line of n entries inside a list of `size`
 pub record Line (start step n size : ℕ) : Type 0 where
@@ -44,6 +53,6 @@ pub record Lines (lines apart step n size : ℕ) : Type 0 where
   pub some : 1 ≤ n
   pub inside : (i k : ℕ) → i < lines → k < n → i * apart + k * step < size
 
--- the sum of y x marking where no entry is negative
+-- what place p adds to the sum of y x marking where no entry is negative
 abbrev pub held : List ℤ → List ℕ → ℕ → ℕ
 held y m p = up (entry y p) * getD m p 0
