@@ -11,7 +11,7 @@ use Rattle.file_line.specs.declared.Reading.{Reading}
 use Rattle.file_line.specs.Read.{cellLimit, Rooms, rooms}
 use Rattle.file_parts.specs.declared.Case.{Case}
 use Rattle.file_parts.specs.declared.Case.the-variants as case
-use Rattle.file_parts.specs.File.{Both, readOf, finishOf, caseOf}
+use Rattle.file_parts.specs.File.{Both, readOf, caseOf}
 use Rattle.file_entry.specs.declared.CaseFile.{CaseFile}
 use Rattle.file_entry.specs.declared.CaseFile.the-variants.{Read, Refused}
 
@@ -83,7 +83,3 @@ pub record CaseRead (file : List ℕ) (x : Rooms) (r : CaseFile) (x′ : Rooms) 
 pub record Comes (z : Both) (r : Case) (y : Rooms) : Type 0 where
   pub answer : r ≡ caseOf (z .run)
   pub left : y ≡ z .rooms
-
--- the end of a file after whole lines, where so many bytes are left
-unfoldable pub endOf : Reading → ℕ → Case
-endOf s left = cond (eqb left 0) (finishOf s) (case.Refused 11 (s .line + 1))

@@ -5,7 +5,8 @@ use Prim.Native.Nat.{ℕ}
 use Rattle.file_line.specs.declared.Reading.{Reading}
 use Rattle.file_line.specs.Read.{Rooms, fresh}
 use Rattle.file_parts.specs.declared.Held.{Held}
-use Rattle.file_parts.specs.File.{Run, going, Both, both, feedAll, caseOf, abs}
+use Rattle.file_parts.specs.File.{Run, going, Both, both, feedAll, caseOf}
+use Rattle.file_parts.specs.Held.{abs}
 use Rattle.file_parts.proofs.Line.{all-append}
 use Rattle.verdict_line.specs.Answer.{answerFor}
 use Rattle.kaunorpi.specs.Came.{Came, Shown, Made, answer}

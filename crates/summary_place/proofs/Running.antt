@@ -17,7 +17,8 @@ use Rattle.ground.proofs.Fill.{Filled, table-length, table-at}
 use Rattle.net.specs.Net.{Net}
 use Rattle.net.specs.Given.{Letters}
 use Rattle.summary_place.specs.Place.{Move, letterAt}
-use Rattle.summary_place.specs.Slots.{nil, step, slotOf, slotAt, slotsOf}
+use Rattle.summary_place.specs.Slots.{nil, slotOf, slotAt, slotsOf}
+use Rattle.summary_place.specs.Walk.{step}
 use Rattle.summary_place.specs.declared.Slot.{Slot}
 use Rattle.summary_place.proofs.Peaks.{total, total-more, heightAt, peak-more}
 use Rattle.summary_place.proofs.Words.{takes, puts, rise, change-is, need-most, climb-most}

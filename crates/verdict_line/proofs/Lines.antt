@@ -12,7 +12,7 @@ use Rattle.file_line.specs.declared.Reading.{Reading}
 use Rattle.file_line.specs.Read.{Rooms}
 use Rattle.file_parts.specs.declared.Case.{Case}
 use Rattle.file_parts.specs.declared.Case.the-variants as file
-use Rattle.file_parts.specs.File.{GoodCase}
+use Rattle.file_parts.specs.Held.{GoodCase}
 use Rattle.net.specs.Net.{Net}
 use Rattle.net.specs.Firing.{Names, causePlace}
 use Rattle.net.specs.declared.Cause.{Cause}

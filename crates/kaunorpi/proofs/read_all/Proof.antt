@@ -1,6 +1,7 @@
 use mathlib.Core.Path.{refl, _∙_}
 use Rattle.file_line.specs.Read.{rooms}
-use Rattle.file_parts.specs.File.{both, abs, Sound}
+use Rattle.file_parts.specs.File.{both}
+use Rattle.file_parts.specs.Held.{abs, Sound}
 use Rattle.kaunorpi.specs.Came.{Came}
 use Rattle.kaunorpi.proofs.Feeding.{came-none, came-then}
 use Rattle.file_parts.proofs.Line.{Same, large}

@@ -1,17 +1,22 @@
 use denote.Ref.{now}
 use Rattle.summary_place.proofs.Running.{Running, runs, run-next}
 use native.Mathlib.Omega.{arith}
-use Prim.Native.Nat.{ℕ, _-_}
+use Prim.Native.Nat.{ℕ, _-_, _≤_}
 use mathlib.Core.Path.{_≡_, ap₂, _∙_}
 use lib.ListN.{length}
-use Rattle.net.specs.Net.{netOf}
+use Rattle.ground.specs.Limits.{weightLimit}
+use Rattle.net.specs.Net.{netOf, riseOf}
+use Rattle.net.specs.Given.{Light}
 use Rattle.summary_place.specs.Place.{letterAt}
 use borrow.Author.Needs.{needs}
 use Rattle.summary_place.proofs.slot_of.Statement.{statement}
 use Rattle.summary_place.proofs.slot_of.Tie as tie
 
-rise-is : {x y r x′ y′ : ℕ} → x ≡ x′ → y ≡ y′ → r ≡ y - x → r ≡ y′ - x′
-rise-is p q e = e ∙ ap₂ _-_ q p
+rise-is : {x y r x′ y′ : ℕ} → x ≡ x′ → y ≡ y′ → r ≡ riseOf x y → r ≡ riseOf x′ y′
+rise-is p q e = e ∙ ap₂ riseOf p q
+
+few-is : {x x′ : ℕ} → x ≡ x′ → x′ ≤ weightLimit → x ≤ weightLimit
+few-is e h = rw e h
 
 abbrev Inv-loop : tie.InvT-loop
 Inv-loop places transitions pre post caps p word gained₀ lost₀ need₀ climb₀ i₀ gained lost need climb i =
@@ -35,14 +40,23 @@ cell-requires c κs = search (runs, needs)
 cell-requires-2 : tie.Need-cell-requires-2 Inv-loop μ-loop
 cell-requires-2 c κs = search (runs, needs)
 
-larger-requires : tie.Need-larger-requires Inv-loop μ-loop
-larger-requires c κs = search needs
-
 rise-requires : tie.Need-rise-requires Inv-loop μ-loop
 rise-requires c κs = search needs
 
+cast-taken : tie.Need-cast-taken Inv-loop μ-loop
+cast-taken c = search needs
+
+larger-requires : tie.Need-larger-requires Inv-loop μ-loop
+larger-requires c κs = search needs
+
+cast-larger : tie.Need-cast-larger Inv-loop μ-loop
+cast-larger c = search needs
+
 larger-requires-2 : tie.Need-larger-requires-2 Inv-loop μ-loop
 larger-requires-2 c κs = search needs
+
+cast-gained : tie.Need-cast-gained Inv-loop μ-loop
+cast-gained c = search needs
 
 add-gained : tie.Need-add-gained Inv-loop μ-loop
 add-gained c = search needs
@@ -61,13 +75,15 @@ loop-again c =
     let s : tie.Start Inv-loop μ-loop = search needs in
     let a = s .args in
     let l : tie.In-loop Inv-loop μ-loop = search needs in
-    let at = letterAt (netOf (a .places) (a .transitions) (now (a .pre)) (now (a .post)) (now (a .caps))) (a .p) in
+    let net = netOf (a .places) (a .transitions) (now (a .pre)) (now (a .post)) (now (a .caps)) in
+    let light : Light net = search needs in
     let x : tie.After-cell Inv-loop μ-loop = search needs in
     let y : tie.After-cell2 Inv-loop μ-loop = search needs in
     let r : tie.After-rise Inv-loop μ-loop = search needs in
     let n : tie.After-larger Inv-loop μ-loop = search needs in
-    run-next at (now (a .word)) (l .before .loop .gained) (l .before .loop .lost) (l .before .loop .need) (l .before .loop .climb) (l .before .loop .i) (l .before .loop .inv) _ _ _ _ _ (search needs)
-    (x .cell .ensures .0) (y .cell2 .ensures .0) (rise-is (x .cell .ensures .0) (y .cell2 .ensures .0) (r .rise .ensures)) (n .larger .ensures) (c .larger2 .ensures) (x .cell .ensures .1) (y .cell2 .ensures .1)
+    run-next (letterAt net (a .p)) (now (a .word)) (l .before .loop .gained) (l .before .loop .lost) (l .before .loop .need) (l .before .loop .climb) (l .before .loop .i) (l .before .loop .inv) _ _ _ _ _ (search needs)
+    (x .cell .ensures) (y .cell2 .ensures) (rise-is (x .cell .ensures) (y .cell2 .ensures) (r .rise .ensures)) (n .larger .ensures) (c .larger2 .ensures)
+    (few-is (x .cell .ensures) (light .pre _)) (few-is (y .cell2 .ensures) (light .post _))
 
 less-requires : tie.Need-less-requires Inv-loop μ-loop
 less-requires c κs = search needs
@@ -86,9 +102,12 @@ slot-of-spec =
     cast-t
     cell-requires
     cell-requires-2
-    larger-requires
     rise-requires
+    cast-taken
+    larger-requires
+    cast-larger
     larger-requires-2
+    cast-gained
     add-gained
     add-lost
     add-i
