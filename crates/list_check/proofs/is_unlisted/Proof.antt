@@ -11,18 +11,18 @@ load-requires c κs = search needs
 
 may-fire-at-requires : tie.Need-may-fire-at-requires
 may-fire-at-requires c κs =
-    let s : tie.Start = search needs in
-    let k : tie.After-shared-slice-known5 = search needs in
-    let l : tie.After-load = search needs in
-    (search needs, (search needs, (small-as _ (now (s .args .listed)) (l .load .ensures) (λ p. omega (arith, k .shared-slice-known5 .given p)), search needs)))
+    let l = c .before .before .before in
+    let k = l .before .before .before in
+    let s = k .before .before .before .before .before in
+    (s .pre .0 .sized, (search needs, (small-as _ (now (s .args .listed)) (l .load .ensures) (λ p. omega (arith, k .shared-slice-known5 .given p)), s .pre .1 .1)))
 
 fire-at-requires : tie.Need-fire-at-requires
 fire-at-requires c κs =
-    let s : tie.Start = search needs in
-    let k : tie.After-shared-slice-known5 = search needs in
-    let l : tie.After-load = search needs in
+    let l = c .before .before .before .before .before .before in
+    let k = l .before .before .before in
+    let s = k .before .before .before .before .before in
     let m : tie.After-may-fire-at = search needs in
-    (search needs, (search needs, (small-as _ (now (s .args .listed)) (l .load .ensures) (λ p. omega (arith, k .shared-slice-known5 .given p)), (search needs, sym (m .may-fire-at .ensures) ∙ search needs))))
+    (s .pre .0 .sized, (search needs, (small-as _ (now (s .args .listed)) (l .load .ensures) (λ p. omega (arith, k .shared-slice-known5 .given p)), (s .pre .1 .1, sym (m .may-fire-at .ensures) ∙ search needs))))
 
 is-held-requires : tie.Need-is-held-requires
 is-held-requires c κs = search needs
