@@ -140,8 +140,10 @@ fn add_row(
     let mut j = 0;
     while j < chosen.len() {
         let p = chosen[j];
-        pre2[to + j] = net::rise(takes[p], puts[p]);
-        post2[to + j] = fall(takes[p], puts[p]);
+        let taken = takes[p];
+        let put = puts[p];
+        pre2[to + j] = net::rise(taken, put);
+        post2[to + j] = fall(taken, put);
         j += 1;
     }
 }

@@ -1,4 +1,4 @@
--- Believe: a line's digits and the bytes and numbers that they spell, read and written ("Case file lines").
+-- To be believed: a line's digits and the bytes and numbers that they spell, read and written ("Case file lines").
 use Prim.Native.Nat.{ℕ, zero, suc, _+_, _-_, _*_, _/_, _%_}
 use mathlib.Core.Path.{_≡_}
 use mathlib.Core.Bool.{Bool, true, false, cond}

@@ -18,7 +18,8 @@ use Rattle.file_parts.specs.File.{Run, going, stopped, Both, both, feedAll, cas
 use Rattle.file_parts.specs.Held.{GoodCase, holdOf, abs}
 use Rattle.file_entry.specs.declared.CaseFile.{CaseFile}
 use Rattle.file_entry.specs.declared.CaseFile.the-variants.{Read, Refused}
-use Rattle.file_entry.specs.Entry.{Came, came, Comes, blank, laid, answered, largest, filledOf, numbers, CaseRead}
+use Rattle.file_entry.specs.Entry.{Came, came, blank, laid, answered, largest, filledOf, numbers, CaseRead}
+use Rattle.file_entry.specs.Walk.{Comes}
 
 -- the bytes after the last line feed, held or too many, are a line that lacks its own
 pub left-over : (t : Reading) (b : ℕ) (d : List ℕ) → caseOf (holdOf t [] (b ∷ d)) ≡ case.Refused 11 (t .line + 1)

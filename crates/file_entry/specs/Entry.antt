@@ -1,4 +1,4 @@
--- A whole case file into lent rooms of the largest sizes ("Case file lines"; "Refusal numbers").
+-- To be believed: a whole case file into lent rooms of the largest sizes ("Case file lines"; "Refusal numbers").
 use Prim.Native.Nat.{ℕ, _+_, _*_}
 use mathlib.Core.Path.{_≡_}
 use mathlib.Core.Bool.{Bool, cond, _&&_}
@@ -78,8 +78,3 @@ numbers (Refused n at) = 0x82 ∷ n ∷ at ∷ []
 pub record CaseRead (file : List ℕ) (x : Rooms) (r : CaseFile) (x′ : Rooms) : Type 0 where
   pub answer : numbers r ≡ numbers (caseFileOf file x .answer)
   pub left : x′ ≡ caseFileOf file x .left
-
--- what the fold z comes to at the end of the file: a case, and the rooms y
-pub record Comes (z : Both) (r : Case) (y : Rooms) : Type 0 where
-  pub answer : r ≡ caseOf (z .run)
-  pub left : y ≡ z .rooms

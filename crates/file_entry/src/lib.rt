@@ -16,7 +16,8 @@ ghost use Rattle.file_line.specs.Read.{cellLimit, fresh, rooms};
 ghost use Rattle.file_line.specs.Walk.{Good, Large};
 ghost use Rattle.file_parts.specs.File.{going, both, feedAll};
 ghost use Rattle.file_parts.specs.Held.{GoodCase};
-ghost use Rattle.file_entry.specs.Entry.{came, Comes, largestOf, laid, answered, filledOf, CaseRead};
+ghost use Rattle.file_entry.specs.Entry.{came, largestOf, laid, answered, filledOf, CaseRead};
+ghost use Rattle.file_entry.specs.Walk.{Comes};
 
 // The answer to a case file: read, with its places, transitions and letters; or refused, with
 // document 01's number and the line (position 0 where a room has another length).

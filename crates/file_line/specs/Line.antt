@@ -1,4 +1,4 @@
--- Believe: what document 01 asks of a line, in the order in which a line is judged: the first that does not hold gives its refusal.
+-- To be believed: what document 01 asks of a line, in the order in which a line is judged: the first that does not hold gives its refusal.
 use Prim.Native.Nat.{ℕ, _+_, _*_, _%_, _≤_, _<_}
 use mathlib.Core.Path.{_≡_}
 use mathlib.Core.Logic.{_⊎_}

@@ -1,4 +1,4 @@
--- Believe: what a line of a case file comes to, at a state of the reading, over the rooms read so far ("Case file lines"; "Refusal numbers").
+-- To be believed: what a line of a case file comes to, at a state of the reading, over the rooms read so far ("Case file lines"; "Refusal numbers").
 use Prim.Native.Nat.{ℕ, _+_, _-_, _*_, _/_, _%_}
 use mathlib.Core.Bool.{Bool, false, cond, not, _&&_, _||_}
 use mathlib.Core.List.{List}

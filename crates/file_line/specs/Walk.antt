@@ -1,4 +1,4 @@
--- For the code's walk only, nothing to believe: what holds of every state and room on the way, and of a line before it is stored.
+-- Only for the code's walk, no answer is made of it: what holds of every state and room on the way, and of a line before it is stored.
 use Prim.Native.Nat.{ℕ, zero, suc, _+_, _*_, _≤_, _<_}
 use mathlib.Core.Path.{_≡_}
 use mathlib.Core.Bool.{Bool, true, false, cond}

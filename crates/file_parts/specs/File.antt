@@ -1,4 +1,4 @@
--- Believe: a case file as a run of bytes: a fold, so that any cutting into parts comes to the same.
+-- To be believed: a case file as a run of bytes: a fold, so that any cutting into parts comes to the same.
 use Prim.Native.Nat.{ℕ, suc, _+_}
 use mathlib.Core.Path.{_≡_}
 use mathlib.Core.Bool.{cond}

@@ -1,4 +1,4 @@
--- For the code's walk only, nothing to believe: what a reading held between two parts stands for, and what holds of it.
+-- Only for the code's walk, no answer is made of it: what a reading held between two parts stands for, and what holds of it.
 use Prim.Native.Nat.{ℕ, _+_, _≤_}
 use mathlib.Core.Path.{_≡_}
 use mathlib.Core.Bool.{cond}

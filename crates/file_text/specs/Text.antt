@@ -1,4 +1,4 @@
--- The case file of a net, its initial marking and a word ("Case file lines"), and what reading it comes to.
+-- To be believed: the case file of a net, its initial marking and a word ("Case file lines"), and what reading it comes to.
 use Prim.Native.Nat.{ℕ, zero, suc, _+_, _-_, _*_, _/_, _≤_}
 use mathlib.Core.Path.{_≡_}
 use mathlib.Core.List.{List, [], _∷_, _++_}

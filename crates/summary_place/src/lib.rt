@@ -45,11 +45,11 @@ fn larger(x: u32, y: u32, l: u32, g: u32) -> u32
 }
 
 // An entry of a table with a row for each transition.
-fn cell(table: &[Weight], places: usize, t: usize, p: usize) -> Weight
+fn cell(table: &[Weight], places: usize, t: u8, p: usize) -> Weight
     requires { ⌜ t * places + p < length (now table) ⌝ }
     ensures { λ r. ⌜ r ≡ getD (now (table .entry)) (t * places + p) 0 ⌝ }
 {
-    let i = t * places + p;
+    let i = t as usize * places + p;
     table[i]
 }
 
@@ -76,7 +76,7 @@ fn slot_of(
     let mut climb: u32 = 0;
     let mut i: usize = 0;
     while i < word.len() {
-        let t = word[i] as usize;
+        let t = word[i];
         let takes = cell(pre, places, t, p);
         let puts = cell(post, places, t, p);
         let rises = net::rise(takes, puts);

@@ -24,7 +24,8 @@ use Rattle.replay.specs.Entry.{replayFault, replayOf, answered, Replayed}
 use Rattle.replay.specs.declared.Replay.{Replay}
 use Rattle.replay.specs.declared.Replay.the-variants.{Fired, Blocked, Refused}
 use Rattle.replay.proofs.Meaning.{numbers-apart, answered-allowed, blocked-cause}
-use Rattle.verdict_text.specs.Verdict.{bytesOf, answerLimit, Placed, WrittenBytes}
+use Rattle.verdict_text.specs.Verdict.{bytesOf, answerLimit, WrittenBytes}
+use Rattle.verdict_text.specs.Walk.{Placed}
 use Rattle.verdict_text.proofs.Answers.{line-few}
 use Rattle.file_text.specs.Text.{netIn, markingIn, wordIn}
 use Rattle.verdict_line.specs.Answer.{roomFor, answerFor}

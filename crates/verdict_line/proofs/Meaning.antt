@@ -21,7 +21,8 @@ use Rattle.replay.specs.Entry.{Replayed, Allowed}
 use Rattle.replay.specs.declared.Replay.{Replay}
 use Rattle.replay.specs.declared.Replay.the-variants.{Fired, Blocked, Refused}
 use Rattle.replay.proofs.Meaning.{allowed-answered, fires-fired}
-use Rattle.verdict_text.specs.Verdict.{bytesOf, Placed}
+use Rattle.verdict_text.specs.Verdict.{bytesOf}
+use Rattle.verdict_text.specs.Walk.{Placed}
 use Rattle.file_text.specs.Text.{netIn, markingIn, wordIn}
 use Rattle.file_digits.proofs.Bytes.{digits-all}
 use Rattle.file_text.proofs.Meaning.{limited-allowed, read-file}

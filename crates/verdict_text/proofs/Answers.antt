@@ -13,7 +13,8 @@ use Rattle.net.specs.declared.Cause.the-variants.{Short, Over}
 use Rattle.net.specs.Firing.{causePlace}
 use Rattle.replay.specs.declared.Replay.{Replay}
 use Rattle.replay.specs.declared.Replay.the-variants.{Fired, Blocked, Refused}
-use Rattle.verdict_text.specs.Verdict.{bytesOf, answerLimit, Placed, WrittenBytes}
+use Rattle.verdict_text.specs.Verdict.{bytesOf, answerLimit, WrittenBytes}
+use Rattle.verdict_text.specs.Walk.{Placed}
 use Rattle.file_digits.proofs.Round.{digits-long}
 use Rattle.file_digits.proofs.Puts.{four-long, fours-long}
 

@@ -1,5 +1,5 @@
--- The verdict line ("Output, one such line with its line feed").
-use Prim.Native.Nat.{ℕ, _+_, _*_, _<_}
+-- To be believed: the verdict line ("Output, one such line with its line feed").
+use Prim.Native.Nat.{ℕ, _+_, _*_}
 use mathlib.Core.Path.{_≡_}
 use mathlib.Core.List.{List, [], _∷_, _++_}
 use lib.ListN.{length}
@@ -25,12 +25,6 @@ verdict r marking = lineText (bytesOf r marking)
 -- a block's 14 digits and a refusal's 12 are fewer
 abbrev pub answerLimit : ℕ
 answerLimit = 13 + 8 * countLimit
-
--- a place that an answer names is one of at most 64, so that it is one byte
-abbrev pub Placed : Replay → Type 0
-Placed (Fired n) = Unit {0}
-Placed (Blocked i why) = causePlace why < countLimit
-Placed (Refused n at) = Unit {0}
 
 -- the line of these bytes stands at the front of the room; r is its length
 pub record WrittenBytes (room bytes : List ℕ) (r : ℕ) (room′ : List ℕ) : Type 0 where

@@ -8,7 +8,8 @@ ghost use Prim.Native.Nat.{_+_, _*_, _≤_};
 ghost use lib.ListN.{length};
 ghost use Rattle.ground.specs.Limits.{countLimit};
 ghost use Rattle.file_digits.specs.Frame.{four, fours, Put};
-ghost use Rattle.verdict_text.specs.Verdict.{bytesOf, answerLimit, Placed, WrittenBytes};
+ghost use Rattle.verdict_text.specs.Verdict.{bytesOf, answerLimit, WrittenBytes};
+ghost use Rattle.verdict_text.specs.Walk.{Placed};
 
 // The most bytes of a verdict line: 81 00 and the letters fired are 12 digits, each of at most 64
 // places has 8 more, and the line feed ends it.

@@ -26,11 +26,11 @@ mul-p c = search needs
 shared-slice-read-p : tie.Need-shared-slice-read-p Inv-loop μ-loop
 shared-slice-read-p c = search needs
 
-shared-slice-read-rise : tie.Need-shared-slice-read-rise Inv-loop μ-loop
-shared-slice-read-rise c = search (maps, needs)
+shared-slice-read-taken : tie.Need-shared-slice-read-taken Inv-loop μ-loop
+shared-slice-read-taken c = search (maps, needs)
 
-shared-slice-read-rise-2 : tie.Need-shared-slice-read-rise-2 Inv-loop μ-loop
-shared-slice-read-rise-2 c = search (maps, needs)
+shared-slice-read-put : tie.Need-shared-slice-read-put Inv-loop μ-loop
+shared-slice-read-put c = search (maps, needs)
 
 rise-requires : tie.Need-rise-requires Inv-loop μ-loop
 rise-requires c κs = search needs
@@ -40,12 +40,6 @@ add-pre2 c = search needs
 
 slice-write-pre2 : tie.Need-slice-write-pre2 Inv-loop μ-loop
 slice-write-pre2 c = search needs
-
-shared-slice-read-fall : tie.Need-shared-slice-read-fall Inv-loop μ-loop
-shared-slice-read-fall c = search (maps, needs)
-
-shared-slice-read-fall-2 : tie.Need-shared-slice-read-fall-2 Inv-loop μ-loop
-shared-slice-read-fall-2 c = search (maps, needs)
 
 fall-requires : tie.Need-fall-requires Inv-loop μ-loop
 fall-requires c κs = search needs
@@ -64,7 +58,7 @@ loop-less c = search needs
 
 loop-again : tie.Need-loop-again Inv-loop μ-loop
 loop-again c =
-    let r : tie.After-rise Inv-loop μ-loop = c .before .before .before in
+    let r : tie.After-rise Inv-loop μ-loop = c .before in
     let l : tie.At-loop Inv-loop μ-loop = r .before .before .before .before .before in
     let s : tie.Start Inv-loop μ-loop = l .before .before .before .before .before .before in
     let a = s .args in
@@ -91,13 +85,11 @@ add-row-spec =
     loop-holds
     mul-p
     shared-slice-read-p
-    shared-slice-read-rise
-    shared-slice-read-rise-2
+    shared-slice-read-taken
+    shared-slice-read-put
     rise-requires
     add-pre2
     slice-write-pre2
-    shared-slice-read-fall
-    shared-slice-read-fall-2
     fall-requires
     add-post2
     slice-write-post2

@@ -1,17 +1,12 @@
--- What the program's reads come to, and the line that it makes. No contract can say which bytes a read gives: whichever they
--- are, they are fed in order, and the line is that of them all.
+-- To be believed: the line that the program makes. No contract can say which bytes a read gives: whichever they are, they are fed
+-- in order, and the line is that of them all.
 use Prim.Native.Nat.{ℕ}
 use mathlib.Core.Path.{_≡_}
 use mathlib.Core.List.{List}
 use Rattle.file_line.specs.Read.{Rooms}
-use Rattle.file_parts.specs.File.{Both, feedAll, readOf, caseOf}
+use Rattle.file_parts.specs.File.{readOf, caseOf}
 use Rattle.verdict_text.specs.Verdict.{WrittenBytes}
 use Rattle.verdict_line.specs.Answer.{answerFor}
-
--- some bytes were fed from the state z on, one after another, and came to w
-pub record Came (z w : Both) : Type 0 where
-  pub bytes : List ℕ
-  pub fed : w ≡ feedAll z bytes
 
 -- the line of these bytes stands at the front of the room
 pub record Shown (out bytes out′ : List ℕ) : Type 0 where
