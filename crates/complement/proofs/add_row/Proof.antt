@@ -1,4 +1,4 @@
-use Prim.Native.Nat.{_-_, _<_}
+use Prim.Native.Nat.{_-_, _≤_, _<_}
 use mathlib.Core.Path.{refl}
 use native.Mathlib.Omega.{arith}
 use lib.ListN.{length, getD}
@@ -6,7 +6,7 @@ use denote.Ref.{now}
 use Rattle.net.specs.Net.{riseOf}
 use Rattle.complement.specs.Complement.{fallOf}
 use Rattle.complement.specs.Walk.{rises, falls}
-use Rattle.complement.proofs.Written.{Copying, maps, map-next}
+use Rattle.complement.proofs.Written.{Copying, maps, copy-start, map-next, map-end}
 use borrow.Author.Needs.{needs}
 use Rattle.complement.proofs.add_row.Statement.{statement}
 use Rattle.complement.proofs.add_row.Tie as tie
@@ -18,7 +18,7 @@ abbrev μ-loop : tie.MeasureT-loop
 μ-loop takes puts chosen to pre2₀ post2₀ j₀ pre2 post2 j = length chosen - j
 
 loop-holds : tie.Need-loop-holds Inv-loop μ-loop
-loop-holds c = (search (maps, needs), search (maps, needs))
+loop-holds c = (copy-start _ _ _, copy-start _ _ _)
 
 mul-p : tie.Need-mul-p Inv-loop μ-loop
 mul-p c = search needs
@@ -68,13 +68,20 @@ loop-again c =
     )
 
 same-length : tie.Need-same-length Inv-loop μ-loop
-same-length c = search needs
+same-length c = c .before .loop .inv .0 .long
 
 same-length-2 : tie.Need-same-length-2 Inv-loop μ-loop
-same-length-2 c = search needs
+same-length-2 c = c .before .loop .inv .1 .long
 
 returns : tie.Need-returns Inv-loop μ-loop
-returns c = (search (maps, needs), search (maps, needs))
+returns c =
+    let s : tie.Start Inv-loop μ-loop = c .before .before .before .before .before .before .before in
+    let a = s .args in
+    let l = c .before .loop in
+    let h : length (now (a .chosen)) ≤ l .j = search needs in (
+      map-end (λ p. riseOf (getD (now (a .takes)) p 0) (getD (now (a .puts)) p 0)) (now (a .chosen)) (now (a .pre2)) (a .to) (l .j) (l .pre2) (l .inv .0) h,
+      map-end (λ p. fallOf (getD (now (a .takes)) p 0) (getD (now (a .puts)) p 0)) (now (a .chosen)) (now (a .post2)) (a .to) (l .j) (l .post2) (l .inv .1) h,
+    )
 
 pub add-row-spec : {M : Type 1} → statement M
 add-row-spec =

@@ -1,7 +1,9 @@
-use Prim.Native.Nat.{_-_}
-use lib.ListN.{length}
+use Prim.Native.Nat.{_-_, _≤_, _<_}
+use mathlib.Core.Path.{refl}
+use lib.ListN.{length, getD}
+use denote.Ref.{now}
 use Rattle.complement.specs.Walk.{spares}
-use Rattle.complement.proofs.Written.{Copying, maps, fine-at}
+use Rattle.complement.proofs.Written.{Copying, maps, copy-start, map-next, map-end, fine-at}
 use borrow.Author.Needs.{needs}
 use Rattle.complement.proofs.add_tokens.Statement.{statement}
 use Rattle.complement.proofs.add_tokens.Tie as tie
@@ -13,7 +15,7 @@ abbrev μ-loop : tie.MeasureT-loop
 μ-loop caps initial chosen to room₀ j₀ room j = length chosen - j
 
 loop-holds : tie.Need-loop-holds Inv-loop μ-loop
-loop-holds c = search (maps, needs)
+loop-holds c = copy-start _ _ _
 
 mul-p : tie.Need-mul-p Inv-loop μ-loop
 mul-p c = search needs
@@ -52,13 +54,23 @@ loop-less : tie.Need-loop-less Inv-loop μ-loop
 loop-less c = search needs
 
 loop-again : tie.Need-loop-again Inv-loop μ-loop
-loop-again c = search (maps, needs)
+loop-again c =
+    let l : tie.At-loop Inv-loop μ-loop = c .before .before .before .before .before in
+    let s : tie.Start Inv-loop μ-loop = l .before .before .before .before .before in
+    let a = s .args in
+    let h : l .loop .j < length (now (a .chosen)) = search needs in
+    map-next (λ p. getD (now (a .caps)) p 0 - getD (now (a .initial)) p 0) (now (a .chosen)) (now (a .room)) (a .to) (l .loop .j) (l .loop .room) (l .loop .inv) _ _ h refl (c .spare .ensures)
 
 same-length : tie.Need-same-length Inv-loop μ-loop
-same-length c = search needs
+same-length c = c .before .loop .inv .long
 
 returns : tie.Need-returns Inv-loop μ-loop
-returns c = search (maps, needs)
+returns c =
+    let s : tie.Start Inv-loop μ-loop = c .before .before .before .before .before .before in
+    let a = s .args in
+    let l = c .before .loop in
+    let h : length (now (a .chosen)) ≤ l .j = search needs in
+    map-end (λ p. getD (now (a .caps)) p 0 - getD (now (a .initial)) p 0) (now (a .chosen)) (now (a .room)) (a .to) (l .j) (l .room) (l .inv) h
 
 pub add-tokens-spec : {M : Type 1} → statement M
 add-tokens-spec =
