@@ -25,7 +25,7 @@ put-one l at b x y e f = record { made = rw (e, f, add-one at); next = omega ari
 pub put-long : (l : List ℕ) (at : ℕ) (a : List ℕ) (r : ℕ) (m : List ℕ) → Put l at a r m → length m ≡ length l
 put-long l at a r m p = rw (p .made, length-sets)
 
-pub two-long : (n : ℕ) → length (two n) ≡ 2
+two-long : (n : ℕ) → length (two n) ≡ 2
 unfolding two
 two-long n = refl
 
@@ -40,6 +40,9 @@ fours-long (x ∷ w) =
     let e = length-append (four x) (fours w) in
     let f = fours-long w in
     omega (arith, four-long x)
+
+pub two-next : (l : List ℕ) (at n r : ℕ) (m : List ℕ) → Put l at (two n) r m → r ≡ at + 4
+two-next l at n r m p = omega (arith, p .next, two-long n)
 
 -- four bytes are two and two
 pub four-twos : (n : ℕ) → two (n / 65536 % 65536) ++ two (n % 65536) ≡ four n

@@ -6,13 +6,12 @@ use Prim.Native.Nat.{ℕ, zero, suc, _+_, _*_, _≤_, _<_}
 use native.Mathlib.Omega.{arith}
 use native.Mathlib.Nat.{not-suc-le-zero, suc-mul, mul-le-mul}
 use lib.Dec.{eqb}
-use lib.ListN.{length}
-use borrow.Author.Tests.{ne-eqb, eqb-false, eqb-true}
+use borrow.Author.Tests.{ne-eqb, eqb-false}
 use Rattle.ground.specs.Limits.{countLimit}
 use Rattle.net.specs.declared.Fault.the-variants.{Sound}
 use Rattle.file_digits.specs.Frame.{byteAt}
 use Rattle.file_line.specs.declared.Reading.{Reading}
-use Rattle.file_line.specs.Read.{cellLimit, Rooms, kindOf, expected, phaseAfter, lettersIn, judgeOf, advanced, advancedKind, storedKind}
+use Rattle.file_line.specs.Read.{cellLimit, Rooms, kindOf, phaseAfter, lettersIn, judgeOf, advanced, advancedKind, storedKind}
 use Rattle.file_line.specs.Walk.{Good, Accepted}
 use Rattle.file_line.proofs.Order.{formed-kind, formed-01, formed-02, formed-03, formed-04, formed-05, taken-of}
 

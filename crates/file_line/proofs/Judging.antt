@@ -1,6 +1,6 @@
 -- The chain as the code comes to it, test by test. Assumes nothing.
 use mathlib.Core.Path.{_≡_, sym, _∙_}
-use mathlib.Core.Bool.{Bool, true, false, not, _&&_, _||_}
+use mathlib.Core.Bool.{Bool, true, false, _&&_, _||_}
 use mathlib.Core.List.{List, []}
 use Prim.Native.Nat.{ℕ, _+_, _*_, _<_, _≤_, _%_}
 use lib.Dec.{leb, ltb, eqb}
@@ -29,8 +29,6 @@ module _ (letters len : ℕ) where
 
   pub block-long : letters % block ≡ 0 → 4 ≤ len → leb len (2 + 2 * block) ≡ (eqb (letters % block) 0 && (leb 4 len && leb len (2 + 2 * block)))
   block-long e h = rw (eq-eqb (letters % block) 0 e, le-leb 4 len h)
-
-pub ruleset blocks = (block-late, block-short, block-long)
 
 -- the form of a frame, by its kind
 module _ (s : Reading) (d : List ℕ) where

@@ -1,5 +1,5 @@
 -- What the answer to a line means: the first of document 01's demands that it breaks (R11's order: 11, 12, 1, 3, 4, 5). Assumes nothing.
-use mathlib.Core.Path.{_≡_, refl, sym, _∙_}
+use mathlib.Core.Path.{_≡_, refl}
 use mathlib.Core.Bool.{Bool, true, false}
 use mathlib.Core.Logic.{_↔_}
 use mathlib.Core.List.{List, []}
@@ -15,7 +15,7 @@ use Rattle.file_digits.specs.Frame.{lineLimit, block}
 use Rattle.file_line.specs.declared.Reading.{Reading}
 use Rattle.file_line.specs.declared.Took.the-variants.{Next, Refused}
 use Rattle.file_line.specs.Read.{Rooms, kindOf, expected, lettersIn, lineHere, judgeOf, advanced, advancedKind, stored, lineOf, roomsOf}
-use Rattle.file_line.specs.Line.{Digit, Ruled, Formed, CountsInRange, TokensAllowed, WordNotOver, LettersNamed, Taken, Judged}
+use Rattle.file_line.specs.Line.{Digit, Ruled, Formed, Taken, Judged}
 use Rattle.file_line.proofs.Order.{no-counts, no-tokens, no-long, no-letters, formed-01, formed-03, formed-05, judged-chain, taken-of, of-taken}
 
 -- another number was given, so the demand holds

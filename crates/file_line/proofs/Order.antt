@@ -1,25 +1,22 @@
 -- The tests of a line are document 01's demands, in the order of the numbers. Assumes nothing.
 use mathlib.Core.Path.{_≡_, refl, sym, _∙_}
-use mathlib.Core.Bool.{Bool, true, false, cond, not, _&&_, _||_}
-use mathlib.Core.List.{List, []}
+use mathlib.Core.Bool.{Bool, true, false, not, _&&_}
+use mathlib.Core.List.{List}
 use Prim.Native.Nat.{ℕ, zero, suc, _+_, _*_, _≤_, _<_, _%_}
 use native.Mathlib.Omega.{arith}
-use lib.Dec.{leb, ltb, eqb}
+use lib.Dec.{leb, eqb}
 use lib.ListN.{length, getD}
-use borrow.Author.Tests.{eq-eqb, ne-eqb, eqb-true, eqb-false, le-ltb, ltb-false, le-leb, lt-leb, leb-true, leb-false, not-false}
-use Rattle.ground.specs.Limits.{countLimit, wordLimit}
+use borrow.Author.Tests.{eq-eqb, ne-eqb, eqb-true, le-ltb, ltb-false, le-leb, lt-leb, leb-true, leb-false, not-false}
 use Rattle.ground.proofs.Tests.{never, or-false, both-false, and-true}
 use Rattle.ground.proofs.Scan.{first-none, first-below}
-use Rattle.net.specs.Given.{refuse, orElse, outside, badToken, markingFault, badLetter, Fine, Letters}
-use Rattle.net.specs.First.{First, fails, holds, Given}
-use Rattle.net.specs.declared.Fault.{Fault}
-use Rattle.net.specs.declared.Fault.the-variants.{Sound, Faulty}
+use Rattle.net.specs.Given.{refuse, outside, markingFault, badLetter, Letters}
+use Rattle.net.specs.declared.Fault.the-variants.{Sound}
 use Rattle.net.proofs.Chains.{refuse-sound, sound-refuse, or-sound, sound-or}
 use Rattle.net.proofs.Refusals.{inside-of, inside-is, fine-of, fine-is}
 use Rattle.net.proofs.Exactly.{Chain, tells-test, reads-test, reads-both, reads-all}
 use Rattle.file_digits.specs.Frame.{block, byteAt}
 use Rattle.file_line.specs.declared.Reading.{Reading}
-use Rattle.file_line.specs.Read.{Rooms, kindOf, expected, tokensIn, lettersIn, wordPart, lineHere, ruleOf, formedKind, formed, countsBad, tokensBad, wordOver, lettersBad, judgeOf}
+use Rattle.file_line.specs.Read.{Rooms, kindOf, expected, tokensIn, wordPart, lineHere, ruleOf, formedKind, formed, countsBad, tokensBad, wordOver, lettersBad, judgeOf}
 use Rattle.file_line.specs.Line.{Ruled, Formed, frame01, frame02, frame03, frame04, frame05, CountsInRange, TokensAllowed, WordNotOver, LettersNamed, Taken, Judged}
 use Rattle.file_line.proofs.Digits.{rule-exactly}
 

@@ -7,11 +7,10 @@ use native.Mathlib.Omega.{arith}
 use native.Mathlib.Nat.{not-suc-le-zero}
 use lib.Dec.{leb, ltb, eqb}
 use lib.ListN.{length, getD}
-use borrow.Author.Tests.{lt-ltb, le-ltb, le-leb, lt-leb, ltb-false, ltb-true, eqb-false, leb-false}
-use Rattle.ground.specs.Lists.{first}
+use borrow.Author.Tests.{le-ltb, le-leb, lt-leb, ltb-false, ltb-true, eqb-false, leb-false}
 use Rattle.ground.proofs.Scan.{Below, first-none, first-below, scan-start, scan-hit, scan-next, scan-end}
 use Rattle.net.specs.Given.{tokenBad, badToken, badLetter}
-use Rattle.file_digits.specs.Frame.{lineLimit, wordAt, byteAt, bytesFrom, wordsFrom, allDigits}
+use Rattle.file_digits.specs.Frame.{lineLimit, wordAt, byteAt, wordsFrom, allDigits}
 use Rattle.file_digits.proofs.Bytes.{bytes-long, bytes-at, words-long, words-at}
 use Rattle.file_line.specs.Read.{lettersIn, wordPart, ruleOf}
 use Rattle.file_line.specs.Walk.{fitLetters}

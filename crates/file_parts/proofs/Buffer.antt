@@ -5,8 +5,8 @@ use Prim.Native.Nat.{ℕ, zero, suc, _+_, _-_, _≤_, _<_}
 use native.Mathlib.Omega.{arith}
 use native.Mathlib.Numerals.{add-one}
 use native.Mathlib.Nat.{not-suc-le-zero}
-use lib.ListN.{length-drop, length, take, drop, getD, set, length-set, length-append}
-use lib.Seq.{take-all, drop-cons, sets, sets-eq, take-at, length-sets, length-take-le}
+use lib.ListN.{length, take, drop, getD, set, length-set, length-append}
+use lib.Seq.{drop-cons, sets, sets-eq, take-at, length-sets, length-take-le}
 use borrow.Author.Tests.{eq-eqb, ne-eqb, le-leb, lt-leb}
 use Rattle.file_digits.specs.Frame.{lineLimit, lineFeed}
 use Rattle.file_line.specs.declared.Reading.{Reading}

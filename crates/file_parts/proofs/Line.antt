@@ -6,11 +6,11 @@ use Prim.Native.Nat.{ℕ, zero, suc, _+_, _-_, _≤_, _<_}
 use native.Mathlib.Omega.{arith}
 use native.Mathlib.Numerals.{add-one}
 use native.Mathlib.Nat.{not-suc-le-zero}
-use lib.Dec.{leb, ltb, eqb, lit<}
+use lib.Dec.{leb, ltb, eqb}
 use lib.ListN.{length, take, drop, getD, length-append, length-drop}
 use lib.Seq.{drop-cons, drop-drop, take-all}
 use borrow.Author.Tests.{leb-true, leb-false, eq-eqb, ne-eqb, lt-ltb, le-ltb, eqb-true, eqb-false, ltb-true, ltb-false}
-use Rattle.file_digits.specs.Frame.{lineLimit, lineFeed, byteAt}
+use Rattle.file_digits.specs.Frame.{lineLimit, lineFeed}
 use Rattle.file_line.specs.declared.Reading.{Reading}
 use Rattle.file_line.specs.declared.Took.{Took}
 use Rattle.file_line.specs.Read.{Rooms, lineHere, lineOf, roomsOf, judgeOf, advanced, stored}

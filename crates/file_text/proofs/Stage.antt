@@ -6,10 +6,10 @@ use Prim.Native.Nat.{ℕ, zero, suc, _+_, _*_, _≤_, _<_}
 use native.Mathlib.Omega.{arith}
 use native.Mathlib.Nat.{suc-mul}
 use lib.Dec.{ltb, eqb}
-use lib.ListN.{length, take, drop, getD, length-append, length-drop}
+use lib.ListN.{length, take, drop, length-append, length-drop}
 use lib.Seq.{sets, drop-append-le, take-append-le, drop-at, take-all}
 use borrow.Author.Tests.{eqb-true, eqb-false, ltb-true, ltb-false}
-use Rattle.ground.specs.Limits.{countLimit, tokenLimit, wordLimit}
+use Rattle.ground.specs.Limits.{countLimit, wordLimit}
 use Rattle.ground.proofs.Stores.{sets-both}
 use Rattle.file_digits.specs.Frame.{lineLimit, block, lineFeed, byteAt, bytesFrom, wordsFrom}
 use Rattle.file_digits.proofs.Round.{Below, none}
@@ -25,7 +25,7 @@ use Rattle.file_line.specs.Walk.{Large}
 use Rattle.file_parts.specs.File.{going, Both, both, feedOf, feedAll}
 use Rattle.file_parts.proofs.Line.{feed-push, feed-long, never-goes, line-taken, line-stopped}
 use Rattle.file_text.specs.Text.{countsLine, capsLine, tokensLine, rowLine, lettersLine, lettersLines, joined, fileOf, endOf, filled}
-use Rattle.file_digits.proofs.Bytes.{below-of, below-most, below-append, bytes-long, bytes-small, words-long, words-small}
+use Rattle.file_digits.proofs.Bytes.{below-append, bytes-long, bytes-small, words-long, words-small}
 use Rattle.file_text.proofs.Fronts.{getD-sets}
 use Rattle.file_text.proofs.Lines.{state, kind-next, counts-of, caps-of, tokens-of, tokens-fine, row-of, letters-of}
 

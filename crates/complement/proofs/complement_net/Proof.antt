@@ -13,6 +13,16 @@ net s = netOf (s .args .places) (s .args .transitions) (now (s .args .pre)) (now
 abbrev rooms : tie.Start → Rooms
 rooms s = roomsOf (now (s .args .pre2)) (now (s .args .post2)) (now (s .args .caps2)) (now (s .args .initial2))
 
+-- the way back from the end to what was written
+abbrev wrote-tokens : tie.After-slice-known8 → tie.After-write-tokens
+wrote-tokens c = c .before .before
+
+abbrev wrote-caps : tie.After-slice-known8 → tie.After-write-caps
+wrote-caps c = wrote-tokens c .before .before .before .before .before
+
+abbrev wrote-rows : tie.After-slice-known8 → tie.After-write-rows
+wrote-rows c = wrote-caps c .before .before .before .before .before .before
+
 -- where nothing was found
 abbrev start : tie.After-enum-told → tie.Start
 start g = g .before .before .before .before .before .before .before .before .before .before .before
@@ -81,29 +91,26 @@ returns : tie.Need-returns
 returns c = search (complementeds, needs)
 
 same-length : tie.Need-same-length
-same-length c = search needs
+same-length c = wrote-rows c .write-rows .kept .1 .1 .1 .1 .1 .1 .0
 
 same-length-2 : tie.Need-same-length-2
-same-length-2 c = search needs
+same-length-2 c = wrote-rows c .write-rows .kept .1 .1 .1 .1 .1 .1 .1 .0
 
 same-length-3 : tie.Need-same-length-3
-same-length-3 c = search needs
+same-length-3 c = wrote-caps c .write-caps .kept .0
 
 same-length-4 : tie.Need-same-length-4
-same-length-4 c = search needs
+same-length-4 c = wrote-tokens c .write-tokens .kept .1 .1 .1 .0
 
 returns-2 : tie.Need-returns-2
 returns-2 c =
-    let w : tie.After-write-tokens = c .before .before in
-    let z : tie.After-write-caps = w .before .before .before .before .before in
-    let y : tie.After-write-rows = z .before .before .before .before .before .before in
-    let k : tie.After-made-places = y .before .before .before .before in
+    let k : tie.After-made-places = wrote-rows c .before .before .before .before in
     let g : tie.After-enum-told = k .before in
     let f : tie.After-find-fault = g .before .before in
     let s : tie.Start = start g in
     let m = now (s .args .initial) in
     net-made (net s) m (rooms s) _ (f .find-fault .ensures) _ (search needs)
-    (written-of (net s) m (rooms s) (allowed g) _ (k .made-places .ensures) _ _ _ _ (y .write-rows .ensures .0) (y .write-rows .ensures .1) (z .write-caps .ensures) (w .write-tokens .ensures))
+    (written-of (net s) m (rooms s) (allowed g) _ (k .made-places .ensures) _ _ _ _ (wrote-rows c .write-rows .ensures .0) (wrote-rows c .write-rows .ensures .1) (wrote-caps c .write-caps .ensures) (wrote-tokens c .write-tokens .ensures))
 
 pub complement-net-spec : {M : Type 1} → statement M
 complement-net-spec =

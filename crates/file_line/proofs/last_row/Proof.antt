@@ -1,5 +1,4 @@
 use borrow.Author.Tests.{eq-eqb, ne-eqb}
-use borrow.Author.Needs.{needs}
 use Rattle.file_line.proofs.last_row.Statement.{statement}
 use Rattle.file_line.proofs.last_row.Tie as tie
 

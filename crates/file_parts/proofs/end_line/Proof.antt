@@ -3,7 +3,6 @@ use native.Mathlib.Omega.{arith}
 use mathlib.Core.Path.{sym}
 use lib.Seq.{length-take-le}
 use Rattle.file_line.specs.Read.{rooms}
-use Rattle.file_parts.specs.Held.{abs}
 use Rattle.file_parts.proofs.Buffer.{ended-line}
 use borrow.Author.Needs.{needs}
 use Rattle.file_parts.proofs.end_line.Statement.{statement}
