@@ -14,7 +14,7 @@ use Rattle.net.proofs.Chains.{or-none}
 use Rattle.file_digits.specs.Frame.{block, byteAt, wordsFrom}
 use Rattle.file_digits.proofs.Bytes.{words-long}
 use Rattle.file_line.specs.declared.Reading.{Reading}
-use Rattle.file_line.specs.Read.{Rooms, rooms, kindOf, expected, tokensIn, lettersIn, wordPart, lineHere, ruleOf, formed, formedKind, judgeOf}
+use Rattle.file_line.specs.Read.{Rooms, rooms, kindOf, expected, tokensIn, lettersIn, wordPart, lineHere, ruleOf, formedOf, formedKind, judgeOf}
 use Rattle.file_line.specs.Walk.{fitLetters}
 use Rattle.file_line.proofs.Order.{formed-rest}
 use Rattle.file_line.proofs.Turns.{letters-pass}
@@ -32,36 +32,36 @@ module _ (letters len : ℕ) where
 
 -- the form of a frame, by its kind
 module _ (s : Reading) (d : List ℕ) where
-  pub form-other : (k : ℕ) → k ≡ kindOf d → (k ≡ s .phase → ⊥) → false ≡ formed s d
-  unfolding formed
+  pub form-other : (k : ℕ) → k ≡ kindOf d → (k ≡ s .phase → ⊥) → false ≡ formedOf s d
+  unfolding formedOf
   form-other k e n = rw (← e, ne-eqb k (expected s) n)
 
-  form-is : (k : ℕ) (r : Bool) → k ≡ kindOf d → k ≡ s .phase → r ≡ formedKind k s d → r ≡ formed s d
-  unfolding formed
+  form-is : (k : ℕ) (r : Bool) → k ≡ kindOf d → k ≡ s .phase → r ≡ formedKind k s d → r ≡ formedOf s d
+  unfolding formedOf
   form-is k r e p q = rw (← e, eq-eqb k (expected s) p) q
 
   module _ (k : ℕ) (e : k ≡ kindOf d) (p : k ≡ s .phase) where
-    pub form-01 : k ≡ 1 → eqb (length d) 6 ≡ formed s d
+    pub form-01 : k ≡ 1 → eqb (length d) 6 ≡ formedOf s d
     unfolding formedKind
     form-01 q = form-is k _ e p (rw q)
 
-    pub form-02 : k ≡ 2 → eqb (length d) (2 + 4 * s .places) ≡ formed s d
+    pub form-02 : k ≡ 2 → eqb (length d) (2 + 4 * s .places) ≡ formedOf s d
     unfolding formedKind
     form-02 q = form-is k _ e p (rw q)
 
-    pub form-03 : k ≡ 3 → eqb (length d) (2 + 4 * s .places) ≡ formed s d
+    pub form-03 : k ≡ 3 → eqb (length d) (2 + 4 * s .places) ≡ formedOf s d
     unfolding formedKind
     form-03 q = form-is k _ e p (rw q)
 
-    pub form-04 : (r : Bool) → k ≡ 4 → r ≡ (eqb (length d) (4 + 4 * s .places) && eqb (byteAt d 1) (s .next)) → r ≡ formed s d
+    pub form-04 : (r : Bool) → k ≡ 4 → r ≡ (eqb (length d) (4 + 4 * s .places) && eqb (byteAt d 1) (s .next)) → r ≡ formedOf s d
     unfolding formedKind
     form-04 r q h = form-is k r e p (rw q h)
 
-    pub form-05 : (r : Bool) → k ≡ 5 → r ≡ (eqb (s .letters % block) 0 && (leb 4 (length d) && leb (length d) (2 + 2 * block))) → r ≡ formed s d
+    pub form-05 : (r : Bool) → k ≡ 5 → r ≡ (eqb (s .letters % block) 0 && (leb 4 (length d) && leb (length d) (2 + 2 * block))) → r ≡ formedOf s d
     unfolding formedKind
     form-05 r q h = form-is k r e p (rw q h)
 
-    pub form-rest : (k ≡ 1 → ⊥) → (k ≡ 2 → ⊥) → (k ≡ 3 → ⊥) → (k ≡ 4 → ⊥) → (k ≡ 5 → ⊥) → false ≡ formed s d
+    pub form-rest : (k ≡ 1 → ⊥) → (k ≡ 2 → ⊥) → (k ≡ 3 → ⊥) → (k ≡ 4 → ⊥) → (k ≡ 5 → ⊥) → false ≡ formedOf s d
     form-rest a b c f g = form-is k false e p (sym (formed-rest s d k a b c f g))
 
 pub ruleset forms = (form-other, form-01, form-02, form-03, form-04, form-05, form-rest)
@@ -73,11 +73,11 @@ module _ (s : Reading) (d : List ℕ) (x : Rooms) where
   judge-rule e = rw e
 
   module _ (r : ruleOf d ≡ true) where
-    pub judge-form : formed s d ≡ false → Faulty 12 (lineHere s) ≡ judgeOf s d x
+    pub judge-form : formedOf s d ≡ false → Faulty 12 (lineHere s) ≡ judgeOf s d x
     unfolding judgeOf
     judge-form e = rw (r, e)
 
-    module _ (f : formed s d ≡ true) where
+    module _ (f : formedOf s d ≡ true) where
       pub judge-01 : (a : Fault) → kindOf d ≡ 1 → a ≡ refuse (outside (byteAt d 1) || outside (byteAt d 2)) 1 (lineHere s) → a ≡ judgeOf s d x
       unfolding judgeOf
       judge-01 a k e = rw (r, f, k) (e ∙ sym (or-none _))

@@ -16,7 +16,7 @@ use Rattle.net.proofs.Refusals.{inside-of, inside-is, fine-of, fine-is}
 use Rattle.net.proofs.Exactly.{Chain, tells-test, reads-test, reads-both, reads-all}
 use Rattle.file_digits.specs.Frame.{block, byteAt}
 use Rattle.file_line.specs.declared.Reading.{Reading}
-use Rattle.file_line.specs.Read.{Rooms, kindOf, expected, tokensIn, wordPart, lineHere, ruleOf, formedKind, formed, countsBad, tokensBad, wordOver, lettersBad, judgeOf}
+use Rattle.file_line.specs.Read.{Rooms, kindOf, expected, tokensIn, wordPart, lineHere, ruleOf, formedKind, formedOf, countsBad, tokensBad, wordOver, lettersBad, judgeOf}
 use Rattle.file_line.specs.Line.{Ruled, Formed, frame01, frame02, frame03, frame04, frame05, CountsInRange, TokensAllowed, WordNotOver, LettersNamed, Taken, Judged}
 use Rattle.file_line.proofs.Digits.{rule-exactly}
 
@@ -37,7 +37,7 @@ pub formed-rest : (s : Reading) (d : List ℕ) (k : ℕ) → (k ≡ 1 → ⊥) �
 unfolding formedKind
 formed-rest s d k a b e f g = simp (ne-eqb k 1 a, ne-eqb k 2 b, ne-eqb k 3 e, ne-eqb k 4 f, ne-eqb k 5 g)
 
--- a frame that is formed, by its kind
+-- a frame that is formedOf, by its kind
 module _ (s : Reading) (d : List ℕ) where
   pub formed-kind : Formed s d → (1 ≤ kindOf d) × (kindOf d ≤ 5) × (kindOf d ≡ expected s)
   formed-kind (frame01 p k l) = (omega arith, omega arith, k ∙ sym p)
@@ -82,8 +82,8 @@ module _ (s : Reading) (d : List ℕ) where
   formed-05 (frame05 p k q l m) e = (p, q, l, m)
 
   -- its test says so
-  pub formed-of : formed s d ≡ true → Formed s d
-  unfolding formed formedKind
+  pub formed-of : formedOf s d ≡ true → Formed s d
+  unfolding formedOf formedKind
   formed-of e =
       let a = and-true (eqb (kindOf d) (expected s)) _ e in
       let p = eqb-true _ _ (a .0) in
@@ -103,8 +103,8 @@ module _ (s : Reading) (d : List ℕ) where
           frame05 (sym p ∙ q) q (eqb-true _ _ (z .0)) (leb-true _ _ (y .0)) (leb-true _ _ (y .1))
       go (suc (suc (suc (suc (suc (suc k)))))) q p h = never (sym h ∙ formed-rest s d (suc (suc (suc (suc (suc (suc k)))))) (λ q. omega arith) (λ q. omega arith) (λ q. omega arith) (λ q. omega arith) (λ q. omega arith))
 
-  pub formed-is : Formed s d → formed s d ≡ true
-  unfolding formed formedKind
+  pub formed-is : Formed s d → formedOf s d ≡ true
+  unfolding formedOf formedKind
   formed-is (frame01 p k l) = rw (k, p, l)
   formed-is (frame02 p k l) = rw (k, p) (eq-eqb _ _ l)
   formed-is (frame03 p k l) = rw (k, p) (eq-eqb _ _ l)
@@ -119,10 +119,10 @@ module _ (s : Reading) (d : List ℕ) (x : Rooms) where
   of-ruled : Ruled d → not (ruleOf d) ≡ false
   of-ruled r = rw (rule-exactly d .1 r)
 
-  form-of : not (formed s d) ≡ false → Formed s d
+  form-of : not (formedOf s d) ≡ false → Formed s d
   form-of e = formed-of s d (not-false _ e)
 
-  of-form : Formed s d → not (formed s d) ≡ false
+  of-form : Formed s d → not (formedOf s d) ≡ false
   of-form f = rw (formed-is s d f)
 
   counts-of : countsBad d ≡ false → CountsInRange d
@@ -169,7 +169,7 @@ module _ (s : Reading) (d : List ℕ) (x : Rooms) where
   judged-chain =
       reads-all
       (reads-both (reads-test (tells-test (not (ruleOf d)) 11 (lineHere s) ruled-of of-ruled))
-      (reads-both (reads-test (tells-test (not (formed s d)) 12 (lineHere s) form-of of-form))
+      (reads-both (reads-test (tells-test (not (formedOf s d)) 12 (lineHere s) form-of of-form))
       (reads-both (reads-test (tells-test (countsBad d) 1 (lineHere s) counts-of of-counts))
       (reads-both (reads-test (tells-test (tokensBad s d x) 3 (lineHere s) tokens-of of-tokens))
       (reads-both (reads-test (tells-test (wordOver s d) 4 (lineHere s) word-of of-word))
@@ -180,7 +180,7 @@ module _ (s : Reading) (d : List ℕ) (x : Rooms) where
   unfolding judgeOf
   taken-of e =
       let a = or-sound (refuse (not (ruleOf d)) 11 (lineHere s)) _ e in
-      let b = or-sound (refuse (not (formed s d)) 12 (lineHere s)) _ (a .1) in
+      let b = or-sound (refuse (not (formedOf s d)) 12 (lineHere s)) _ (a .1) in
       let c = or-sound (refuse (countsBad d) 1 (lineHere s)) _ (b .1) in
       let f = or-sound (refuse (tokensBad s d x) 3 (lineHere s)) _ (c .1) in
       let g = or-sound (refuse (wordOver s d) 4 (lineHere s)) _ (f .1) in

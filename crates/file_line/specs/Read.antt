@@ -70,8 +70,8 @@ formedKind k s d =
     (cond (eqb k 5) (eqb (s .letters % block) 0 && (leb 4 (length d) && leb (length d) (2 + 2 * block))) false))))
 
 -- 12 unless it is a frame of the kind expected, of its length and with its index
-unfoldable pub formed : Reading → List ℕ → Bool
-formed s d = eqb (kindOf d) (expected s) && formedKind (kindOf d) s d
+unfoldable pub formedOf : Reading → List ℕ → Bool
+formedOf s d = eqb (kindOf d) (expected s) && formedKind (kindOf d) s d
 
 -- then what the frames' numbers are asked, each kind its own, by the tests that a net and a word are asked
 -- 1: "a place or transition count outside 1..64"
@@ -98,7 +98,7 @@ lineHere s = s .line + 1
 unfoldable pub judgeOf : Reading → List ℕ → Rooms → Fault
 judgeOf s d x =
     orElse (refuse (not (ruleOf d)) 11 (lineHere s))
-    (orElse (refuse (not (formed s d)) 12 (lineHere s))
+    (orElse (refuse (not (formedOf s d)) 12 (lineHere s))
     (orElse (refuse (countsBad d) 1 (lineHere s))
     (orElse (refuse (tokensBad s d x) 3 (lineHere s))
     (orElse (refuse (wordOver s d) 4 (lineHere s))

@@ -15,7 +15,7 @@ ghost use lib.Seq.{sets};
 ghost use Rattle.ground.specs.Limits.{countLimit, wordLimit};
 ghost use Rattle.net.specs.Given.{refuse, orElse, outside, badToken, badLetter};
 ghost use Rattle.file_digits.specs.Frame.{block, byteAt, bytesFrom, wordsFrom};
-ghost use Rattle.file_line.specs.Read.{cellLimit, rooms, fresh, phaseAfter, tokensIn, lettersIn, wordPart, ruleOf, formed, judgeOf, stored, advanced, lineOf, roomsOf};
+ghost use Rattle.file_line.specs.Read.{cellLimit, rooms, fresh, phaseAfter, tokensIn, lettersIn, wordPart, ruleOf, formedOf, judgeOf, stored, advanced, lineOf, roomsOf};
 ghost use Rattle.file_line.specs.Walk.{Good, Large, fitLetters, Accepted, GoodTook};
 
 // The most entries of Pre, and of Post.
@@ -107,7 +107,7 @@ fn is_block(letters: usize, len: usize) -> bool
 // Whether a line is a frame of the kind that must come next, of its length and with its index.
 fn is_formed(s: Reading, d: &[u8]) -> bool
     requires { ⌜ (Good s) × (2 ≤ length (now d)) ⌝ }
-    ensures { λ r. ⌜ r ≡ formed s (now (d .entry)) ⌝ }
+    ensures { λ r. ⌜ r ≡ formedOf s (now (d .entry)) ⌝ }
 {
     let kind = file_digits::byte_at(d, 0);
     if kind != s.phase {

@@ -3,7 +3,7 @@ use native.Mathlib.Omega.{arith}
 use mathlib.Core.Path.{_≡_, sym, _∙_}
 use mathlib.Core.Bool.{true}
 use borrow.Author.Tests.{not-true, not-false}
-use Rattle.file_line.specs.Read.{ruleOf, formed}
+use Rattle.file_line.specs.Read.{ruleOf, formedOf}
 use Rattle.file_line.proofs.Turns.{rule-says}
 use Rattle.file_line.proofs.Order.{formed-of, formed-01, formed-03}
 use Rattle.file_line.proofs.Judging.{judge-rule, judge-form, judge-01, judge-03, judge-05, judge-rest}
@@ -15,7 +15,7 @@ use Rattle.file_line.proofs.judge.Tie as tie
 ruled : (e : tie.Else2) → ruleOf (now (e .before .before .before .before .before .before .before .args .d)) ≡ true
 ruled e = sym (e .before .before .before .rule .ensures) ∙ not-false _ (e .before .before .if1 .left)
 
-shaped : (e : tie.Else2) → formed (e .before .before .before .before .before .before .before .args .s) (now (e .before .before .before .before .before .before .before .args .d)) ≡ true
+shaped : (e : tie.Else2) → formedOf (e .before .before .before .before .before .before .before .args .s) (now (e .before .before .before .before .before .before .before .args .d)) ≡ true
 shaped e = sym (e .before .is-formed .ensures) ∙ not-false _ (e .if2 .left)
 
 add-here : tie.Need-add-here
