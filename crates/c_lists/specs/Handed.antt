@@ -1,4 +1,4 @@
--- A marking list's answer for C.
+-- To be believed: a marking list's answer for C.
 use Prim.Native.Nat.{ℕ}
 use mathlib.Core.List.{List}
 use Rattle.c_lists.specs.declared.ListNumbers.{ListNumbers}

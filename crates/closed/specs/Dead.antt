@@ -1,4 +1,4 @@
--- The code's walk: which listed markings enable nothing.
+-- Only for the code's walk, tied to what is published by proofs/Meaning.antt of closed and cover: which listed markings enable nothing.
 use Prim.Native.Nat.{ℕ}
 use mathlib.Core.Bool.{Bool}
 use mathlib.Core.List.{List}

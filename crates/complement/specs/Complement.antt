@@ -1,4 +1,4 @@
--- What a reader must believe: document 01, "Complement net": from 001, extended to capacity 0.
+-- To be believed: document 01, "Complement net": from 001, extended to capacity 0.
 use Prim.Native.Nat.{ℕ, zero, suc, _+_, _-_, _<_}
 use mathlib.Core.Path.{_≡_}
 use mathlib.Core.Bool.{Bool, cond}

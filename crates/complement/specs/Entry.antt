@@ -1,4 +1,4 @@
--- What a reader must believe: the complement net into lent rooms; refusals 1, 2, 3 and 10 "in number order", else the net and its initial marking.
+-- To be believed: the complement net into lent rooms; refusals 1, 2, 3 and 10 "in number order", else the net and its initial marking.
 use Prim.Native.Nat.{ℕ, _*_, _≤_}
 use mathlib.Core.Path.{_≡_}
 use mathlib.Core.Bool.{Bool, _&&_}

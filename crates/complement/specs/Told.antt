@@ -1,4 +1,4 @@
--- What a reader must believe: the public question beside the complement net, how many places it has.
+-- To be believed: the public question beside the complement net, how many places it has.
 use Prim.Native.Nat.{ℕ, _≤_}
 use mathlib.Core.Path.{_≡_}
 use mathlib.Core.Bool.{true}

@@ -1,4 +1,4 @@
--- The code's walk: a transition fired at a marking of a cover list, place by place, where 65,535 is "any number".
+-- Only for the code's walk, tied to what is published by proofs/Meaning.antt of closed and cover: a transition fired at a marking of a cover list, place by place, where 65,535 is "any number".
 use Prim.Native.Nat.{ℕ, _+_, _-_, _*_}
 use mathlib.Core.Bool.{Bool, cond, _&&_}
 use mathlib.Core.List.{List}

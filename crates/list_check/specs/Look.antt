@@ -1,4 +1,4 @@
--- The code's walk: a list of either kind looked through, by tests of a listed marking and a transition, and the first that fails.
+-- Only for the code's walk, tied to what is published by proofs/Meaning.antt of closed and cover: a list of either kind looked through, by tests of a listed marking and a transition, and the first that fails.
 use Prim.Native.Nat.{ℕ, _*_}
 use mathlib.Core.Path.{_≡_}
 use mathlib.Core.Bool.{Bool, not, _&&_}

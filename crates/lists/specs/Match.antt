@@ -1,4 +1,4 @@
--- The code's walk: whether a list holds a marking or covers it, tested place by place and marking by marking.
+-- Only for the code's walk, tied to what is published by proofs/Meaning.antt of closed and cover: whether a list holds a marking or covers it, tested place by place and marking by marking.
 use Prim.Native.Nat.{ℕ}
 use mathlib.Core.Bool.{Bool, _&&_}
 use mathlib.Core.List.{List}

@@ -1,4 +1,4 @@
--- The code's walk: a list looked through for its first failing pair of a listed marking and a transition, each by its number, for any
+-- Only for the code's walk, tied to what is published by proofs/Meaning.antt of closed and cover: a list looked through for its first failing pair of a listed marking and a transition, each by its number, for any
 -- test of a pair.
 use Prim.Native.Nat.{ℕ}
 use mathlib.Core.Bool.{Bool, cond}

@@ -1,4 +1,4 @@
--- The samples as the code answers them: what each entry gives back for a question, and what its contract promises of that.
+-- To be believed: the samples as the code answers them: what each entry gives back for a question, and what its contract promises of that.
 use Prim.Native.Nat.{ℕ}
 use mathlib.Core.Path.{_≡_}
 use mathlib.Core.Bool.{true}

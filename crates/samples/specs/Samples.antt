@@ -1,4 +1,4 @@
--- Document 01's twelve samples ("Proved samples from the case above"): each a question about the net of its case file, and the
+-- To be believed: document 01's twelve samples ("Proved samples from the case above"): each a question about the net of its case file, and the
 -- answer that 01 gives. `answerOf` answers by the very definitions that the entries promise.
 use Prim.Native.Nat.{ℕ}
 use mathlib.Core.Bool.{true}

@@ -1,7 +1,7 @@
 -- "Given exactly when": what is allowed is answered, what is answered is allowed, and each refusal is the one of the first demand that does not hold.
 -- Each is said of whatever keeps the entry's promise. Assumes nothing.
 use Prim.Native.Nat.{ℕ}
-use mathlib.Core.Path.{_≡_, sym, ap, _∙_}
+use mathlib.Core.Path.{_≡_, refl}
 use mathlib.Core.Bool.{Bool, true, false, cond}
 use mathlib.Core.Logic.{_↔_}
 use mathlib.Core.List.{List}
@@ -9,7 +9,7 @@ use native.Mathlib.Omega.{arith}
 use lib.Dec.{ltb}
 use Rattle.net.specs.Net.{Net}
 use Rattle.net.specs.declared.Fault.{Fault}
-use Rattle.net.proofs.Exactly.{Answers, exactly-refused, is-answered, is-allowed}
+use Rattle.net.proofs.Exactly.{Answers, answers-of, exactly-refused, is-answered, is-allowed}
 use Rattle.sets.specs.Allowed.{Allowed, Refusal}
 use Rattle.sets.specs.Answer.{lowestEscape, turned, setFault, judgedSet, setAnswer, siphonOf, trapOf, setNumbers}
 use Rattle.sets.specs.declared.SetAnswer.{SetAnswer}
@@ -20,10 +20,7 @@ use Rattle.sets.proofs.Allowed.{allowed-of, of-allowed, set-chain}
 -- the answer is made of the fault, whichever net is judged then
 set-made : (net judged : Net) (s : List ℕ) (r : SetAnswer) → r ≡ setAnswer (setFault net s) (judgedSet judged s) → Answers Refused (setFault net s) r
 set-made net judged s r e =
-    record {
-      given = λ n at q. e ∙ ap (λ (f : Fault). setAnswer f (judgedSet judged s)) q;
-      never = λ q n at k. none (ltb (lowestEscape judged s) (judged .transitions)) n at (sym (e ∙ ap (λ (f : Fault). setAnswer f (judgedSet judged s)) q) ∙ k);
-    }
+    answers-of Refused (λ (f : Fault). setAnswer f (judgedSet judged s)) (setFault net s) r e (λ n at. refl) (none (ltb (lowestEscape judged s) (judged .transitions)))
   where
     none : (b : Bool) (n at : ℕ) → cond b (No (lowestEscape judged s)) Yes ≡ Refused n at → ⊥
     none true n at e = let z : _≡_ {A = ℕ} 0 1 = cc in omega arith

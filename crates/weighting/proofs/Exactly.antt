@@ -1,7 +1,7 @@
 -- "Given exactly when": what is allowed is answered, what is answered is allowed, and each refusal is the one of the first demand that does not hold.
 -- Each is said of whatever keeps the entry's promise. Assumes nothing.
 use Prim.Native.Nat.{ℕ}
-use mathlib.Core.Path.{_≡_, refl, sym, ap, _∙_}
+use mathlib.Core.Path.{_≡_, refl}
 use mathlib.Core.Bool.{Bool, true, false, cond}
 use mathlib.Core.Logic.{_↔_}
 use mathlib.Core.List.{List}
@@ -11,7 +11,7 @@ use lib.IntN.{ℤ}
 use Rattle.net.specs.Net.{Net}
 use Rattle.net.specs.declared.Fault.{Fault}
 use Rattle.net.specs.declared.Fault.the-variants.{Sound, Faulty}
-use Rattle.net.proofs.Exactly.{Answers, exactly-refused, is-answered, is-allowed}
+use Rattle.net.proofs.Exactly.{Answers, answers-of, exactly-refused, is-answered, is-allowed}
 use Rattle.weighting.specs.Tests.{lowestTransition, lowestPlace, hasNegative, weightingFault, boundFault}
 use Rattle.weighting.specs.Allowed.{Allowed, Refusal, BoundAllowed, BoundRefusal}
 use Rattle.weighting.specs.Place.{placeAnswer, placeOf, placeNumbers}
@@ -27,15 +27,11 @@ use Rattle.weighting.proofs.Numbers.{place-numbers-apart, transition-nu
 use Rattle.weighting.proofs.Allowed.{allowed-of, of-allowed, weighting-chain, bound-allowed-of, of-bound-allowed, bound-chain}
 use Rattle.weighting.proofs.Meaning.{bound-judged}
 
--- an answer that is made of a fault
-answers : {A : Type 0} (refused : ℕ → ℕ → A) (of : Fault → A) (f : Fault) (r : A) → r ≡ of f → ((n at : ℕ) → of (Faulty n at) ≡ refused n at) → ((n at : ℕ) → of Sound ≡ refused n at → ⊥) → Answers refused f r
-answers refused of f r e given none = record { given = λ n at q. e ∙ ap of q ∙ given n at; never = λ q n at k. none n at (sym (e ∙ ap of q) ∙ k) }
-
 -- a place weighting
 module _ (net : Net) (y : List ℤ) (r : PlaceWeighting) (promise : placeNumbers r ≡ placeNumbers (placeOf net y)) where
   place-made : Answers place.Refused (weightingFault net (net .places) y) r
   place-made =
-      answers place.Refused (λ (f : Fault). placeAnswer f (net .transitions) (lowestTransition net y)) (weightingFault net (net .places) y) r
+      answers-of place.Refused (λ (f : Fault). placeAnswer f (net .transitions) (lowestTransition net y)) (weightingFault net (net .places) y) r
       (place-numbers-apart r (placeOf net y) promise) (λ n at. refl) (none (ltb (lowestTransition net y) (net .transitions)))
     where
       none : (b : Bool) (n at : ℕ) → cond b (place.NotInvariant (lowestTransition net y)) place.Invariant ≡ place.Refused n at → ⊥
@@ -55,7 +51,7 @@ module _ (net : Net) (y : List ℤ) (r : PlaceWeighting) (promise : placeNumbers
 module _ (net : Net) (x : List ℤ) (r : TransitionWeighting) (promise : transitionNumbers r ≡ transitionNumbers (transitionOf net x)) where
   transition-made : Answers transition.Refused (weightingFault net (net .transitions) x) r
   transition-made =
-      answers transition.Refused (λ (f : Fault). transitionAnswer f (net .places) (lowestPlace net x) (hasNegative x)) (weightingFault net (net .transitions) x) r
+      answers-of transition.Refused (λ (f : Fault). transitionAnswer f (net .places) (lowestPlace net x) (hasNegative x)) (weightingFault net (net .transitions) x) r
       (transition-numbers-apart r (transitionOf net x) promise) (λ n at. refl) (none (ltb (lowestPlace net x) (net .places)) (hasNegative x))
     where
       none : (b c : Bool) (n at : ℕ) → cond b (transition.NotInvariant (lowestPlace net x)) (cond c transition.Invariant transition.Proper) ≡ transition.Refused n at → ⊥
@@ -76,7 +72,7 @@ module _ (net : Net) (x : List ℤ) (r : TransitionWeighting) (promise : transit
 module _ (net : Net) (initial : List ℕ) (y : List ℤ) (p : ℕ) (r : Bound) (promise : boundNumbers r ≡ boundNumbers (boundOf net initial y p)) where
   bound-made : Answers bound.Refused (boundFault net initial y p) r
   bound-made =
-      answers bound.Refused (λ (f : Fault). boundAnswer f (foundBound net initial y p)) (boundFault net initial y p) r
+      answers-of bound.Refused (λ (f : Fault). boundAnswer f (foundBound net initial y p)) (boundFault net initial y p) r
       (bound-numbers-apart r (boundOf net initial y p) promise) (λ n at. refl) none
     where
       none : (n at : ℕ) → foundBound net initial y p ≡ bound.Refused n at → ⊥
