@@ -7,8 +7,9 @@ use native.Mathlib.Omega.{arith}
 use native.Mathlib.Nat.{mul-le-mul-right}
 use mir.Syntax.{w64}
 use mir.Val.{Fits}
-use lib.ListN.{length, getD, take, replicate}
-use lib.Seq.{sets}
+use native.Mathlib.Decide.{decLt}
+use lib.ListN.{length, getD, take, length-append, List·getD-append}
+use lib.Seq.{sets, getD-append-add}
 use lib.Dec.{eqb}
 use borrow.Author.Tests.{lt-ltb, le-ltb, ltb-false, eqb-true, eqb-false, eq-eqb, not-true, not-false}
 use Rattle.ground.specs.Limits.{countLimit, noCapacity}
@@ -21,15 +22,16 @@ use Rattle.net.specs.declared.Fault.{Fault}
 use Rattle.net.specs.declared.Fault.the-variants.{Sound, Faulty}
 use Rattle.net.proofs.Chains.{or-sound, sound-or, refuse-sound, chain-first, not-sound}
 use Rattle.net.proofs.Refusals.{sized-true, counts-met, net-met, met-net, marked-met, met-marked, marked-is, marked-unfit, unsized-unfit, start-misfit, start-faulty}
-use Rattle.net.proofs.Rows.{row-at}
-use Rattle.complement.specs.Complement.{made, madePlaces, complementPlaces, fallOf, fall, joined, preRow, postRow}
+use Rattle.net.proofs.Rows.{row-at, row-end, row-length}
+use Rattle.ground.proofs.Fill.{table-length, table-at}
+use Rattle.complement.specs.Complement.{made, madePlaces, complementPlaces, fallOf, fall, joined, preRow, postRow, complementMarking}
 use Rattle.complement.specs.Told.{limitFault, placesFault, Told, Countable}
 use Rattle.complement.specs.Entry.{Rooms, roomsOf, lengthsFit, netFits, roomsFit, complementFault, written, Complemented, Roomy, Allowed}
-use Rattle.complement.specs.Walk.{Inside, rises, falls, newPre, newPost, spares}
+use Rattle.complement.specs.Walk.{Inside, takenFrom, putTo, tokensAt, newPre, newPost, tokensRow}
 use Rattle.complement.specs.declared.ComplementPlaces.the-variants as places
 use Rattle.complement.specs.declared.ComplementNet.the-variants.{Made, Refused}
 use Rattle.complement.proofs.Choice.{chosen-few, chosen-is, chosen-map}
-use Rattle.complement.proofs.Written.{chosen-front}
+use Rattle.complement.proofs.Written.{sources-front, by-sources, joined-same}
 
 -- which answer of refusal 10
 pub limit-over : (n : ℕ) → countLimit < n → Faulty 10 0 ≡ limitFault n
@@ -116,54 +118,84 @@ module _ (net : Net) (found : Fault) (e : found ≡ netFault net true) where
 
 pub ruleset tolds = (told-plain, told-limit, told-places)
 
--- the rows as written are those of the complement net
-module _ (net : Net) where
-  same-pre : (t : ℕ) → newPre (net .places) (net .pre) (net .post) (madePlaces net) t ≡ preRow net t
-  same-pre t =
-      ap (λ (l : List ℕ). row (net .places) t (net .pre) ++ l)
-      (chosen-map (made net) (λ p. riseOf (getD (row (net .places) t (net .pre)) p 0) (getD (row (net .places) t (net .post)) p 0)) (λ p. rise net p t) 0 (net .places)
+-- the places of the complement net by the old places that they stand for
+abbrev sourcesOf : Net → List ℕ
+sourcesOf net = table (λ p. p) (net .places) ++ madePlaces net
+
+-- so written, the rows are those of the complement net
+module _ (net : Net) (sized : Sized net) (t : ℕ) (h : t < net .transitions) where
+  same-pre : newPre (net .places) (net .pre) (net .post) (sourcesOf net) t ≡ preRow net t
+  same-pre =
+      let takes = row (net .places) t (net .pre) in
+      let puts = row (net .places) t (net .post) in
+      by-sources (λ b p. takenFrom b (getD takes p 0) (getD puts p 0)) (net .places) takes (madePlaces net) (row-length (net .places) t (net .pre) (rw (sized .pres) (row-end t (net .transitions) (net .places) h))) (λ p l. refl)
+      ∙ ap (λ (l : List ℕ). takes ++ l)
+      (chosen-map (made net) (λ p. riseOf (getD takes p 0) (getD puts p 0)) (λ p. rise net p t) 0 (net .places)
       (λ p b. let l : p < net .places = omega arith in rw (row-at (net .places) t (net .pre) p l, row-at (net .places) t (net .post) p l)))
 
-  same-post : (t : ℕ) → newPost (net .places) (net .pre) (net .post) (madePlaces net) t ≡ postRow net t
-  same-post t =
-      ap (λ (l : List ℕ). row (net .places) t (net .post) ++ l)
-      (chosen-map (made net) (λ p. fallOf (getD (row (net .places) t (net .pre)) p 0) (getD (row (net .places) t (net .post)) p 0)) (λ p. fall net p t) 0 (net .places)
+  same-post : newPost (net .places) (net .pre) (net .post) (sourcesOf net) t ≡ postRow net t
+  same-post =
+      let takes = row (net .places) t (net .pre) in
+      let puts = row (net .places) t (net .post) in
+      by-sources (λ b p. putTo b (getD takes p 0) (getD puts p 0)) (net .places) puts (madePlaces net) (row-length (net .places) t (net .post) (rw (sized .posts) (row-end t (net .transitions) (net .places) h))) (λ p l. refl)
+      ∙ ap (λ (l : List ℕ). puts ++ l)
+      (chosen-map (made net) (λ p. fallOf (getD takes p 0) (getD puts p 0)) (λ p. fall net p t) 0 (net .places)
       (λ p b. let l : p < net .places = omega arith in rw (row-at (net .places) t (net .pre) p l, row-at (net .places) t (net .post) p l)))
 
--- the rooms of an allowed question, and what was written into them; r holds the places that were chosen, at its front
+-- the rooms of an allowed question, and what was written into them; r has the sources at its front
 module _ (net : Net) (initial : List ℕ) (rooms : Rooms) (allowed : Allowed net initial rooms) where
-  pub pre-cells : length (rooms .pre) ≡ net .transitions * length (rooms .caps)
-  pre-cells = rw (allowed .roomy .capped) (allowed .roomy .pres)
-
-  pub post-cells : length (rooms .post) ≡ net .transitions * length (rooms .caps)
-  post-cells = rw (allowed .roomy .capped) (allowed .roomy .posts)
-
   pub marked-caps : length initial ≡ length (net .caps)
   marked-caps = allowed .marked ∙ sym (allowed .sized .capped)
 
-  module _ (r : List ℕ) (e : r ≡ sets (replicate countLimit 0) 0 (madePlaces net)) where
-    pub front : take (length (rooms .caps) - net .places) r ≡ madePlaces net
-    front = chosen-front (madePlaces net) r (length (rooms .caps) - net .places) (made-few net (allowed .sized)) e (omega (arith, allowed .roomy .capped))
+  pub wide-few : length (rooms .caps) ≤ countLimit
+  wide-few = rw (allowed .roomy .capped) (allowed .few)
 
-    pub front-count : length (rooms .caps) - net .places ≡ length (take (length (rooms .caps) - net .places) r)
-    front-count = rw front (omega (arith, allowed .roomy .capped))
+  same-tokens : tokensRow (length (net .caps)) (net .caps) initial (sourcesOf net) ≡ complementMarking net initial
+  same-tokens =
+      rw (allowed .sized .capped)
+      (by-sources (λ b p. tokensAt b (getD (net .caps) p 0) (getD initial p 0)) (net .places) initial (madePlaces net) (allowed .marked) (λ p l. refl))
 
-    pub front-inside : Inside (net .places) (take (length (rooms .caps) - net .places) r)
-    front-inside = rw front (made-inside net (allowed .sized))
+  module _ (r : List ℕ) (e : r ≡ sets (table (λ p. p) countLimit) (net .places) (madePlaces net)) where
+    front : take (length (rooms .caps)) r ≡ sourcesOf net
+    front = sources-front (net .places) (length (rooms .caps)) (madePlaces net) r (allowed .roomy .capped) wide-few e
 
-    pub front-wide : length (rooms .caps) ≡ net .places + length (take (length (rooms .caps) - net .places) r)
-    front-wide = rw front (allowed .roomy .capped)
+    sources-long : length (sourcesOf net) ≡ complementPlaces net
+    sources-long = length-append (table (λ p. p) (net .places)) (madePlaces net) ∙ omega (arith, table-length {A = ℕ} (λ p. p) (net .places))
 
-    pub front-room : length initial + length (take (length (rooms .caps) - net .places) r) ≡ length (rooms .initial)
-    front-room = rw front (omega (arith, allowed .marked, allowed .roomy .initials))
+    pub front-count : length (rooms .caps) ≡ length (take (length (rooms .caps)) r)
+    front-count = rw front (allowed .roomy .capped ∙ sym sources-long)
 
-    pub written-of : (a b c d : List ℕ) → a ≡ joined (newPre (net .places) (net .pre) (net .post) (take (length (rooms .caps) - net .places) r)) (net .transitions) → b ≡ joined (newPost (net .places) (net .pre) (net .post) (take (length (rooms .caps) - net .places) r)) (net .transitions) → c ≡ table (λ p. noCapacity) (length (rooms .caps)) → d ≡ initial ++ spares (net .caps) initial (take (length (rooms .caps) - net .places) r) → roomsOf a b c d ≡ written net initial
+    pub front-inside : Inside (net .places) (take (length (rooms .caps)) r)
+    front-inside = rw front (record { at = λ q h. go q (omega (arith, sources-long)) (decLt q (net .places)) })
+      where
+        own : length (table (λ p. p) (net .places)) ≡ net .places
+        own = table-length (λ p. p) (net .places)
+
+        after : (j : ℕ) → j < length (madePlaces net) → getD (sourcesOf net) (net .places + j) 0 < net .places
+        after j b =
+            let x : getD (sourcesOf net) (net .places + j) 0 ≡ getD (madePlaces net) j 0 = ap (λ (k : ℕ). getD (sourcesOf net) (k + j) 0) (sym own) ∙ getD-append-add (table (λ p. p) (net .places)) (madePlaces net) j 0 in
+            omega (arith, x, made-inside net (allowed .sized) .at j b)
+
+        go : (q : ℕ) → q < complementPlaces net → Dec (q < net .places) → getD (sourcesOf net) q 0 < net .places
+        go q b (yes l) = rw (List·getD-append (table (λ p. p) (net .places)) (madePlaces net) 0 q (omega (arith, own)), table-at (λ p. p) (net .places) q 0 l) l
+        go q b (no n) = let x : q ≡ net .places + (q - net .places) = omega arith in rw x (after (q - net .places) (omega arith))
+
+    pub pre-cells : length (rooms .pre) ≡ net .transitions * length (take (length (rooms .caps)) r)
+    pre-cells = rw (← front-count, allowed .roomy .capped) (allowed .roomy .pres)
+
+    pub post-cells : length (rooms .post) ≡ net .transitions * length (take (length (rooms .caps)) r)
+    post-cells = rw (← front-count, allowed .roomy .capped) (allowed .roomy .posts)
+
+    pub front-room : length (take (length (rooms .caps)) r) ≡ length (rooms .initial)
+    front-room = sym front-count ∙ allowed .roomy .capped ∙ sym (allowed .roomy .initials)
+
+    pub written-of : (a b c d : List ℕ) → a ≡ joined (newPre (net .places) (net .pre) (net .post) (take (length (rooms .caps)) r)) (net .transitions) → b ≡ joined (newPost (net .places) (net .pre) (net .post) (take (length (rooms .caps)) r)) (net .transitions) → c ≡ table (λ p. noCapacity) (length (rooms .caps)) → d ≡ tokensRow (length (net .caps)) (net .caps) initial (take (length (rooms .caps)) r) → roomsOf a b c d ≡ written net initial
     written-of a b c d ea eb ec ed =
         rw (
-          rw front at ea ∙ ap (λ (g : ℕ → List ℕ). joined g (net .transitions)) (λ j t. same-pre net t j),
-          rw front at eb ∙ ap (λ (g : ℕ → List ℕ). joined g (net .transitions)) (λ j t. same-post net t j),
+          rw front at ea ∙ joined-same _ (preRow net) (net .transitions) (same-pre net (allowed .sized)),
+          rw front at eb ∙ joined-same _ (postRow net) (net .transitions) (same-post net (allowed .sized)),
           ec,
-          rw front at ed,
+          rw front at ed ∙ same-tokens,
           allowed .roomy .capped,
         )
 

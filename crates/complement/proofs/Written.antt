@@ -1,20 +1,25 @@
 -- Laws of the loops that choose places and write the rooms. Assumes nothing.
-use Prim.Native.Nat.{ℕ, suc, _+_, _-_, _*_, _≤_, _<_, zero-le}
+use Prim.Native.Nat.{ℕ, zero, suc, _+_, _-_, _*_, _≤_, _<_, zero-le}
 use mathlib.Core.Path.{_≡_, refl, sym, ap, _∙_}
-use mathlib.Core.Bool.{Bool, true, false}
+use mathlib.Core.Bool.{Bool, true, false, cond}
 use mathlib.Core.List.{List, [], _∷_, _++_, map}
 use native.Mathlib.Omega.{arith}
 use native.Mathlib.Numerals.{add-one}
 use native.Mathlib.Nat.{suc-mul}
-use lib.ListN.{length, getD, set, take, drop, length-set, length-append, length-map, drop-of-length-le, replicate, length-replicate}
-use lib.Seq.{sets, length-sets, drop-cons, sets-eq, take-append-seam}
+use native.Mathlib.Decide.{decLt}
+use lib.ListN.{length, getD, set, take, drop, replicate, length-replicate, length-set, length-append, length-map, drop-of-length-le, List·getD-append}
+use lib.Seq.{sets, length-sets, drop-cons, sets-eq, take-at, ext-getD, getD-take, getD-append-add, length-take-le}
+use lib.Dec.{ltb}
+use borrow.Author.Tests.{lt-ltb, le-ltb}
 use Rattle.ground.specs.Limits.{countLimit}
+use Rattle.ground.specs.Lists.{mapAt, table}
 use Rattle.ground.proofs.Stores.{sets-both, sets-whole}
+use Rattle.ground.proofs.Fill.{mapAt-length, mapAt-at, table-length, table-at, Made, make-next, make-end}
 use Rattle.net.specs.Letter.{row}
 use Rattle.net.specs.Given.{Fine}
 use Rattle.net.proofs.Rows.{row-length}
 use Rattle.complement.specs.Complement.{chosenFrom, joined}
-use Rattle.complement.specs.Walk.{Inside, rises, falls, newPre, newPost, spares}
+use Rattle.complement.specs.Walk.{Inside}
 use Rattle.complement.proofs.Choice.{chosen-few, map-at}
 
 -- the chosen numbers from p on, of n: one more, none more, no number left. r is the test's answer at p
@@ -53,27 +58,39 @@ module _ (f : ℕ → Bool) (n : ℕ) where
 
 pub ruleset counts = (count-start, count-yes, count-no, count-end)
 
--- the chosen numbers written to the front of a blank list: p numbers were passed, and the next is written at `at`
-pub record Choosing (f : ℕ → Bool) (n at p : ℕ) (l : List ℕ) : Type 0 where
+-- every number in order, p so far
+module _ (p : ℕ) (l : List ℕ) (m : Made 0 (λ k. k) (replicate countLimit 0) p l) where
+  pub own-next : p < countLimit → Made 0 (λ k. k) (replicate countLimit 0) (p + 1) (set l p p)
+  own-next h = make-next 0 (λ k. k) (replicate countLimit 0) p l p m (omega (arith, m .filled .long, length-replicate {A = ℕ} countLimit 0)) refl
+
+  pub own-end : countLimit ≤ p → l ≡ table (λ k. k) countLimit
+  own-end h =
+      make-end 0 (λ k. k) (replicate countLimit 0) p l m (omega (arith, m .filled .long, length-replicate {A = ℕ} countLimit 0))
+      ∙ ap (table (λ k. k)) (length-replicate {A = ℕ} countLimit 0)
+
+pub ruleset owns = (own-next, own-end)
+
+-- the chosen numbers written into a list from `to` on: p numbers were passed, and the next is written at `at`
+pub record Choosing (f : ℕ → Bool) (n : ℕ) (l₀ : List ℕ) (to at p : ℕ) (l : List ℕ) : Type 0 where
   pub passed : p ≤ n
   pub ends : at + length (chosenFrom f p (n - p)) ≤ countLimit
-  pub same : sets l at (chosenFrom f p (n - p)) ≡ sets (replicate countLimit 0) 0 (chosenFrom f 0 n)
+  pub same : sets l at (chosenFrom f p (n - p)) ≡ sets l₀ to (chosenFrom f 0 n)
 
-module _ (f : ℕ → Bool) (n : ℕ) where
-  pub choose-start : (l : List ℕ) → n ≤ countLimit → l ≡ replicate countLimit 0 → Choosing f n 0 0 l
-  choose-start l h e = let x : n - 0 ≡ n = omega arith in record { passed = zero-le; ends = rw x (omega (arith, chosen-few f 0 n)); same = rw (x, e) }
+module _ (f : ℕ → Bool) (n : ℕ) (l₀ : List ℕ) (to : ℕ) where
+  pub choose-start : (l : List ℕ) → to + length (chosenFrom f 0 n) ≤ countLimit → l ≡ l₀ → Choosing f n l₀ to to 0 l
+  choose-start l h e = let x : n - 0 ≡ n = omega arith in record { passed = zero-le; ends = rw x h; same = rw (x, e) }
 
-  module _ (at p : ℕ) (l : List ℕ) (i : Choosing f n at p l) where
-    pub choose-end : n ≤ p → l ≡ sets (replicate countLimit 0) 0 (chosenFrom f 0 n)
+  module _ (at p : ℕ) (l : List ℕ) (i : Choosing f n l₀ to at p l) where
+    pub choose-end : n ≤ p → l ≡ sets l₀ to (chosenFrom f 0 n)
     choose-end h = rw (chosen-end f n p h) at (i .same)
 
     module _ (r : Bool) (h : p < n) (e : r ≡ f p) where
-      pub choose-no : (at′ : ℕ) (l′ : List ℕ) → r ≡ false → at′ ≡ at → l′ ≡ l → Choosing f n at′ (p + 1) l′
+      pub choose-no : (at′ : ℕ) (l′ : List ℕ) → r ≡ false → at′ ≡ at → l′ ≡ l → Choosing f n l₀ to at′ (p + 1) l′
       choose-no at′ l′ q x y =
           let k = chosen-no f n p r h e q in
           rw (x, y) (record { passed = omega arith; ends = omega (arith, i .ends, ap length k); same = rw k at (i .same) })
 
-      pub choose-yes : (at′ : ℕ) (l′ : List ℕ) → r ≡ true → at′ ≡ at + 1 → l′ ≡ set l at p → Choosing f n at′ (p + 1) l′
+      pub choose-yes : (at′ : ℕ) (l′ : List ℕ) → r ≡ true → at′ ≡ at + 1 → l′ ≡ set l at p → Choosing f n l₀ to at′ (p + 1) l′
       choose-yes at′ l′ q x y =
           let k = chosen-yes f n p r h e q in
           rw (x, y) (record { passed = omega arith; ends = omega (arith, i .ends, ap length k); same = rw (add-one at) (rw k at (i .same)) })
@@ -83,12 +100,19 @@ module _ (f : ℕ → Bool) (n : ℕ) where
 
 pub ruleset chooses = (choose-start, choose-no, choose-yes, choose-room, choose-end)
 
--- the front of what was chosen
-pub chosen-front : (chosen r : List ℕ) (n : ℕ) → length chosen ≤ countLimit → r ≡ sets (replicate countLimit 0) 0 chosen → n ≡ length chosen → take n r ≡ chosen
-chosen-front chosen r n h e q =
-    rw (e, q)
-    (ap (take (length chosen)) (sets-eq chosen (replicate countLimit 0) 0 (omega (arith, length-replicate {A = ℕ} countLimit 0)))
-    ∙ take-append-seam chosen (drop (0 + length chosen) (replicate countLimit 0)))
+-- the sources of all places: the old ones' own numbers, then the chosen ones
+take-own : (n k : ℕ) → n ≤ k → take n (table (λ p. p) k) ≡ table (λ p. p) n
+take-own n k h =
+    let long = length-take-le n (table (λ p. p) k) (omega (arith, table-length {A = ℕ} (λ p. p) k)) in
+    ext-getD 0 (take n (table (λ p. p) k)) (table (λ p. p) n) (long ∙ sym (table-length (λ p. p) n))
+    (λ q b. let c : q < n = omega (arith, long) in getD-take n (table (λ p. p) k) q 0 c ∙ table-at (λ p. p) k q 0 (omega arith) ∙ sym (table-at (λ p. p) n q 0 c))
+
+pub sources-front : (places wide : ℕ) (chosen r : List ℕ) → wide ≡ places + length chosen → wide ≤ countLimit → r ≡ sets (table (λ p. p) countLimit) places chosen → take wide r ≡ table (λ p. p) places ++ chosen
+sources-front places wide chosen r w h e =
+    let x : take places (table (λ p. p) countLimit) ≡ table (λ p. p) places = take-own places countLimit (omega arith) in
+    let whole : r ≡ (table (λ p. p) places ++ chosen) ++ drop (places + length chosen) (table (λ p. p) countLimit) = e ∙ sets-eq chosen (table (λ p. p) countLimit) places (omega (arith, table-length {A = ℕ} (λ p. p) countLimit)) ∙ rw x in
+    ap (take wide) whole
+    ∙ take-at (table (λ p. p) places ++ chosen) (drop (places + length chosen) (table (λ p. p) countLimit)) wide (length-append (table (λ p. p) places) chosen ∙ omega (arith, table-length {A = ℕ} (λ p. p) places))
 
 -- a list copied into a room from `to` on: what stands at p, and the rest, give the whole
 pub record Copying (vs l₀ : List ℕ) (to p : ℕ) (l : List ℕ) : Type 0 where
@@ -109,45 +133,66 @@ module _ (vs l₀ : List ℕ) (to : ℕ) where
     pub copy-end : length vs ≤ p → l ≡ sets l₀ to vs
     copy-end h = rw (drop-of-length-le vs {i = p} h) at (f .same)
 
--- from the front on
-pub copy-front : (p : ℕ) → p ≡ 0 + p
-copy-front p = omega arith
+-- an old place's value, or a new one's: b is the test's answer
+pub old-is : (b : Bool) (x y r : ℕ) → b ≡ true → r ≡ x → r ≡ cond b x y
+old-is b x y r e q = rw e q
 
-pub ruleset copies = (copy-start, copy-next, copy-end, copy-front)
+pub new-is : (b : Bool) (x y r : ℕ) → b ≡ false → r ≡ y → r ≡ cond b x y
+new-is b x y r e q = rw e q
 
--- g of each chosen place written so
-module _ (g : ℕ → ℕ) (chosen l₀ : List ℕ) (to j : ℕ) (l : List ℕ) (f : Copying (map g chosen) l₀ to j l) where
-  pub map-next : (i v : ℕ) → j < length chosen → i ≡ to + j → v ≡ g (getD chosen j 0) → Copying (map g chosen) l₀ to (j + 1) (set l i v)
-  map-next i v h ei ev = copy-next (map g chosen) l₀ to j l f i v (omega (arith, length-map chosen g)) ei (ev ∙ sym (map-at g chosen j h))
+-- what each place has by its source, written so
+module _ (g : ℕ → ℕ → ℕ) (sources l₀ : List ℕ) (to q : ℕ) (l : List ℕ) (f : Copying (mapAt g sources) l₀ to q l) where
+  pub map-next : (i v : ℕ) → q < length sources → i ≡ to + q → v ≡ g q (getD sources q 0) → Copying (mapAt g sources) l₀ to (q + 1) (set l i v)
+  map-next i v h ei ev = copy-next (mapAt g sources) l₀ to q l f i v (omega (arith, mapAt-length g sources)) ei (ev ∙ sym (mapAt-at g sources q 0 0 h))
 
-  pub map-end : length chosen ≤ j → l ≡ sets l₀ to (map g chosen)
-  map-end h = copy-end (map g chosen) l₀ to j l f (omega (arith, length-map chosen g))
+  pub map-end : length sources ≤ q → l ≡ sets l₀ to (mapAt g sources)
+  map-end h = copy-end (mapAt g sources) l₀ to q l f (omega (arith, mapAt-length g sources))
 
-  pub map-long : length l ≡ length l₀
-  map-long = f .long
-
--- a chosen place's number, for a list of its length
-pub inside-at : (n : ℕ) (chosen : List ℕ) (j : ℕ) → Inside n chosen → j < length chosen → getD chosen j 0 < n
-inside-at n chosen j i h = i .at j h
+pub map-whole : (g : ℕ → ℕ → ℕ) (sources l₀ : List ℕ) (q : ℕ) (l : List ℕ) → Copying (mapAt g sources) l₀ 0 q l → length sources ≡ length l₀ → length sources ≤ q → l ≡ mapAt g sources
+map-whole g sources l₀ q l f e h = map-end g sources l₀ 0 q l f h ∙ sets-whole (mapAt g sources) l₀ (mapAt-length g sources ∙ e)
 
 -- no subtraction of tokens goes below 0
-pub fine-at : (caps m chosen : List ℕ) (j : ℕ) → Fine caps m → length m ≡ length caps → Inside (length caps) chosen → j < length chosen → getD m (getD chosen j 0) 0 ≤ getD caps (getD chosen j 0) 0
-fine-at caps m chosen j f e i h = f .within (getD chosen j 0) (omega (arith, i .at j h))
+pub fine-at : (caps m sources : List ℕ) (q : ℕ) → Fine caps m → length m ≡ length caps → Inside (length caps) sources → q < length sources → getD m (getD sources q 0) 0 ≤ getD caps (getD sources q 0) 0
+fine-at caps m sources q f e i h = f .within (getD sources q 0) (omega (arith, i .at q h))
 
-pub ruleset maps = (copy-start, map-next, map-end, inside-at)
+-- by the sources of all places: the old places' own, then those of the new ones
+by-own : (h : Bool → ℕ → ℕ) (kept chosen : List ℕ) → ((p : ℕ) → p < length kept → h true p ≡ getD kept p 0) → mapAt (λ q p. h (ltb q (length kept)) p) (table (λ p. p) (length kept) ++ chosen) ≡ kept ++ map (h false) chosen
+by-own h kept chosen same =
+    ext-getD 0 (mapAt g all) (kept ++ map (h false) chosen) (mapAt-length g all ∙ long ∙ sym (length-append kept (map (h false) chosen) ∙ ap (λ (k : ℕ). length kept + k) (length-map chosen (h false))))
+    (λ q b. go q (omega (arith, mapAt-length g all)) (decLt q (length kept)))
+  where
+    all : List ℕ
+    all = table (λ p. p) (length kept) ++ chosen
+
+    g : ℕ → ℕ → ℕ
+    g q p = h (ltb q (length kept)) p
+
+    own : length (table (λ p. p) (length kept)) ≡ length kept
+    own = table-length (λ p. p) (length kept)
+
+    long : length all ≡ length kept + length chosen
+    long = length-append (table (λ p. p) (length kept)) chosen ∙ omega (arith, own)
+
+    after : (j : ℕ) → j < length chosen → getD (mapAt g all) (length kept + j) 0 ≡ getD (kept ++ map (h false) chosen) (length kept + j) 0
+    after j b =
+        mapAt-at g all (length kept + j) 0 0 (omega (arith, long))
+        ∙ rw (le-ltb (length kept + j) (length kept) (omega arith)) (ap (h false) (ap (λ (k : ℕ). getD all (k + j) 0) (sym own) ∙ getD-append-add (table (λ p. p) (length kept)) chosen j 0))
+        ∙ sym (getD-append-add kept (map (h false) chosen) j 0 ∙ map-at (h false) chosen j b)
+
+    go : (q : ℕ) → q < length all → Dec (q < length kept) → getD (mapAt g all) q 0 ≡ getD (kept ++ map (h false) chosen) q 0
+    go q b (yes l) =
+        mapAt-at g all q 0 0 b
+        ∙ rw (lt-ltb q (length kept) l) (ap (h true) (List·getD-append (table (λ p. p) (length kept)) chosen 0 q (omega (arith, own)) ∙ table-at (λ p. p) (length kept) q 0 l) ∙ same q l)
+        ∙ sym (List·getD-append kept (map (h false) chosen) 0 q l)
+    go q b (no n) =
+        let x : q ≡ length kept + (q - length kept) = omega arith in
+        rw x (after (q - length kept) (omega (arith, long)))
+
+pub by-sources : (h : Bool → ℕ → ℕ) (places : ℕ) (kept chosen : List ℕ) → length kept ≡ places → ((p : ℕ) → p < length kept → h true p ≡ getD kept p 0) → mapAt (λ q p. h (ltb q places) p) (table (λ p. p) places ++ chosen) ≡ kept ++ map (h false) chosen
+by-sources h places kept chosen e same = rw (← e) (by-own h kept chosen same)
 
 pub sets-then : (xs ys l l₁ l₂ : List ℕ) (to at : ℕ) → l₁ ≡ sets l to xs → at ≡ to + length xs → l₂ ≡ sets l₁ at ys → l₂ ≡ sets l to (xs ++ ys)
 sets-then xs ys l l₁ l₂ to at e q k = k ∙ rw (e, q) (sets-both xs ys l to)
-
--- the initial marking, from its two parts
-module _ (m chosen l l₁ : List ℕ) (h : length m + length chosen ≡ length l) (e : l₁ ≡ sets l 0 m) where
-  pub tokens-room : length m + length chosen ≤ length l₁
-  tokens-room = rw (e, length-sets l 0 m) (omega arith)
-
-  pub tokens-whole : (g : ℕ → ℕ) (l₂ : List ℕ) → l₂ ≡ sets l₁ (length m) (map g chosen) → l₂ ≡ m ++ map g chosen
-  tokens-whole g l₂ k =
-      sets-then m (map g chosen) l l₁ l₂ 0 (length m) e (omega arith) k
-      ∙ sets-whole (m ++ map g chosen) l (length-append m (map g chosen) ∙ omega (arith, length-map chosen g))
 
 -- rows written one after the other: t of them are
 pub record Rowing (f : ℕ → List ℕ) (wide : ℕ) (l₀ : List ℕ) (t : ℕ) (l : List ℕ) : Type 0 where
@@ -174,6 +219,12 @@ module _ (f : ℕ → List ℕ) (wide : ℕ) (l₀ : List ℕ) where
 
     pub rows-end : (n : ℕ) → t ≡ n → length l₀ ≡ n * wide → l ≡ joined f n
     rows-end n q h = rw (← q) (r .same ∙ sets-whole (joined f t) l₀ (r .filled ∙ rw q (sym h)))
+
+-- the same rows
+pub joined-same : (f g : ℕ → List ℕ) (n : ℕ) → ((t : ℕ) → t < n → f t ≡ g t) → joined f n ≡ joined g n
+unfolding joined
+joined-same f g zero h = refl
+joined-same f g (suc n) h = rw (joined-same f g n (λ t l. h t (omega arith)), h n (omega arith))
 
 -- the length of a row with g of each chosen place behind it
 pub row-then : (n t : ℕ) (kept chosen : List ℕ) (g : ℕ → ℕ) → t * n + n ≤ length kept → length (row n t kept ++ map g chosen) ≡ n + length chosen

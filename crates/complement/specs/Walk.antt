@@ -1,29 +1,41 @@
 -- Only for the code's walk, nothing to believe: rows and tokens by the lists that the inner functions are lent. proofs/Answers.antt says that they are the complement net's.
 use Prim.Native.Nat.{ℕ, _-_, _<_}
-use mathlib.Core.List.{List, _++_, map}
+use mathlib.Core.Bool.{Bool, cond}
+use mathlib.Core.List.{List}
 use lib.ListN.{length, getD}
+use lib.Dec.{ltb}
+use Rattle.ground.specs.Lists.{mapAt}
 use Rattle.net.specs.Net.{riseOf}
 use Rattle.net.specs.Letter.{row}
-use Rattle.complement.specs.Complement.{fallOf, joined}
+use Rattle.complement.specs.Complement.{fallOf}
 
 -- place numbers below n
-pub record Inside (n : ℕ) (chosen : List ℕ) : Type 0 where
-  pub at : (j : ℕ) → j < length chosen → getD chosen j 0 < n
+pub record Inside (n : ℕ) (sources : List ℕ) : Type 0 where
+  pub at : (q : ℕ) → q < length sources → getD sources q 0 < n
 
--- what one transition takes from, and puts to, each new place
-abbrev pub rises : List ℕ → List ℕ → List ℕ → List ℕ
-rises takes puts chosen = map (λ p. riseOf (getD takes p 0) (getD puts p 0)) chosen
+-- an old place's weights and tokens, else a new one's
+abbrev pub takenFrom : Bool → ℕ → ℕ → ℕ
+takenFrom old takes puts = cond old takes (riseOf takes puts)
 
-abbrev pub falls : List ℕ → List ℕ → List ℕ → List ℕ
-falls takes puts chosen = map (λ p. fallOf (getD takes p 0) (getD puts p 0)) chosen
+abbrev pub putTo : Bool → ℕ → ℕ → ℕ
+putTo old takes puts = cond old puts (fallOf takes puts)
 
--- the rows of all transitions, one after the other
+abbrev pub tokensAt : Bool → ℕ → ℕ → ℕ
+tokensAt old cap tokens = cond old tokens (cap - tokens)
+
+-- of each place, by the old place that it stands for
+abbrev pub takenRow : ℕ → List ℕ → List ℕ → List ℕ → List ℕ
+takenRow places takes puts sources = mapAt (λ q p. takenFrom (ltb q places) (getD takes p 0) (getD puts p 0)) sources
+
+abbrev pub putRow : ℕ → List ℕ → List ℕ → List ℕ → List ℕ
+putRow places takes puts sources = mapAt (λ q p. putTo (ltb q places) (getD takes p 0) (getD puts p 0)) sources
+
+abbrev pub tokensRow : ℕ → List ℕ → List ℕ → List ℕ → List ℕ
+tokensRow places caps m sources = mapAt (λ q p. tokensAt (ltb q places) (getD caps p 0) (getD m p 0)) sources
+
+-- transition t's rows
 abbrev pub newPre : ℕ → List ℕ → List ℕ → List ℕ → ℕ → List ℕ
-newPre places pre post chosen t = row places t pre ++ rises (row places t pre) (row places t post) chosen
+newPre places pre post sources t = takenRow places (row places t pre) (row places t post) sources
 
 abbrev pub newPost : ℕ → List ℕ → List ℕ → List ℕ → ℕ → List ℕ
-newPost places pre post chosen t = row places t post ++ falls (row places t pre) (row places t post) chosen
-
--- the tokens of the new places
-abbrev pub spares : List ℕ → List ℕ → List ℕ → List ℕ
-spares caps m chosen = map (λ p. getD caps p 0 - getD m p 0) chosen
+newPost places pre post sources t = putRow places (row places t pre) (row places t post) sources

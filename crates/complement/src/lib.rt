@@ -6,17 +6,17 @@ use ground::Weight;
 use net::Fault;
 ghost use mathlib.Core.Path.{_≡_};
 ghost use Prim.Native.Nat.{_+_, _-_, _*_, _≤_, _<_};
-ghost use mathlib.Core.List.{_++_};
-ghost use lib.ListN.{length, replicate};
+ghost use lib.Dec.{ltb};
+ghost use lib.ListN.{length};
 ghost use lib.Seq.{sets};
 ghost use Rattle.ground.specs.Limits.{countLimit, noCapacity};
 ghost use Rattle.ground.specs.Lists.{table};
 ghost use Rattle.net.specs.Net.{netOf};
 ghost use Rattle.net.specs.Given.{orElse, markedFault, Sized, Fine};
-ghost use Rattle.complement.specs.Complement.{made, madePlaces, fallOf, joined};
+ghost use Rattle.complement.specs.Complement.{made, madePlaces, complementPlaces, joined};
 ghost use Rattle.complement.specs.Told.{limitFault, Told};
 ghost use Rattle.complement.specs.Entry.{roomsOf, lengthsFit, netFits, complementFault, Complemented};
-ghost use Rattle.complement.specs.Walk.{Inside, rises, falls, newPre, newPost, spares};
+ghost use Rattle.complement.specs.Walk.{Inside, takenFrom, putTo, tokensAt, takenRow, putRow, newPre, newPost, tokensRow};
 
 // How many places the complement net has; or refused, with document 01's number and position.
 pub enum ComplementPlaces {
@@ -69,15 +69,22 @@ fn count_made(
     count
 }
 
-// Room for as many place numbers as there may be places.
-fn blank_places() -> [usize; COUNT_LIMIT]
-    ensures { λ r. ⌜ r ≡ replicate countLimit 0 ⌝ }
+// Every place number, in order.
+fn own_places() -> [usize; COUNT_LIMIT]
+    ensures { λ r. ⌜ r ≡ table (λ p. p) countLimit ⌝ }
 {
-    [0; COUNT_LIMIT]
+    let mut own = [0; COUNT_LIMIT];
+    let mut p = 0;
+    while p < COUNT_LIMIT {
+        own[p] = p;
+        p += 1;
+    }
+    own
 }
 
-// The places that get one, in order of number, at the front.
-fn made_places(
+// For each place of the complement net the old place that it stands for: the old ones stand for
+// themselves, then come those that get a new place, in order of number.
+fn find_sources(
     places: usize,
     transitions: usize,
     pre: &[Weight],
@@ -85,116 +92,95 @@ fn made_places(
     caps: &[u16],
 ) -> [usize; COUNT_LIMIT]
     requires { ⌜ Sized (netOf places transitions (now pre) (now post) (now caps)) ⌝ }
-    ensures { λ r. ⌜ r ≡ sets (replicate countLimit 0) 0 (madePlaces (netOf places transitions (now (pre .entry)) (now (post .entry)) (now (caps .entry)))) ⌝ }
+    requires { ⌜ complementPlaces (netOf places transitions (now pre) (now post) (now caps)) ≤ countLimit ⌝ }
+    ensures { λ r. ⌜ r ≡ sets (table (λ p. p) countLimit) places (madePlaces (netOf places transitions (now (pre .entry)) (now (post .entry)) (now (caps .entry)))) ⌝ }
 {
-    let mut chosen = blank_places();
-    let mut at: usize = 0;
+    let mut sources = own_places();
+    let mut at = places;
     let mut p = 0;
     while p < places {
         if is_made(places, transitions, pre, post, caps, p) {
-            chosen[at] = p;
+            sources[at] = p;
             at += 1;
         }
         p += 1;
     }
-    chosen
+    sources
 }
 
-// What a transition puts to a new place: its rise there, and what it takes above what it puts. So
-// subtracted, no sum is above a weight.
-fn fall(takes: Weight, puts: Weight) -> Weight
-    ensures { λ r. ⌜ r ≡ fallOf takes puts ⌝ }
+// What a transition takes from place q: as before from an old one, its rise from a new one.
+fn taken_from(q: usize, places: usize, takes: Weight, puts: Weight) -> Weight
+    ensures { λ r. ⌜ r ≡ takenFrom (ltb q places) takes puts ⌝ }
 {
+    if q < places {
+        return takes;
+    }
+    net::rise(takes, puts)
+}
+
+// What it puts to place q: as before to an old one; to a new one its rise, and what it takes above
+// what it puts. So subtracted, no sum is above a weight.
+fn put_to(q: usize, places: usize, takes: Weight, puts: Weight) -> Weight
+    ensures { λ r. ⌜ r ≡ putTo (ltb q places) takes puts ⌝ }
+{
+    if q < places {
+        return puts;
+    }
     let rises = net::rise(takes, puts);
     takes - (puts - rises)
 }
 
-// The old places' weights of one transition, into the room from `to` on.
-fn copy_row(kept: &[Weight], to: usize, room: &mut [Weight])
-    requires { ⌜ to + length (now kept) ≤ length (now room) ⌝ }
-    ensures { λ r. ⌜ now (room .exit) ≡ sets (now (room .entry)) to (now (kept .entry)) ⌝ }
-{
-    let mut p = 0;
-    while p < kept.len() {
-        room[to + p] = kept[p];
-        p += 1;
-    }
-}
-
-// The new places' weights of one transition, into the rooms for Pre and Post from `to` on.
-fn add_row(
-    takes: &[Weight],
-    puts: &[Weight],
-    chosen: &[usize],
-    to: usize,
-    pre2: &mut [Weight],
-    post2: &mut [Weight],
-)
-    requires { ⌜ length (now takes) ≡ length (now puts) ⌝ }
-    requires { ⌜ Inside (length (now puts)) (now chosen) ⌝ }
-    requires { ⌜ to + length (now chosen) ≤ length (now pre2) ⌝ }
-    requires { ⌜ to + length (now chosen) ≤ length (now post2) ⌝ }
-    ensures { λ r. ⌜ now (pre2 .exit) ≡ sets (now (pre2 .entry)) to (rises (now (takes .entry)) (now (puts .entry)) (now (chosen .entry))) ⌝ }
-    ensures { λ r. ⌜ now (post2 .exit) ≡ sets (now (post2 .entry)) to (falls (now (takes .entry)) (now (puts .entry)) (now (chosen .entry))) ⌝ }
-{
-    let mut j = 0;
-    while j < chosen.len() {
-        let p = chosen[j];
-        let taken = takes[p];
-        let put = puts[p];
-        pre2[to + j] = net::rise(taken, put);
-        post2[to + j] = fall(taken, put);
-        j += 1;
-    }
-}
-
-// One transition's weights, the old places' and then the new ones', into both rooms.
+// One transition's weights at all places, into the rooms for Pre and Post from `to` on.
 fn write_row(
     takes: &[Weight],
     puts: &[Weight],
-    chosen: &[usize],
+    sources: &[usize],
     to: usize,
     pre2: &mut [Weight],
     post2: &mut [Weight],
 )
     requires { ⌜ length (now takes) ≡ length (now puts) ⌝ }
-    requires { ⌜ Inside (length (now puts)) (now chosen) ⌝ }
-    requires { ⌜ to + (length (now puts) + length (now chosen)) ≤ length (now pre2) ⌝ }
-    requires { ⌜ to + (length (now puts) + length (now chosen)) ≤ length (now post2) ⌝ }
-    ensures { λ r. ⌜ now (pre2 .exit) ≡ sets (now (pre2 .entry)) to (now (takes .entry) ++ rises (now (takes .entry)) (now (puts .entry)) (now (chosen .entry))) ⌝ }
-    ensures { λ r. ⌜ now (post2 .exit) ≡ sets (now (post2 .entry)) to (now (puts .entry) ++ falls (now (takes .entry)) (now (puts .entry)) (now (chosen .entry))) ⌝ }
+    requires { ⌜ Inside (length (now puts)) (now sources) ⌝ }
+    requires { ⌜ to + length (now sources) ≤ length (now pre2) ⌝ }
+    requires { ⌜ to + length (now sources) ≤ length (now post2) ⌝ }
+    ensures { λ r. ⌜ now (pre2 .exit) ≡ sets (now (pre2 .entry)) to (takenRow (length (now (puts .entry))) (now (takes .entry)) (now (puts .entry)) (now (sources .entry))) ⌝ }
+    ensures { λ r. ⌜ now (post2 .exit) ≡ sets (now (post2 .entry)) to (putRow (length (now (puts .entry))) (now (takes .entry)) (now (puts .entry)) (now (sources .entry))) ⌝ }
 {
-    let next = to + puts.len();
-    copy_row(takes, to, pre2);
-    copy_row(puts, to, post2);
-    add_row(takes, puts, chosen, next, pre2, post2);
+    let mut q = 0;
+    while q < sources.len() {
+        let p = sources[q];
+        let taken = takes[p];
+        let put = puts[p];
+        pre2[to + q] = taken_from(q, puts.len(), taken, put);
+        post2[to + q] = put_to(q, puts.len(), taken, put);
+        q += 1;
+    }
 }
 
 // All transitions' weights, row by row.
 fn write_rows(
     places: usize,
     transitions: usize,
-    wide: usize,
     pre: &[Weight],
     post: &[Weight],
-    chosen: &[usize],
+    sources: &[usize],
     pre2: &mut [Weight],
     post2: &mut [Weight],
 )
     requires { ⌜ length (now pre) ≡ transitions * places ⌝ }
     requires { ⌜ length (now post) ≡ transitions * places ⌝ }
-    requires { ⌜ Inside places (now chosen) ⌝ }
-    requires { ⌜ wide ≡ places + length (now chosen) ⌝ }
-    requires { ⌜ length (now pre2) ≡ transitions * wide ⌝ }
-    requires { ⌜ length (now post2) ≡ transitions * wide ⌝ }
-    ensures { λ r. ⌜ now (pre2 .exit) ≡ joined (newPre places (now (pre .entry)) (now (post .entry)) (now (chosen .entry))) transitions ⌝ }
-    ensures { λ r. ⌜ now (post2 .exit) ≡ joined (newPost places (now (pre .entry)) (now (post .entry)) (now (chosen .entry))) transitions ⌝ }
+    requires { ⌜ Inside places (now sources) ⌝ }
+    requires { ⌜ length (now pre2) ≡ transitions * length (now sources) ⌝ }
+    requires { ⌜ length (now post2) ≡ transitions * length (now sources) ⌝ }
+    ensures { λ r. ⌜ now (pre2 .exit) ≡ joined (newPre places (now (pre .entry)) (now (post .entry)) (now (sources .entry))) transitions ⌝ }
+    ensures { λ r. ⌜ now (post2 .exit) ≡ joined (newPost places (now (pre .entry)) (now (post .entry)) (now (sources .entry))) transitions ⌝ }
 {
+    let wide = sources.len();
     let mut t = 0;
     while t < transitions {
         let a = t * places;
         let e = a + places;
-        write_row(&pre[a..e], &post[a..e], chosen, t * wide, pre2, post2);
+        write_row(&pre[a..e], &post[a..e], sources, t * wide, pre2, post2);
         t += 1;
     }
 }
@@ -210,52 +196,33 @@ fn write_caps(room: &mut [u16])
     }
 }
 
-// The old places' tokens, into the front of the room.
-fn copy_tokens(initial: &[u16], room: &mut [u16])
-    requires { ⌜ length (now initial) ≤ length (now room) ⌝ }
-    ensures { λ r. ⌜ now (room .exit) ≡ sets (now (room .entry)) 0 (now (initial .entry)) ⌝ }
-{
-    let mut p = 0;
-    while p < initial.len() {
-        room[p] = initial[p];
-        p += 1;
-    }
-}
-
-// What a place has room for yet.
-fn spare(cap: u16, tokens: u16) -> u16
+// The tokens of place q at the start: as before at an old one, capacity minus tokens at a new one.
+fn tokens_at(q: usize, places: usize, cap: u16, tokens: u16) -> u16
     requires { ⌜ tokens ≤ cap ⌝ }
-    ensures { λ r. ⌜ r ≡ cap - tokens ⌝ }
+    ensures { λ r. ⌜ r ≡ tokensAt (ltb q places) cap tokens ⌝ }
 {
+    if q < places {
+        return tokens;
+    }
     cap - tokens
 }
 
-// The new places' tokens, capacity minus tokens, into the room from `to` on.
-fn add_tokens(caps: &[u16], initial: &[u16], chosen: &[usize], to: usize, room: &mut [u16])
+// The initial marking of all places.
+fn write_tokens(caps: &[u16], initial: &[u16], sources: &[usize], room: &mut [u16])
     requires { ⌜ length (now initial) ≡ length (now caps) ⌝ }
     requires { ⌜ Fine (now caps) (now initial) ⌝ }
-    requires { ⌜ Inside (length (now caps)) (now chosen) ⌝ }
-    requires { ⌜ to + length (now chosen) ≤ length (now room) ⌝ }
-    ensures { λ r. ⌜ now (room .exit) ≡ sets (now (room .entry)) to (spares (now (caps .entry)) (now (initial .entry)) (now (chosen .entry))) ⌝ }
+    requires { ⌜ Inside (length (now caps)) (now sources) ⌝ }
+    requires { ⌜ length (now sources) ≡ length (now room) ⌝ }
+    ensures { λ r. ⌜ now (room .exit) ≡ tokensRow (length (now (caps .entry))) (now (caps .entry)) (now (initial .entry)) (now (sources .entry)) ⌝ }
 {
-    let mut j = 0;
-    while j < chosen.len() {
-        let p = chosen[j];
-        room[to + j] = spare(caps[p], initial[p]);
-        j += 1;
+    let mut q = 0;
+    while q < sources.len() {
+        let p = sources[q];
+        let cap = caps[p];
+        let tokens = initial[p];
+        room[q] = tokens_at(q, caps.len(), cap, tokens);
+        q += 1;
     }
-}
-
-// The initial marking: the old places' tokens, then the new places'.
-fn write_tokens(caps: &[u16], initial: &[u16], chosen: &[usize], room: &mut [u16])
-    requires { ⌜ length (now initial) ≡ length (now caps) ⌝ }
-    requires { ⌜ Fine (now caps) (now initial) ⌝ }
-    requires { ⌜ Inside (length (now caps)) (now chosen) ⌝ }
-    requires { ⌜ length (now initial) + length (now chosen) ≡ length (now room) ⌝ }
-    ensures { λ r. ⌜ now (room .exit) ≡ now (initial .entry) ++ spares (now (caps .entry)) (now (initial .entry)) (now (chosen .entry)) ⌝ }
-{
-    copy_tokens(initial, room);
-    add_tokens(caps, initial, chosen, initial.len(), room);
 }
 
 // Whether the rooms have the new net's lengths.
@@ -396,20 +363,18 @@ pub fn complement_net(
         Fault::Faulty(number, at) => ComplementNet::Refused(number, at),
         Fault::Sound => {
             let wide = caps2.len();
-            let count = wide - places;
-            let chosen = made_places(places, transitions, pre, post, caps);
+            let sources = find_sources(places, transitions, pre, post, caps);
             write_rows(
                 places,
                 transitions,
-                wide,
                 pre,
                 post,
-                &chosen[..count],
+                &sources[..wide],
                 pre2,
                 post2,
             );
             write_caps(caps2);
-            write_tokens(caps, initial, &chosen[..count], initial2);
+            write_tokens(caps, initial, &sources[..wide], initial2);
             ComplementNet::Made
         }
     }

@@ -21,13 +21,13 @@ use Rattle.file_entry.specs.Entry.{blank, readAll}
 use Rattle.file_entry.specs.Cut.{feeds}
 
 -- after k line feeds
-abbrev pub Counted : ℕ → Run → Type 0
-Counted k (going s d) = (Good s) × (s .line ≡ k)
-Counted k (stopped n l) = (1 ≤ l) × (l ≤ k + 1)
+abbrev pub LinesCounted : ℕ → Run → Type 0
+LinesCounted k (going s d) = (Good s) × (s .line ≡ k)
+LinesCounted k (stopped n l) = (1 ≤ l) × (l ≤ k + 1)
 
 pub record Fed (x : Rooms) (k : ℕ) (z : Both) : Type 0 where
   pub same : Same (z .rooms) x
-  pub counted : Counted k (z .run)
+  pub counted : LinesCounted k (z .run)
 
 same-own : (x : Rooms) → Same x x
 same-own x = record { caps = refl; initial = refl; pre = refl; post = refl; word = refl }
@@ -77,7 +77,7 @@ line-fed s d y g = go (judgeOf s d y) refl
         rw (l .0, l .1) (record { same = same-own y; counted = (omega (arith, z), omega (arith, z)) })
 
 -- a byte
-fed-run : (k : ℕ) (r : Run) (y : Rooms) → Counted k r → (b : ℕ) → Fed y (k + cond (eqb b lineFeed) 1 0) (fedTo r y b)
+fed-run : (k : ℕ) (r : Run) (y : Rooms) → LinesCounted k r → (b : ℕ) → Fed y (k + cond (eqb b lineFeed) 1 0) (fedTo r y b)
 unfolding fedTo
 fed-run k (stopped n l) y h b = record { same = same-own y; counted = (h .0, omega (arith, h .1)) }
 fed-run k (going s d) y h b = go (eqb b lineFeed) (ltb (length d) lineLimit)

@@ -28,7 +28,7 @@ use Rattle.file_entry.specs.Entry.{Came, came, largest, Largest, blank, 
 use Rattle.file_entry.specs.Cut.{feeds, Front}
 use Rattle.file_entry.proofs.Fronts.{largest-of, of-largest}
 use Rattle.file_entry.proofs.Ends.{blank-large, left-over}
-use Rattle.file_entry.proofs.Fold.{Counted, fed-file}
+use Rattle.file_entry.proofs.Fold.{LinesCounted, fed-file}
 
 -- `numbers` tells any two answers apart
 pub numbers-apart : (a b : CaseFile) → numbers a ≡ numbers b → a ≡ b
@@ -61,7 +61,7 @@ laid-fronts s y x x′ g h l e P T n p t k =
     )
 
 -- what the fold knows where the file was read whole, and where it was not
-ended-good : (r : Run) (k : ℕ) (s : Reading) → Counted k r → caseOf r ≡ case.Whole s → (Good s) × (s .phase ≡ 5)
+ended-good : (r : Run) (k : ℕ) (s : Reading) → LinesCounted k r → caseOf r ≡ case.Whole s → (Good s) × (s .phase ≡ 5)
 unfolding caseOf finishOf
 ended-good (going t []) k s c e = go (eqb (t .phase) 5) refl e
   where
@@ -71,7 +71,7 @@ ended-good (going t []) k s c e = go (eqb (t .phase) 5) refl e
 ended-good (going t (b ∷ d)) k s c e = let z : _≡_ {A = ℕ} 0 1 = cc in absurd (omega arith)
 ended-good (stopped n l) k s c e = let z : _≡_ {A = ℕ} 0 1 = cc in absurd (omega arith)
 
-refused-line-is : (r : Run) (k n l : ℕ) → Counted k r → caseOf r ≡ case.Refused n l → (1 ≤ l) × (l ≤ k + 1)
+refused-line-is : (r : Run) (k n l : ℕ) → LinesCounted k r → caseOf r ≡ case.Refused n l → (1 ≤ l) × (l ≤ k + 1)
 unfolding caseOf finishOf
 refused-line-is (going t []) k n l c e = go (eqb (t .phase) 5) e
   where

@@ -155,16 +155,16 @@ module _ (h : Held) (f : List ℕ) (x : Rooms) (s : Sound h) (z : h .refusal ≡
     line-whole w q = ap (λ (b : Both). feedAll b (drop (e + 1) f)) q ∙ begun (lineFeed ∷ drop (e + 1) f) rest-is
 
 -- the lines of f up to `at` are read into r and x: what is left comes to what the whole does from h and x₀
-pub record Reads (f : List ℕ) (h : Held) (x₀ : Rooms) (at : ℕ) (r : Held) (x : Rooms) : Type 0 where
+pub record LinesRead (f : List ℕ) (h : Held) (x₀ : Rooms) (at : ℕ) (r : Held) (x : Rooms) : Type 0 where
   pub sound : Sound r
   pub same : Same x x₀
   pub comes : feedAll (both (abs r) x) (drop at f) ≡ feedAll (both (abs h) x₀) f
 
-pub reads-start : (f : List ℕ) (h : Held) (x : Rooms) → Sound h → Reads f h x 0 h x
+pub reads-start : (f : List ℕ) (h : Held) (x : Rooms) → Sound h → LinesRead f h x 0 h x
 reads-start f h x s = record { sound = s; same = record { caps = refl; initial = refl; pre = refl; post = refl; word = refl }; comes = refl }
 
-module _ (f : List ℕ) (h : Held) (x₀ : Rooms) (at : ℕ) (r : Held) (x : Rooms) (m : Reads f h x₀ at r x) where
-  pub reads-next : (e : ℕ) (u : Held) (y : Rooms) → feedAll (both (abs u) y) (drop (e + 1) f) ≡ feedAll (both (abs r) x) (drop at f) → Sound u → Same y x → Reads f h x₀ (e + 1) u y
+module _ (f : List ℕ) (h : Held) (x₀ : Rooms) (at : ℕ) (r : Held) (x : Rooms) (m : LinesRead f h x₀ at r x) where
+  pub reads-next : (e : ℕ) (u : Held) (y : Rooms) → feedAll (both (abs u) y) (drop (e + 1) f) ≡ feedAll (both (abs r) x) (drop at f) → Sound u → Same y x → LinesRead f h x₀ (e + 1) u y
   reads-next e u y q s d =
       record {
         sound = s;

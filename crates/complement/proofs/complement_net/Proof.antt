@@ -2,7 +2,7 @@ use native.Mathlib.Omega.{arith}
 use denote.Ref.{now}
 use Rattle.net.specs.Net.{Net, netOf}
 use Rattle.complement.specs.Entry.{Rooms, roomsOf, Allowed}
-use Rattle.complement.proofs.Answers.{complementeds, net-made, net-allowed, pre-cells, post-cells, marked-caps, front-count, front-inside, front-wide, front-room, written-of}
+use Rattle.complement.proofs.Answers.{complementeds, net-made, net-allowed, pre-cells, post-cells, marked-caps, front-count, front-inside, front-room, written-of}
 use borrow.Author.Needs.{needs}
 use Rattle.complement.proofs.complement_net.Statement.{statement}
 use Rattle.complement.proofs.complement_net.Tie as tie
@@ -42,48 +42,45 @@ enum-known-found c = search needs
 enum-told : tie.Need-enum-told
 enum-told c = search needs
 
-sub-count : tie.Need-sub-count
-sub-count c = omega (arith, allowed c .roomy .capped)
+find-sources-requires : tie.Need-find-sources-requires
+find-sources-requires c κs = (allowed c .sized, allowed c .few)
 
-made-places-requires : tie.Need-made-places-requires
-made-places-requires c κs = allowed c .sized
-
-array-share-prefix-chosen : tie.Need-array-share-prefix-chosen
-array-share-prefix-chosen c = let a = allowed (c .before) in omega (arith, a .roomy .capped, a .few)
+array-share-prefix-sources : tie.Need-array-share-prefix-sources
+array-share-prefix-sources c = let a = allowed (c .before) in omega (arith, a .roomy .capped, a .few)
 
 slice-aggregate-write-rows : tie.Need-slice-aggregate-write-rows
 slice-aggregate-write-rows c =
-    let k : tie.After-made-places = c .before in
+    let k : tie.After-find-sources = c .before in
     let s : tie.Start = start (k .before) in
-    front-count (net s) (now (s .args .initial)) (rooms s) (allowed (k .before)) _ (k .made-places .ensures)
+    front-count (net s) (now (s .args .initial)) (rooms s) (allowed (k .before)) _ (k .find-sources .ensures)
 
 write-rows-requires : tie.Need-write-rows-requires
 write-rows-requires c κs =
-    let k : tie.After-made-places = c .before .before .before in
+    let k : tie.After-find-sources = c .before .before .before in
     let s : tie.Start = start (k .before) in
     let al = allowed (k .before) in
-    let e = k .made-places .ensures in
+    let e = k .find-sources .ensures in
     let m = now (s .args .initial) in
-    (al .sized .pres, (al .sized .posts, (front-inside (net s) m (rooms s) al _ e, (front-wide (net s) m (rooms s) al _ e, (pre-cells (net s) m (rooms s) al, post-cells (net s) m (rooms s) al)))))
+    (al .sized .pres, (al .sized .posts, (front-inside (net s) m (rooms s) al _ e, (pre-cells (net s) m (rooms s) al _ e, post-cells (net s) m (rooms s) al _ e))))
 
 write-caps-requires : tie.Need-write-caps-requires
 write-caps-requires c κs = search needs
 
-array-share-prefix-chosen-2 : tie.Need-array-share-prefix-chosen-2
-array-share-prefix-chosen-2 c = let a = allowed (c .before .before .before .before .before .before .before .before .before .before .before .before .before) in omega (arith, a .roomy .capped, a .few)
+array-share-prefix-sources-2 : tie.Need-array-share-prefix-sources-2
+array-share-prefix-sources-2 c = let a = allowed (c .before .before .before .before .before .before .before .before .before .before .before .before .before) in omega (arith, a .roomy .capped, a .few)
 
 slice-aggregate-write-tokens : tie.Need-slice-aggregate-write-tokens
 slice-aggregate-write-tokens c =
-    let k : tie.After-made-places = c .before .before .before .before .before .before .before .before .before .before .before .before .before in
+    let k : tie.After-find-sources = c .before .before .before .before .before .before .before .before .before .before .before .before .before in
     let s : tie.Start = start (k .before) in
-    front-count (net s) (now (s .args .initial)) (rooms s) (allowed (k .before)) _ (k .made-places .ensures)
+    front-count (net s) (now (s .args .initial)) (rooms s) (allowed (k .before)) _ (k .find-sources .ensures)
 
 write-tokens-requires : tie.Need-write-tokens-requires
 write-tokens-requires c κs =
-    let k : tie.After-made-places = c .before .before .before .before .before .before .before .before .before .before .before .before .before .before in
+    let k : tie.After-find-sources = c .before .before .before .before .before .before .before .before .before .before .before .before .before .before in
     let s : tie.Start = start (k .before) in
     let al = allowed (k .before) in
-    let e = k .made-places .ensures in
+    let e = k .find-sources .ensures in
     let m = now (s .args .initial) in
     (marked-caps (net s) m (rooms s) al, (al .fine, (rw (al .sized .capped) (front-inside (net s) m (rooms s) al _ e), front-room (net s) m (rooms s) al _ e)))
 
@@ -91,10 +88,10 @@ returns : tie.Need-returns
 returns c = search (complementeds, needs)
 
 same-length : tie.Need-same-length
-same-length c = wrote-rows c .write-rows .kept .1 .1 .1 .1 .1 .1 .0
+same-length c = wrote-rows c .write-rows .kept .1 .1 .1 .1 .1 .0
 
 same-length-2 : tie.Need-same-length-2
-same-length-2 c = wrote-rows c .write-rows .kept .1 .1 .1 .1 .1 .1 .1 .0
+same-length-2 c = wrote-rows c .write-rows .kept .1 .1 .1 .1 .1 .1 .0
 
 same-length-3 : tie.Need-same-length-3
 same-length-3 c = wrote-caps c .write-caps .kept .0
@@ -104,13 +101,13 @@ same-length-4 c = wrote-tokens c .write-tokens .kept .1 .1 .1 .0
 
 returns-2 : tie.Need-returns-2
 returns-2 c =
-    let k : tie.After-made-places = wrote-rows c .before .before .before .before in
+    let k : tie.After-find-sources = wrote-rows c .before .before .before .before in
     let g : tie.After-enum-told = k .before in
     let f : tie.After-find-fault = g .before .before in
     let s : tie.Start = start g in
     let m = now (s .args .initial) in
     net-made (net s) m (rooms s) _ (f .find-fault .ensures) _ (search needs)
-    (written-of (net s) m (rooms s) (allowed g) _ (k .made-places .ensures) _ _ _ _ (wrote-rows c .write-rows .ensures .0) (wrote-rows c .write-rows .ensures .1) (wrote-caps c .write-caps .ensures) (wrote-tokens c .write-tokens .ensures))
+    (written-of (net s) m (rooms s) (allowed g) _ (k .find-sources .ensures) _ _ _ _ (wrote-rows c .write-rows .ensures .0) (wrote-rows c .write-rows .ensures .1) (wrote-caps c .write-caps .ensures) (wrote-tokens c .write-tokens .ensures))
 
 pub complement-net-spec : {M : Type 1} → statement M
 complement-net-spec =
@@ -119,13 +116,12 @@ complement-net-spec =
     find-fault-requires
     enum-known-found
     enum-told
-    sub-count
-    made-places-requires
-    array-share-prefix-chosen
+    find-sources-requires
+    array-share-prefix-sources
     slice-aggregate-write-rows
     write-rows-requires
     write-caps-requires
-    array-share-prefix-chosen-2
+    array-share-prefix-sources-2
     slice-aggregate-write-tokens
     write-tokens-requires
     returns

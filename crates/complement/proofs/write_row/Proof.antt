@@ -1,50 +1,107 @@
+use Prim.Native.Nat.{_-_, _≤_}
+use mathlib.Core.Path.{refl}
 use native.Mathlib.Omega.{arith}
+use lib.ListN.{length, getD}
+use lib.Dec.{ltb}
 use denote.Ref.{now}
-use Rattle.complement.specs.Walk.{rises, falls}
-use Rattle.complement.proofs.Written.{sets-then}
+use Rattle.complement.specs.Walk.{takenFrom, putTo, takenRow, putRow}
+use Rattle.complement.proofs.Written.{Copying, copy-start, map-next, map-end}
 use borrow.Author.Needs.{needs}
 use Rattle.complement.proofs.write_row.Statement.{statement}
 use Rattle.complement.proofs.write_row.Tie as tie
 
-add-next : tie.Need-add-next
-add-next c = search needs
+abbrev Inv-loop : tie.InvT-loop
+Inv-loop takes puts sources to pre2₀ post2₀ q₀ pre2 post2 q = Copying (takenRow (length puts) takes puts sources) pre2₀ to q pre2 × Copying (putRow (length puts) takes puts sources) post2₀ to q post2
 
-copy-row-requires : tie.Need-copy-row-requires
-copy-row-requires c κs = search needs
+abbrev μ-loop : tie.MeasureT-loop
+μ-loop takes puts sources to pre2₀ post2₀ q₀ pre2 post2 q = length sources - q
 
-copy-row-requires-2 : tie.Need-copy-row-requires-2
-copy-row-requires-2 c κs = search needs
+loop-holds : tie.Need-loop-holds Inv-loop μ-loop
+loop-holds c = (copy-start _ _ _, copy-start _ _ _)
 
-add-row-requires : tie.Need-add-row-requires
-add-row-requires c κs =
-    let s : tie.Start = search needs in
-    (omega (arith, s .pre .0), (record { at = λ j h. omega (arith, s .pre .0, s .pre .1 .0 .at j h) }, (search needs, search needs)))
+mul-p : tie.Need-mul-p Inv-loop μ-loop
+mul-p c = search needs
 
-same-length : tie.Need-same-length
-same-length c = search needs
+shared-slice-read-p : tie.Need-shared-slice-read-p Inv-loop μ-loop
+shared-slice-read-p c = omega (arith, c .before .loop-test .taken)
 
-same-length-2 : tie.Need-same-length-2
-same-length-2 c = search needs
+shared-slice-read-taken : tie.Need-shared-slice-read-taken Inv-loop μ-loop
+shared-slice-read-taken c = let i : tie.In-loop Inv-loop μ-loop = c .before .before in let s : tie.Start Inv-loop μ-loop = i .before .before .before .before .before .before .before in omega (arith, i .loop-test .taken, s .pre .0, s .pre .1 .0 .at (i .before .loop .q) (i .loop-test .taken))
 
-returns : tie.Need-returns
+shared-slice-read-put : tie.Need-shared-slice-read-put Inv-loop μ-loop
+shared-slice-read-put c = let i : tie.In-loop Inv-loop μ-loop = c .before .before .before in let s : tie.Start Inv-loop μ-loop = i .before .before .before .before .before .before .before in omega (arith, i .loop-test .taken, s .pre .0, s .pre .1 .0 .at (i .before .loop .q) (i .loop-test .taken))
+
+taken-from-requires : tie.Need-taken-from-requires Inv-loop μ-loop
+taken-from-requires c κs = search needs
+
+add-pre2 : tie.Need-add-pre2 Inv-loop μ-loop
+add-pre2 c = search needs
+
+slice-write-pre2 : tie.Need-slice-write-pre2 Inv-loop μ-loop
+slice-write-pre2 c = let i : tie.In-loop Inv-loop μ-loop = c .before .before .before .before in let s : tie.Start Inv-loop μ-loop = i .before .before .before .before .before .before .before in omega (arith, i .loop-test .taken, s .pre .1 .1 .0, i .before .loop .inv .0 .long)
+
+put-to-requires : tie.Need-put-to-requires Inv-loop μ-loop
+put-to-requires c κs = search needs
+
+add-post2 : tie.Need-add-post2 Inv-loop μ-loop
+add-post2 c = search needs
+
+slice-write-post2 : tie.Need-slice-write-post2 Inv-loop μ-loop
+slice-write-post2 c = let i : tie.In-loop Inv-loop μ-loop = c .before .before .before .before .before in let s : tie.Start Inv-loop μ-loop = i .before .before .before .before .before .before .before in omega (arith, i .loop-test .taken, s .pre .1 .1 .1, i .before .loop .inv .1 .long)
+
+add-q : tie.Need-add-q Inv-loop μ-loop
+add-q c = search needs
+
+loop-less : tie.Need-loop-less Inv-loop μ-loop
+loop-less c = let i : tie.In-loop Inv-loop μ-loop = c .before .before .before .before .before in omega (arith, i .loop-test .taken)
+
+loop-again : tie.Need-loop-again Inv-loop μ-loop
+loop-again c =
+    let r : tie.After-taken-from Inv-loop μ-loop = c .before in
+    let i : tie.In-loop Inv-loop μ-loop = r .before .before .before .before in
+    let s : tie.Start Inv-loop μ-loop = i .before .before .before .before .before .before .before in
+    let a = s .args in
+    let l = i .before .loop in (
+      map-next (λ q p. takenFrom (ltb q (length (now (a .puts)))) (getD (now (a .takes)) p 0) (getD (now (a .puts)) p 0)) (now (a .sources)) (now (a .pre2)) (a .to) (l .q) (l .pre2) (l .inv .0) _ _ (i .loop-test .taken) refl (r .taken-from .ensures),
+      map-next (λ q p. putTo (ltb q (length (now (a .puts)))) (getD (now (a .takes)) p 0) (getD (now (a .puts)) p 0)) (now (a .sources)) (now (a .post2)) (a .to) (l .q) (l .post2) (l .inv .1) _ _ (i .loop-test .taken) refl (c .put-to .ensures),
+    )
+
+same-length : tie.Need-same-length Inv-loop μ-loop
+same-length c = c .before .loop .inv .0 .long
+
+same-length-2 : tie.Need-same-length-2 Inv-loop μ-loop
+same-length-2 c = c .before .loop .inv .1 .long
+
+returns : tie.Need-returns Inv-loop μ-loop
 returns c =
-    let z : tie.After-add-row = c .before .before .before .before in
-    let y : tie.After-copy-row2 = z .before .before .before .before .before in
-    let x : tie.After-copy-row = y .before .before .before .before in
-    let s : tie.Start = x .before .before .before .before .before .before .before in
-    let a = s .args in (
-      sets-then (now (a .takes)) (rises (now (a .takes)) (now (a .puts)) (now (a .chosen))) (now (a .pre2)) _ _ (a .to) _ (x .copy-row .ensures) (omega (arith, s .pre .0)) (z .add-row .ensures .0),
-      sets-then (now (a .puts)) (falls (now (a .takes)) (now (a .puts)) (now (a .chosen))) (now (a .post2)) _ _ (a .to) _ (y .copy-row2 .ensures) (omega arith) (z .add-row .ensures .1),
+    let s : tie.Start Inv-loop μ-loop = c .before .before .before .before .before .before .before in
+    let a = s .args in
+    let l = c .before .loop in
+    let h : length (now (a .sources)) ≤ l .q = omega (arith, c .loop-test .left) in (
+      map-end (λ q p. takenFrom (ltb q (length (now (a .puts)))) (getD (now (a .takes)) p 0) (getD (now (a .puts)) p 0)) (now (a .sources)) (now (a .pre2)) (a .to) (l .q) (l .pre2) (l .inv .0) h,
+      map-end (λ q p. putTo (ltb q (length (now (a .puts)))) (getD (now (a .takes)) p 0) (getD (now (a .puts)) p 0)) (now (a .sources)) (now (a .post2)) (a .to) (l .q) (l .post2) (l .inv .1) h,
     )
 
 pub write-row-spec : {M : Type 1} → statement M
 write-row-spec =
     tie.close
     (tie.spec
-    add-next
-    copy-row-requires
-    copy-row-requires-2
-    add-row-requires
+    Inv-loop
+    μ-loop
+    loop-holds
+    mul-p
+    shared-slice-read-p
+    shared-slice-read-taken
+    shared-slice-read-put
+    taken-from-requires
+    add-pre2
+    slice-write-pre2
+    put-to-requires
+    add-post2
+    slice-write-post2
+    add-q
+    loop-less
+    loop-again
     same-length
     same-length-2
     returns)

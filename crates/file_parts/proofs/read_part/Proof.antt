@@ -4,14 +4,14 @@ use lib.ListN.{length}
 use borrow.Author.Tests.{eqb-true, eqb-false}
 use Rattle.file_line.specs.Read.{rooms}
 use Rattle.file_parts.proofs.Line.{large, bounds}
-use Rattle.file_parts.proofs.Buffer.{Reads, reads-start, reads-next, reads-end, reads-stopped}
+use Rattle.file_parts.proofs.Buffer.{LinesRead, reads-start, reads-next, reads-end, reads-stopped}
 use borrow.Author.Needs.{needs}
 use Rattle.file_parts.proofs.read_part.Statement.{statement}
 use Rattle.file_parts.proofs.read_part.Tie as tie
 
 abbrev Inv-loop : tie.InvT-loop
 Inv-loop part caps₀ initial₀ pre₀ post₀ word₀ r₀ at₀ caps initial pre post word r at =
-    Reads part r₀ (rooms caps₀ initial₀ pre₀ post₀ word₀) at r (rooms caps initial pre post word)
+    LinesRead part r₀ (rooms caps₀ initial₀ pre₀ post₀ word₀) at r (rooms caps initial pre post word)
 
 abbrev μ-loop : tie.MeasureT-loop
 μ-loop part caps₀ initial₀ pre₀ post₀ word₀ r₀ at₀ caps initial pre post word r at = length part - at

@@ -1,20 +1,22 @@
 use Prim.Native.Nat.{_-_}
 use mathlib.Core.Logic.{⊎-elim}
+use Rattle.ground.specs.Limits.{countLimit}
+use Rattle.ground.specs.Lists.{table}
 use Rattle.net.specs.Net.{netOf}
 use Rattle.complement.specs.Complement.{made}
 use Rattle.complement.proofs.Written.{Choosing, chooses}
 use borrow.Author.Needs.{needs}
-use Rattle.complement.proofs.made_places.Statement.{statement}
-use Rattle.complement.proofs.made_places.Tie as tie
+use Rattle.complement.proofs.find_sources.Statement.{statement}
+use Rattle.complement.proofs.find_sources.Tie as tie
 
 abbrev Inv-loop : tie.InvT-loop
-Inv-loop places transitions pre post caps chosen₀ at₀ p₀ chosen at p = Choosing (made (netOf places transitions pre post caps)) places at p chosen
+Inv-loop places transitions pre post caps sources₀ at₀ p₀ sources at p = Choosing (made (netOf places transitions pre post caps)) places (table (λ k. k) countLimit) places at p sources
 
 abbrev μ-loop : tie.MeasureT-loop
-μ-loop places transitions pre post caps chosen₀ at₀ p₀ chosen at p = places - p
+μ-loop places transitions pre post caps sources₀ at₀ p₀ sources at p = places - p
 
-blank-places-requires : tie.Need-blank-places-requires Inv-loop μ-loop
-blank-places-requires c κs = search needs
+own-places-requires : tie.Need-own-places-requires Inv-loop μ-loop
+own-places-requires c κs = search needs
 
 loop-holds : tie.Need-loop-holds Inv-loop μ-loop
 loop-holds c = search (chooses, needs)
@@ -22,11 +24,11 @@ loop-holds c = search (chooses, needs)
 is-made-requires : tie.Need-is-made-requires Inv-loop μ-loop
 is-made-requires c κs = search needs
 
-mul-chosen : tie.Need-mul-chosen Inv-loop μ-loop
-mul-chosen c = search needs
+mul-sources : tie.Need-mul-sources Inv-loop μ-loop
+mul-sources c = search needs
 
-array-write-chosen : tie.Need-array-write-chosen Inv-loop μ-loop
-array-write-chosen c = search (chooses, needs)
+array-write-sources : tie.Need-array-write-sources Inv-loop μ-loop
+array-write-sources c = search (chooses, needs)
 
 add-at : tie.Need-add-at Inv-loop μ-loop
 add-at c = search needs
@@ -43,17 +45,17 @@ loop-again c = ⊎-elim (λ w. search (chooses, needs)) (λ w. search (chooses, 
 returns : tie.Need-returns Inv-loop μ-loop
 returns c = search (chooses, needs)
 
-pub made-places-spec : {M : Type 1} → statement M
-made-places-spec =
+pub find-sources-spec : {M : Type 1} → statement M
+find-sources-spec =
     tie.close
     (tie.spec
     Inv-loop
     μ-loop
-    blank-places-requires
+    own-places-requires
     loop-holds
     is-made-requires
-    mul-chosen
-    array-write-chosen
+    mul-sources
+    array-write-sources
     add-at
     add-p
     loop-less
