@@ -1,4 +1,4 @@
--- Whether some number below n passes a test, and whether none does.
+-- The code's walk: whether some number below n passes a test, and whether none does.
 use Prim.Native.Nat.{ℕ}
 use mathlib.Core.Bool.{Bool}
 use lib.Dec.{ltb, leb}
