@@ -38,8 +38,8 @@ use Rattle.lists.specs.declared.ClaimAnswer.the-variants as claim
 use Rattle.lists.proofs.Answers.{numbers-apart, claim-numbers-apart, shown-claim}
 use Rattle.list_check.specs.Look.{Ready, absent, missing}
 use Rattle.list_check.specs.Given.{givenFault, listOf, targetOf}
-use Rattle.list_check.specs.Allowed.{ListAllowed}
-use Rattle.list_check.proofs.Exactly.{of-allowed}
+use Rattle.list_check.specs.Allowed.{ListAllowed, TargetAllowed}
+use Rattle.list_check.proofs.Exactly.{of-allowed, of-aimed}
 use Rattle.list_check.proofs.Refusals.{Lent, lent-of, accepted-sound, failed-sound}
 use Rattle.closed.specs.Closed.{Listed, FiringAt, IsClosed, EnabledResultListed, FirstMissing, AllEnable}
 use Rattle.closed.specs.Dead.{dead, someDead}
@@ -209,6 +209,13 @@ module _ (net : Net) (initial l m : List ℕ) where
   unfolding claimOf
   listed-not-shown q h = rw (q, of-listed (net .places) l m h)
 
+-- closed_target shows, of what is allowed and closed, exactly that a target is not listed
+pub target-exactly : (net : Net) (initial l m : List ℕ) (r : ClaimAnswer) → claimNumbers r ≡ claimNumbers (targetOf Closed net initial l m) → TargetAllowed Closed net initial l m → IsClosed net initial l → (r ≡ claim.Shown) ↔ (Listed (net .places) l m → ⊥)
+target-exactly net initial l m r p a c =
+    let q = closed-accepted net initial l (eqb (length m) (net .places)) (targetFault m) (of-aimed Closed net initial l m a) c in
+    rw (claim-numbers-apart r (targetOf Closed net initial l m) p)
+    (λ e. unlisted-of (net .places) l m (shown-claim _ _ e .1), unlisted-never net initial l m q)
+
 -- the line's stall: asked of an accepted list
 module _ (net : Net) (initial l : List ℕ) where
   enables : ℕ → ℕ → Bool
@@ -247,6 +254,14 @@ module _ (net : Net) (initial l : List ℕ) where
           (sym (passes-of net (markingAt (net .places) l k) (a .transition k) (long-at net l (g .ready) k (f .0) 0) (a .enabled k (f .0)))
           ∙ none-at (enables k) (net .transitions) (f .1) (a .transition k) (a .named k (f .0)))
       go false e = rw (q, e)
+
+-- closed_stall shows, of what is allowed and closed, exactly that every listed marking enables something
+pub stall-exactly : (net : Net) (initial l : List ℕ) (r : ClaimAnswer) → claimNumbers r ≡ claimNumbers (stallOf net initial l) → ListAllowed Closed net initial l → IsClosed net initial l → (r ≡ claim.Shown) ↔ AllEnable net l
+stall-exactly net initial l r p a c =
+    let f = of-allowed Closed net initial l a in
+    let q = closed-accepted net initial l true Sound f c in
+    rw (claim-numbers-apart r (stallOf net initial l) p)
+    (λ e. all-enable net initial l (lent-of Closed net initial l true Sound f .ready) (shown-claim _ _ e .1), enabling-never net initial l q)
 
 -- each promise fixes its answer
 module _ (net : Net) (initial l : List ℕ) where

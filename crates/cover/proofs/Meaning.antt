@@ -34,8 +34,8 @@ use Rattle.lists.proofs.Answers.{numbers-apart, claim-numbers-apart, shown-clai
 use Rattle.list_check.specs.Fire.{lacks, passesAny, afterAny, firedAny}
 use Rattle.list_check.specs.Look.{Ready, absent, missing}
 use Rattle.list_check.specs.Given.{givenFault, listOf, targetOf}
-use Rattle.list_check.specs.Allowed.{ListAllowed}
-use Rattle.list_check.proofs.Exactly.{of-allowed}
+use Rattle.list_check.specs.Allowed.{ListAllowed, TargetAllowed}
+use Rattle.list_check.proofs.Exactly.{of-allowed, of-aimed}
 use Rattle.list_check.proofs.Refusals.{lent-of, accepted-sound, failed-sound}
 use Rattle.cover.specs.Cover.{Finite, CoversAt, CoversMarking, ListCovers, CoverEnabled, CoversResult, ResultCovered, EnabledResultCovered, IsCover, FirstMissing}
 
@@ -247,6 +247,13 @@ module _ (net : Net) (initial l m : List ℕ) where
           let g = lent-of Cover net initial l (eqb (length m) (net .places)) (targetFault m) (a .0) in
           absurd (h (covered-of (net .places) l m (eqb-true _ _ (g .agrees)) e))
       go false e = rw (q, e)
+
+-- cover_target shows, of what is allowed and a cover list, exactly that no listed marking covers the target
+pub target-exactly : (net : Net) (initial l m : List ℕ) (r : ClaimAnswer) → claimNumbers r ≡ claimNumbers (targetOf Cover net initial l m) → TargetAllowed Cover net initial l m → IsCover net initial l → (r ≡ claim.Shown) ↔ (ListCovers (net .places) l m → ⊥)
+target-exactly net initial l m r p a c =
+    let q = cover-accepted net initial l (eqb (length m) (net .places)) (targetFault m) (of-aimed Cover net initial l m a) c in
+    rw (claim-numbers-apart r (targetOf Cover net initial l m) p)
+    (λ e. uncovered-of (net .places) l m (a .long) (shown-claim _ _ e .1), uncovered-never net initial l m q)
 
 -- each promise fixes its answer
 module _ (net : Net) (initial l : List ℕ) where

@@ -1,8 +1,8 @@
 -- "Exactly when" for a list and a target: each refusal is read as its demand (specs/Demands.antt), and nothing is refused exactly
 -- where the demand holds. Assumes nothing.
-use Prim.Native.Nat.{ℕ, _*_, _%_, _≤_, _<_, zero-le}
+use Prim.Native.Nat.{ℕ, _%_, _≤_, _<_, zero-le}
 use mathlib.Core.Path.{_≡_, refl, sym, _∙_}
-use mathlib.Core.Bool.{Bool, true, false, _||_}
+use mathlib.Core.Bool.{true, false, _||_}
 use mathlib.Core.List.{List}
 use native.Mathlib.Omega.{arith}
 use native.Mathlib.Nat.{mul-mod-left}
