@@ -3,3 +3,4 @@ pub mod Allowed
 pub mod Numbers
 pub mod Meaning
 pub mod Exactly
+pub mod Promise

@@ -10,7 +10,7 @@ use Rattle.net.specs.Net.{Net, capacity, tokens}
 use Rattle.net.specs.Given.{refuse, orElse, outside, markedFault}
 use Rattle.net.specs.declared.Fault.{Fault}
 use Rattle.net.specs.declared.Fault.the-variants.{Sound, Faulty}
-use Rattle.summary_place.specs.Place.{letterAt, need, climb}
+use Rattle.summary_place.specs.Place.{letterAt, need, prefixClimb}
 use Rattle.summary_place.specs.Asked.{lowestNo, ends, SufficesAt}
 use Rattle.summary_place.specs.declared.Slot.{Slot}
 use Rattle.summary.specs.Summary.{shapeFault}
@@ -57,6 +57,6 @@ pub record Replied (net : Net) (m : List ℕ) (s : Summary) (room : List ℕ) (r
   pub answer : askedNumbers r ≡ askedNumbers (askAnswer net m s room .answer)
   pub left : room′ ≡ askAnswer net m s room .left
 
--- the marking suffices for a word: at each place it covers the word's need, and with its climb it keeps to the capacity
+-- demand 3's condition on a word: "the marking covers the need and marking plus climb keeps to each capacity", with 01's climb over all prefixes
 pub record SufficesWord (net : Net) (w m : List ℕ) : Type 0 where
-  pub at : (p : ℕ) → p < net .places → SufficesAt (need (letterAt net p) w) (climb (letterAt net p) w) (capacity net p) (tokens m p)
+  pub at : (p : ℕ) → p < net .places → SufficesAt (need (letterAt net p) w) (prefixClimb (letterAt net p) w) (capacity net p) (tokens m p)

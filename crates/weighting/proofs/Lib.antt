@@ -8,3 +8,4 @@ pub mod Answers
 pub mod Numbers
 pub mod Meaning
 pub mod Exactly
+pub mod Promise
