@@ -21,14 +21,16 @@ use Rattle.file_parts.specs.declared.Case.{Case}
 use Rattle.file_parts.specs.declared.Case.the-variants as case
 use Rattle.file_parts.specs.File.{Run, going, stopped, Both, both, feedAll, together, feedParts, finishOf, caseOf, NoFeed}
 use Rattle.file_parts.proofs.Line.{all-append, any-cutting, holds, refused-line, large}
+use Rattle.file_text.specs.Refusal.{feeds, RefusedFile, lastLine}
 use Rattle.file_text.proofs.Fronts.{cells-few, front-of, rest-of}
+use Rattle.file_text.proofs.Fold.{Counted, fed-file}
+use Rattle.file_text.proofs.Refusal.{left-over, refused-means, refused-early}
 use Rattle.file_entry.specs.declared.CaseFile.{CaseFile}
 use Rattle.file_entry.specs.declared.CaseFile.the-variants.{Read, Refused}
 use Rattle.file_entry.specs.Entry.{Came, came, largest, Largest, blank, readAll, laid, answered, filledOf, caseFileOf, numbers, CaseRead}
-use Rattle.file_entry.specs.Cut.{feeds, Front}
+use Rattle.file_entry.specs.Cut.{Front}
 use Rattle.file_entry.proofs.Fronts.{largest-of, of-largest}
-use Rattle.file_entry.proofs.Ends.{blank-large, left-over}
-use Rattle.file_entry.proofs.Fold.{Counted, fed-file}
+use Rattle.file_entry.proofs.Ends.{blank-large}
 
 -- `numbers` tells any two answers apart
 pub numbers-apart : (a b : CaseFile) → numbers a ≡ numbers b → a ≡ b
@@ -122,6 +124,14 @@ module _ (file : List ℕ) (x : Rooms) (r : CaseFile) (x′ : Rooms) (p : CaseRe
           let b : j ≡ k = cc in
           q ∙ rw (a, b)
 
+  -- a refusal n on line l is the earliest faulty line, a last line cut off, or missing frames, and is given exactly then
+  pub refused-file : Largest x → (n k : ℕ) → (r ≡ Refused n k) ↔ RefusedFile blank file n k
+  refused-file l n k = (λ e. refused-means blank file n k .0 (refused-exactly l n k .0 e), λ q. refused-exactly l n k .1 (refused-means blank file n k .1 q))
+
+  -- however long the file is
+  pub refused-by : Largest x → (n k : ℕ) → r ≡ Refused n k → k ≤ lastLine
+  refused-by l n k e = refused-early blank (blank-large blank refl) file n k (refused-file l n k .0 e)
+
   -- "A refusal leaves lent memory as found."
   pub refused-as-found : (n l : ℕ) → r ≡ Refused n l → x′ ≡ x
   refused-as-found n l e = size (largest x) refl
@@ -132,7 +142,7 @@ module _ (file : List ℕ) (x : Rooms) (r : CaseFile) (x′ : Rooms) (p : CaseRe
 
   -- a refusal in a file has its line, from 1 to the line after the last line feed
   pub every-line : Largest x → (n l : ℕ) → r ≡ Refused n l → (1 ≤ l) × (l ≤ feeds file + 1)
-  every-line g n l e = refused-line-is (readAll file .run) (feeds file) n l (fed-file file .counted) (refused-exactly g n l .0 e)
+  every-line g n l e = refused-line-is (readAll file .run) (feeds file) n l (fed-file blank file .counted) (refused-exactly g n l .0 e)
 
   -- refusal 2, at position 0, is given exactly where a room has another length
   pub wrong-rooms : (r ≡ Refused 2 0) ↔ (Largest x → ⊥)
@@ -165,7 +175,7 @@ module _ (file : List ℕ) (x : Rooms) (r : CaseFile) (x′ : Rooms) (p : CaseRe
         went (case.Refused m l) q = let i = refused-exactly read-largest m l .1 q in let z : _≡_ {A = ℕ} 0 1 = cc in absurd (omega arith)
 
     good : (Good (read-whole .0)) × (read-whole .0 .phase ≡ 5)
-    good = ended-good (readAll file .run) (feeds file) (read-whole .0) (fed-file file .counted) (read-whole .1)
+    good = ended-good (readAll file .run) (feeds file) (read-whole .0) (fed-file blank file .counted) (read-whole .1)
 
     -- the counts are those that document 01 allows
     pub read-counts : (1 ≤ P) × (P ≤ countLimit) × (1 ≤ T) × (T ≤ countLimit) × (n ≤ wordLimit)
@@ -181,13 +191,13 @@ module _ (file : List ℕ) (x : Rooms) (r : CaseFile) (x′ : Rooms) (p : CaseRe
         × Front (T * P) (readAll file .rooms .pre) (x .pre) (x′ .pre) × Front (T * P) (readAll file .rooms .post) (x .post) (x′ .post) × Front n (readAll file .rooms .word) (x .word) (x′ .word)
     read-front =
         let w = read-whole in
-        let y = large (readAll file .rooms) blank (fed-file file .same) (blank-large blank refl) in
+        let y = large (readAll file .rooms) blank (fed-file blank file .same) (blank-large blank refl) in
         laid-fronts (w .0) (readAll file .rooms) x x′ (good .0) y read-largest (w .5) P T n (w .2) (w .3) (w .4)
 
   -- the lines up to some line feed were read, and the state s follows
   module _ (l : Largest x) (lines : List ℕ) (s : Reading) (read : readAll lines .run ≡ going s []) where
     line-number : s .line ≡ feeds lines
-    line-number = (rw read at (fed-file lines .counted)) .1
+    line-number = (rw read at (fed-file blank lines .counted)) .1
 
     came-to : readAll lines ≡ both (going s []) (readAll lines .rooms)
     came-to = ap (λ (u : Run). both u (readAll lines .rooms)) read

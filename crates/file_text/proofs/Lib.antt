@@ -4,3 +4,5 @@ pub mod Lines
 pub mod Stage
 pub mod Whole
 pub mod Meaning
+pub mod Fold
+pub mod Refusal
