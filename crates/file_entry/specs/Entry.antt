@@ -1,5 +1,5 @@
 -- To be believed: a whole case file into lent rooms of the largest sizes ("Case file lines"; "Refusal numbers").
-use Prim.Native.Nat.{ℕ, _+_, _*_}
+use Prim.Native.Nat.{ℕ, _*_}
 use mathlib.Core.Path.{_≡_}
 use mathlib.Core.Bool.{Bool, cond, _&&_}
 use mathlib.Core.List.{List, [], _∷_}

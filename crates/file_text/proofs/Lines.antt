@@ -2,13 +2,13 @@
 use mathlib.Core.Path.{_≡_, refl, sym, _∙_, ap}
 use mathlib.Core.Bool.{true, cond}
 use mathlib.Core.List.{List, [], _∷_, _++_, append-nil}
-use Prim.Native.Nat.{ℕ, suc, _+_, _*_, _%_, _≤_, _<_}
+use Prim.Native.Nat.{ℕ, suc, _+_, _*_, _%_, _≤_}
 use native.Mathlib.Omega.{arith}
 use lib.Dec.{eqb}
-use lib.ListN.{length, getD, length-append}
+use lib.ListN.{length, length-append}
 use lib.Seq.{sets}
-use Rattle.ground.specs.Limits.{countLimit, tokenLimit, wordLimit}
-use Rattle.file_digits.specs.Frame.{lineLimit, lineFeed, block, digitsOf, lineText, byteAt, wordAt, bytesFrom, wordsFrom, twos}
+use Rattle.ground.specs.Limits.{countLimit, wordLimit}
+use Rattle.file_digits.specs.Frame.{lineLimit, lineFeed, block, digitsOf, lineText, byteAt, bytesFrom, wordsFrom, twos}
 use Rattle.file_digits.proofs.Round.{Below, none, more, canon, digits-long}
 use Rattle.file_line.specs.declared.Reading.{Reading}
 use Rattle.net.specs.Given.{Fine}
@@ -20,7 +20,7 @@ use Rattle.file_line.proofs.Order.{no-counts, no-tokens, no-long, no-letters, f
 use Rattle.file_line.proofs.Meaning.{taken-exactly}
 use Rattle.file_parts.specs.File.{both, going, feedAll}
 use Rattle.file_parts.proofs.Line.{line-taken, held}
-use Rattle.file_digits.proofs.Bytes.{below-of, of-below, below-more, below-append, bytes-long, bytes-split, bytes-at, words-at, byte-digits, piece, twos-long, twos-small, words-bytes, words-digits}
+use Rattle.file_digits.proofs.Bytes.{below-of, of-below, below-more, below-append, bytes-long, bytes-split, byte-digits, piece, twos-long, twos-small, words-bytes, words-digits}
 use Rattle.file_text.proofs.Rules.{no-feed, rule-digits}
 
 -- a state of the reading, by its numbers

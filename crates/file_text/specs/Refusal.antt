@@ -32,7 +32,7 @@ pub data RefusedFile (x : Rooms) (file : List ℕ) (n l : ℕ) : Type 0 where
   cut-off : (lines line : List ℕ) (s : Reading) (y : Rooms) → TakenLines x lines s y → file ≡ lines ++ line → NoFeed line → (line ≡ [] → ⊥)
       → n ≡ 11 → l ≡ feeds lines + 1 → RefusedFile x file n l
   -- "frames missing at the end": 12 on the line after the last
-  missing-frames : (s : Reading) (y : Rooms) → TakenLines x file s y → (expected s ≡ 5 → ⊥) → n ≡ 12 → l ≡ feeds file + 1 → RefusedFile x file n l
+  frames-missing : (s : Reading) (y : Rooms) → TakenLines x file s y → (expected s ≡ 5 → ⊥) → n ≡ 12 → l ≡ feeds file + 1 → RefusedFile x file n l
 
 -- the last line on which a file can be refused: the one after 01, 02, 03, a 04 for each of 64 transitions, and the 1,024 times 05 of the longest word
 abbrev pub lastLine : ℕ

@@ -4,7 +4,7 @@ use mathlib.Core.Path.{_≡_, ap}
 use mathlib.Core.List.{List}
 use native.Mathlib.Omega.{arith}
 use native.Mathlib.Decide.{decLt}
-use lib.ListN.{length, getD, take}
+use lib.ListN.{getD, take}
 use lib.Signed.{clashℤ}
 use Rattle.net.specs.Net.{Net}
 use Rattle.net.specs.Firing.{Fires, Names, LowestShort, LowestOver}

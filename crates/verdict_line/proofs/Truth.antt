@@ -1,5 +1,5 @@
 -- The line of a file is the verdict line of replaying what stands in it, and says exactly what is true of it. Assumes nothing.
-use Prim.Native.Nat.{ℕ, _-_, _≤_, _<_}
+use Prim.Native.Nat.{ℕ, _≤_}
 use mathlib.Core.Path.{_≡_, refl, sym, subst, ap, _∙_}
 use mathlib.Core.Bool.{true}
 use mathlib.Core.List.{List, []}
@@ -10,7 +10,6 @@ use lib.Seq.{take-length}
 use Rattle.ground.specs.Lists.{table}
 use Rattle.ground.proofs.Fill.{table-length}
 use Rattle.net.specs.Net.{Net}
-use Rattle.net.specs.Letter.{Small}
 use Rattle.net.specs.Firing.{Enabled, Fires}
 use Rattle.net.specs.declared.Cause.{Cause}
 use Rattle.net.proofs.Judged.{named-stops}
@@ -20,9 +19,12 @@ use Rattle.file_line.specs.Read.{Rooms, fresh}
 use Rattle.file_line.specs.Walk.{Large}
 use Rattle.file_parts.specs.declared.Case.{Case}
 use Rattle.file_parts.specs.declared.Case.the-variants as case
-use Rattle.file_parts.specs.File.{readOf, caseOf}
-use Rattle.file_text.specs.Text.{fileOf, Limited, Written, netIn, markingIn, wordIn, endOf, filled}
+use Rattle.file_parts.specs.declared.Held.{Held}
+use Rattle.file_parts.specs.File.{both, readOf, caseOf}
+use Rattle.file_parts.specs.Held.{abs}
+use Rattle.file_text.specs.Text.{fileOf, Limited, Written, markingIn, wordIn, endOf, filled}
 use Rattle.file_text.specs.Refusal.{RefusedFile}
+use Rattle.file_text.proofs.Fronts.{front-of}
 use Rattle.file_text.proofs.Meaning.{limited-allowed, file-read, filled-net, filled-marking, filled-word, accepted-exactly}
 use Rattle.file_text.proofs.Refusal.{refused-means, refused-early}
 use Rattle.replay.specs.Replay.{Ran}
@@ -31,11 +33,11 @@ use Rattle.replay.specs.declared.Replay.{Replay}
 use Rattle.replay.specs.declared.Replay.the-variants.{Fired, Blocked, Refused}
 use Rattle.replay.proofs.Ending.{no-more}
 use Rattle.replay.proofs.Meaning.{allowed-answered, fired-means, fires-fired, fired-longest, blocked-cause, left-small}
-use Rattle.verdict_text.specs.Verdict.{bytesOf, verdict}
-use Rattle.verdict_text.specs.Back.{fourLimit, Sayable}
+use Rattle.verdict_text.specs.Verdict.{bytesOf, verdict, WrittenBytes}
+use Rattle.verdict_text.specs.Back.{Sayable}
 use Rattle.verdict_text.specs.Walk.{Placed}
 use Rattle.verdict_text.proofs.Meaning.{verdict-apart}
-use Rattle.verdict_line.specs.Answer.{roomFor, lineFor, fileLine}
+use Rattle.verdict_line.specs.Answer.{roomFor, answerFor, lineFor, lineAt, fileLine}
 use Rattle.verdict_line.specs.Truth.{StopsAt, TrueOf}
 use Rattle.verdict_line.proofs.Lines.{any-room, placed, replayed-bytes}
 use Rattle.verdict_line.proofs.Numbers.{small-number}
@@ -176,3 +178,8 @@ module _ (file : List ℕ) (x : Rooms) (big : Large x) where
   -- each number in the line is below 2^32, and no other answer has this line
   pub line-says : (r : Replay) × (m : List ℕ) × (fileLine file x ≡ verdict r m) × Sayable r m
   line-says = let t = some-true in let b = true-said (t .0) (t .1) (t .2) in (t .0, t .1, b .0, b .1)
+
+-- what `answer_line` promises, at the end of a file that was read so far: the room begins with the file's line, as long as is answered
+pub answered-line : (f : List ℕ) (x y : Rooms) (h : Held) (out : List ℕ) (n : ℕ) (out′ : List ℕ) → both (abs h) y ≡ readOf x f → n ≤ length out
+    → WrittenBytes out (answerFor (caseOf (abs h)) y) n out′ → take n out′ ≡ fileLine f x
+answered-line f x y h out n out′ e k w = ap (take n) (w .made) ∙ front-of (lineFor (caseOf (abs h)) y) out n (sym (w .long)) k ∙ ap lineAt e

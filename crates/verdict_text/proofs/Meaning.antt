@@ -10,7 +10,6 @@ use Rattle.file_digits.proofs.Round.{Below, none, more, digits-long, back}
 use Rattle.file_digits.proofs.Puts.{fours-long}
 use Rattle.net.specs.Firing.{causeNumber, causeValues}
 use Rattle.net.specs.Letter.{Small}
-use Rattle.net.specs.declared.Cause.{Cause}
 use Rattle.net.specs.declared.Cause.the-variants.{Short, Over}
 use Rattle.net.proofs.Meaning.{cause-apart, cause-some}
 use Rattle.replay.specs.declared.Replay.{Replay}
