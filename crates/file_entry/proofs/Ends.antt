@@ -1,34 +1,23 @@
 -- The end of a file, and what the whole file comes to. Assumes nothing.
-use mathlib.Core.Path.{_≡_, refl, sym, _∙_, ap}
-use mathlib.Core.Bool.{Bool, true, false, cond}
-use mathlib.Core.List.{List, [], _∷_}
-use Prim.Native.Nat.{ℕ, _+_}
+use mathlib.Core.Path.{_≡_, sym, _∙_, ap}
+use mathlib.Core.Bool.{Bool, true, false}
+use mathlib.Core.List.{List, []}
+use Prim.Native.Nat.{ℕ}
 use native.Mathlib.Omega.{arith}
-use lib.ListN.{length, length-replicate}
-use lib.Dec.{leb}
+use lib.ListN.{length-replicate}
 use Rattle.ground.specs.Limits.{countLimit, wordLimit}
-use Rattle.file_digits.specs.Frame.{lineLimit}
 use Rattle.file_line.specs.declared.Reading.{Reading}
 use Rattle.file_line.specs.Read.{cellLimit, fresh, Rooms}
 use Rattle.file_line.specs.Walk.{Good, Large}
 use Rattle.file_parts.specs.declared.Case.{Case}
 use Rattle.file_parts.specs.declared.Case.the-variants as case
 use Rattle.file_parts.specs.declared.Held.{Held}
-use Rattle.file_parts.specs.File.{Run, going, stopped, Both, both, feedAll, caseOf}
-use Rattle.file_parts.specs.Held.{GoodCase, holdOf, abs}
+use Rattle.file_parts.specs.File.{Run, going, Both, both, feedAll, caseOf}
+use Rattle.file_parts.specs.Held.{GoodCase, abs}
 use Rattle.file_entry.specs.declared.CaseFile.{CaseFile}
 use Rattle.file_entry.specs.declared.CaseFile.the-variants.{Read, Refused}
 use Rattle.file_entry.specs.Entry.{Came, came, blank, laid, answered, largest, filledOf, numbers, CaseRead}
 use Rattle.file_entry.specs.Walk.{Comes}
-
--- the bytes after the last line feed, held or too many, are a line that lacks its own
-pub left-over : (t : Reading) (b : ℕ) (d : List ℕ) → caseOf (holdOf t [] (b ∷ d)) ≡ case.Refused 11 (t .line + 1)
-unfolding caseOf holdOf
-left-over t b d = go (leb (length {A = ℕ} [] + length (b ∷ d)) lineLimit)
-  where
-    go : (a : Bool) → caseOf (cond a (going t (b ∷ d)) (stopped 11 (t .line + 1))) ≡ case.Refused 11 (t .line + 1)
-    go true = refl
-    go false = refl
 
 -- what the whole file came to, as one part and its end
 pub file-comes : (f : List ℕ) (s : Reading) (h r : Held) (x y : Rooms) (c : Case) → s ≡ fresh → abs h ≡ going s [] → both (abs r) y ≡ feedAll (both (abs h) x) f → c ≡ caseOf (abs r)

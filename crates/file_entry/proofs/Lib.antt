@@ -1,6 +1,5 @@
 pub mod Fronts
 pub mod Ends
-pub mod Fold
 pub mod Meaning
 pub mod Samples
 pub mod Accepted

@@ -2,33 +2,35 @@
 use Prim.Native.Nat.{ℕ, _+_, _*_, _≤_}
 use mathlib.Core.Path.{_≡_, refl, sym, ap, _∙_}
 use mathlib.Core.Bool.{Bool, true, false, cond}
-use mathlib.Core.List.{List, [], _∷_, _++_, append-nil}
+use mathlib.Core.List.{List, [], _∷_, _++_}
 use mathlib.Core.Logic.{_↔_}
 use native.Mathlib.Omega.{arith}
 use lib.ListN.{length, take}
 use lib.Seq.{sets, length-take-le}
 use lib.Dec.{eqb}
-use borrow.Author.Tests.{ne-eqb, eqb-true}
+use borrow.Author.Tests.{eqb-true}
 use Rattle.ground.specs.Limits.{countLimit, wordLimit}
 use Rattle.file_digits.specs.Frame.{lineFeed}
 use Rattle.file_line.specs.declared.Reading.{Reading}
 use Rattle.net.specs.declared.Fault.the-variants.{Faulty}
 use Rattle.file_line.specs.Read.{cellLimit, fresh, Rooms, judgeOf}
 use Rattle.file_line.specs.Walk.{Good, Large}
-use Rattle.file_line.proofs.Meaning.{judged-number}
-use Rattle.file_line.proofs.Meaning as line-meaning
+use Rattle.file_line.proofs.Meaning.{judged-number, judged-exactly}
 use Rattle.file_parts.specs.declared.Case.{Case}
 use Rattle.file_parts.specs.declared.Case.the-variants as case
-use Rattle.file_parts.specs.File.{Run, going, stopped, Both, both, feedAll, together, feedParts, finishOf, caseOf, NoFeed}
-use Rattle.file_parts.proofs.Line.{all-append, any-cutting, holds, refused-line, large}
+use Rattle.file_parts.specs.File.{Run, going, stopped, both, together, feedParts, finishOf, caseOf, NoFeed}
+use Rattle.file_parts.proofs.Line.{any-cutting, large}
+use Rattle.file_text.specs.Refusal.{feeds, TakenLines, RefusedFile, faulty-line, cut-off, frames-missing, lastLine}
 use Rattle.file_text.proofs.Fronts.{cells-few, front-of, rest-of}
+use Rattle.file_text.proofs.Fold.{LinesCounted, fed-file}
+use Rattle.file_text.proofs.Taken.{read-taken, line-number}
+use Rattle.file_text.proofs.Refusal.{refused-means, refused-early}
 use Rattle.file_entry.specs.declared.CaseFile.{CaseFile}
 use Rattle.file_entry.specs.declared.CaseFile.the-variants.{Read, Refused}
 use Rattle.file_entry.specs.Entry.{Came, came, largest, Largest, blank, readAll, laid, answered, filledOf, caseFileOf, numbers, CaseRead}
-use Rattle.file_entry.specs.Cut.{feeds, Front}
+use Rattle.file_entry.specs.Cut.{Front}
 use Rattle.file_entry.proofs.Fronts.{largest-of, of-largest}
-use Rattle.file_entry.proofs.Ends.{blank-large, left-over}
-use Rattle.file_entry.proofs.Fold.{LinesCounted, fed-file}
+use Rattle.file_entry.proofs.Ends.{blank-large}
 
 -- `numbers` tells any two answers apart
 pub numbers-apart : (a b : CaseFile) → numbers a ≡ numbers b → a ≡ b
@@ -122,6 +124,14 @@ module _ (file : List ℕ) (x : Rooms) (r : CaseFile) (x′ : Rooms) (p : CaseRe
           let b : j ≡ k = cc in
           q ∙ rw (a, b)
 
+  -- a refusal n on line l is the earliest faulty line, a last line cut off, or missing frames, and is given exactly then
+  pub refused-file : Largest x → (n k : ℕ) → (r ≡ Refused n k) ↔ RefusedFile blank file n k
+  refused-file l n k = (λ e. refused-means blank file n k .0 (refused-exactly l n k .0 e), λ q. refused-exactly l n k .1 (refused-means blank file n k .1 q))
+
+  -- however long the file is
+  pub refused-by : Largest x → (n k : ℕ) → r ≡ Refused n k → k ≤ lastLine
+  refused-by l n k e = refused-early blank (blank-large blank refl) file n k (refused-file l n k .0 e)
+
   -- "A refusal leaves lent memory as found."
   pub refused-as-found : (n l : ℕ) → r ≡ Refused n l → x′ ≡ x
   refused-as-found n l e = size (largest x) refl
@@ -132,7 +142,7 @@ module _ (file : List ℕ) (x : Rooms) (r : CaseFile) (x′ : Rooms) (p : CaseRe
 
   -- a refusal in a file has its line, from 1 to the line after the last line feed
   pub every-line : Largest x → (n l : ℕ) → r ≡ Refused n l → (1 ≤ l) × (l ≤ feeds file + 1)
-  every-line g n l e = refused-line-is (readAll file .run) (feeds file) n l (fed-file file .counted) (refused-exactly g n l .0 e)
+  every-line g n l e = refused-line-is (readAll file .run) (feeds file) n l (fed-file blank file .counted) (refused-exactly g n l .0 e)
 
   -- refusal 2, at position 0, is given exactly where a room has another length
   pub wrong-rooms : (r ≡ Refused 2 0) ↔ (Largest x → ⊥)
@@ -165,7 +175,7 @@ module _ (file : List ℕ) (x : Rooms) (r : CaseFile) (x′ : Rooms) (p : CaseRe
         went (case.Refused m l) q = let i = refused-exactly read-largest m l .1 q in let z : _≡_ {A = ℕ} 0 1 = cc in absurd (omega arith)
 
     good : (Good (read-whole .0)) × (read-whole .0 .phase ≡ 5)
-    good = ended-good (readAll file .run) (feeds file) (read-whole .0) (fed-file file .counted) (read-whole .1)
+    good = ended-good (readAll file .run) (feeds file) (read-whole .0) (fed-file blank file .counted) (read-whole .1)
 
     -- the counts are those that document 01 allows
     pub read-counts : (1 ≤ P) × (P ≤ countLimit) × (1 ≤ T) × (T ≤ countLimit) × (n ≤ wordLimit)
@@ -181,42 +191,25 @@ module _ (file : List ℕ) (x : Rooms) (r : CaseFile) (x′ : Rooms) (p : CaseRe
         × Front (T * P) (readAll file .rooms .pre) (x .pre) (x′ .pre) × Front (T * P) (readAll file .rooms .post) (x .post) (x′ .post) × Front n (readAll file .rooms .word) (x .word) (x′ .word)
     read-front =
         let w = read-whole in
-        let y = large (readAll file .rooms) blank (fed-file file .same) (blank-large blank refl) in
+        let y = large (readAll file .rooms) blank (fed-file blank file .same) (blank-large blank refl) in
         laid-fronts (w .0) (readAll file .rooms) x x′ (good .0) y read-largest (w .5) P T n (w .2) (w .3) (w .4)
 
   -- the lines up to some line feed were read, and the state s follows
   module _ (l : Largest x) (lines : List ℕ) (s : Reading) (read : readAll lines .run ≡ going s []) where
-    line-number : s .line ≡ feeds lines
-    line-number = (rw read at (fed-file lines .counted)) .1
-
-    came-to : readAll lines ≡ both (going s []) (readAll lines .rooms)
-    came-to = ap (λ (u : Run). both u (readAll lines .rooms)) read
-
-    then-reads : (rest : List ℕ) → file ≡ lines ++ rest → readAll file ≡ feedAll (both (going s []) (readAll lines .rooms)) rest
-    then-reads rest e = ap readAll e ∙ all-append (both (going fresh []) blank) lines rest ∙ ap (λ (z : Both). feedAll z rest) came-to
-
-    refused-with : (n : ℕ) → caseOf (readAll file .run) ≡ case.Refused n (s .line + 1) → r ≡ Refused n (feeds lines + 1)
-    refused-with n e = ap (λ (z : Came). z .answer) (of-case l (case.Refused n (s .line + 1)) e) ∙ ap (λ (j : ℕ). Refused n (j + 1)) line-number
+    taken : TakenLines blank lines s (readAll lines .rooms)
+    taken = read-taken blank lines s (readAll lines .rooms) (ap (λ (u : Run). both u (readAll lines .rooms)) read)
 
     -- "In a file the earliest faulty line decides", whatever stands after it
     pub earliest-line : (n at : ℕ) (line rest : List ℕ) → file ≡ lines ++ (line ++ lineFeed ∷ rest) → NoFeed line → judgeOf s line (readAll lines .rooms) ≡ Faulty n at → r ≡ Refused n (feeds lines + 1)
-    unfolding caseOf
     earliest-line n at line rest e h j =
-        let q : at ≡ s .line + 1 = judged-number s line (readAll lines .rooms) n at j .2 in
-        refused-with n
-        (ap (λ (b : Both). caseOf (b .run)) (then-reads (line ++ lineFeed ∷ rest) e ∙ refused-line s (readAll lines .rooms) line rest h n at (sym (line-meaning.refused-line s line (readAll lines .rooms) n at j .0)))
-        ∙ ap (case.Refused n) q)
+        let q : at ≡ feeds lines + 1 = judged-number s line (readAll lines .rooms) n at j .2 ∙ ap (λ (k : ℕ). k + 1) (line-number blank lines s (readAll lines .rooms) taken) in
+        let f = judged-exactly s line (readAll lines .rooms) n (feeds lines + 1) .0 (j ∙ ap (Faulty n) q) in
+        refused-file l n (feeds lines + 1) .1 (faulty-line lines line rest s (readAll lines .rooms) taken e h f refl)
 
     -- "a line .. lacks its line feed": 11 on the last line, whatever it holds
     pub last-line-cut : (line : List ℕ) → file ≡ lines ++ line → NoFeed line → (line ≡ [] → ⊥) → r ≡ Refused 11 (feeds lines + 1)
-    unfolding feedAll
-    last-line-cut [] e h n = absurd (n refl)
-    last-line-cut (b ∷ d) e h n =
-        let line : List ℕ = b ∷ d in
-        let z = then-reads line e ∙ ap (feedAll (both (going s []) (readAll lines .rooms))) (sym (append-nil line)) ∙ holds s (readAll lines .rooms) line [] [] (omega arith) h in
-        refused-with 11 (ap (λ (w : Both). caseOf (w .run)) z ∙ left-over s b d)
+    last-line-cut line e h n = refused-file l 11 (feeds lines + 1) .1 (cut-off lines line s (readAll lines .rooms) taken e h n refl refl)
 
     -- "frames missing at the end": 12 on the line after the last
     pub missing-frames : file ≡ lines → (s .phase ≡ 5 → ⊥) → r ≡ Refused 12 (feeds lines + 1)
-    unfolding caseOf finishOf
-    missing-frames e n = refused-with 12 (ap (λ (f : List ℕ). caseOf (readAll f .run)) e ∙ ap caseOf read ∙ simp (ne-eqb _ _ n))
+    missing-frames e n = refused-file l 12 (feeds lines + 1) .1 (frames-missing s (readAll lines .rooms) (rw e taken) n refl (rw e))

@@ -1,16 +1,8 @@
--- To be believed: what the theorems on a case file speak of: its lines by number, and the fronts of rooms.
-use Prim.Native.Nat.{ℕ, _+_}
+-- To be believed: what the theorems on a case file speak of: the fronts of rooms, and the lines of 01's whole case.
+use Prim.Native.Nat.{ℕ}
 use mathlib.Core.Path.{_≡_}
-use mathlib.Core.Bool.{cond}
 use mathlib.Core.List.{List, [], _∷_}
 use lib.ListN.{take, drop}
-use lib.Dec.{eqb}
-use Rattle.file_digits.specs.Frame.{lineFeed}
-
--- the line feeds of a run of bytes, so that the line after them is, "from 1", one more
-unfoldable pub feeds : List ℕ → ℕ
-feeds [] = 0
-feeds (b ∷ bs) = cond (eqb b lineFeed) 1 0 + feeds bs
 
 -- the n entries at the front of the room are those of y, and the rest is as found in x
 pub record Front (n : ℕ) (y x room : List ℕ) : Type 0 where

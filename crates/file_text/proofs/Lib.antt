@@ -1,6 +1,9 @@
 pub mod Rules
 pub mod Fronts
 pub mod Lines
+pub mod Fold
+pub mod Taken
 pub mod Stage
 pub mod Whole
 pub mod Meaning
+pub mod Refusal

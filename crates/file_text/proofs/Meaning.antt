@@ -25,7 +25,8 @@ use Rattle.file_parts.specs.File.{Run, going, stopped, Both, both, readOf, fini
 use Rattle.file_text.specs.Text.{joined, fileOf, Limited, Written, netIn, markingIn, wordIn, endOf, filled}
 use Rattle.file_digits.proofs.Bytes.{below-of, of-below, below-most}
 use Rattle.file_text.proofs.Fronts.{front-of, rest-of}
-use Rattle.file_text.proofs.Stage.{Listed, Stage, start, counted, capped, rowed, lettered, reads}
+use Rattle.file_text.proofs.Taken.{read-taken}
+use Rattle.file_text.proofs.Stage.{Listed, Stage, start, counted, capped, rowed, lettered, staged}
 use Rattle.file_text.proofs.Whole.{whole}
 
 -- the limits, entry by entry and list by list
@@ -126,12 +127,12 @@ module _ (x : Rooms) (big : Large x) (net : Net) (initial w : List ℕ) (m : Lim
 -- the other way: an accepted file is the file of what stands in the rooms
 module _ (x : Rooms) (big : Large x) (file : List ℕ) where
   found : (s : Reading) → caseOf (readOf x file .run) ≡ Whole s → Written file
-  found s e = go (reads x big s (readOf x file .rooms) file fresh x [] [] (start refl refl refl) (ap (λ (r : Run). both r (readOf x file .rooms)) (whole-case (readOf x file .run) s e .0)))
+  found s e = go (staged x big file s (readOf x file .rooms) (read-taken x file s (readOf x file .rooms) (ap (λ (r : Run). both r (readOf x file .rooms)) (whole-case (readOf x file .run) s e .0))))
     where
       early : {A : Type 0} (t : Reading) → s ≡ t → (t .phase ≡ 5 → ⊥) → A
       early t q h = absurd (h (sym (ap (λ (u : Reading). u .phase) q) ∙ whole-case (readOf x file .run) s e .1))
 
-      go : Stage x s (readOf x file .rooms) ([] ++ ([] ++ file)) → Written file
+      go : Stage x s (readOf x file .rooms) file → Written file
       go (start a b f) = early fresh a (λ z. omega arith)
       go (counted P T g h i j a b f) = early _ a (λ z. omega arith)
       go (capped P T caps g h i j k l a b f) = early _ a (λ z. omega arith)
@@ -180,12 +181,12 @@ one-answer x file a b p q = sym p ∙ q
 -- where the lines before were taken, the kind that must come next tells which line it is: 1 falls on line 1, and 3 on line 3
 module _ (x : Rooms) (big : Large x) (lines : List ℕ) (s : Reading) (y : Rooms) (before : readOf x lines ≡ both (going s []) y) (d : List ℕ) where
   lines-so-far : (s .phase ≡ 1 → s .line ≡ 0) × (s .phase ≡ 3 → s .line ≡ 2)
-  lines-so-far = go (reads x big s y lines fresh x [] [] (start refl refl refl) before)
+  lines-so-far = go (staged x big lines s y (read-taken x lines s y before))
     where
       by : (t : Reading) → s ≡ t → (t .phase ≡ 1 → t .line ≡ 0) × (t .phase ≡ 3 → t .line ≡ 2) → (s .phase ≡ 1 → s .line ≡ 0) × (s .phase ≡ 3 → s .line ≡ 2)
       by t e h = rw e h
 
-      go : Stage x s y ([] ++ ([] ++ lines)) → (s .phase ≡ 1 → s .line ≡ 0) × (s .phase ≡ 3 → s .line ≡ 2)
+      go : Stage x s y lines → (s .phase ≡ 1 → s .line ≡ 0) × (s .phase ≡ 3 → s .line ≡ 2)
       go (start a b f) = by _ a (λ q. refl, λ q. absurd (omega arith))
       go (counted P T g h i j a b f) = by _ a (λ q. absurd (omega arith), λ q. absurd (omega arith))
       go (capped P T caps g h i j k l a b f) = by _ a (λ q. absurd (omega arith), λ q. refl)

@@ -5,26 +5,25 @@ use mathlib.Core.List.{List, [], _∷_, _++_, append-assoc, append-nil}
 use Prim.Native.Nat.{ℕ, zero, suc, _+_, _*_, _≤_, _<_}
 use native.Mathlib.Omega.{arith}
 use native.Mathlib.Nat.{suc-mul}
-use lib.Dec.{ltb, eqb}
+use lib.Dec.{eqb}
 use lib.ListN.{length, take, drop, length-append, length-drop}
 use lib.Seq.{sets, drop-append-le, take-append-le, drop-at, take-all}
-use borrow.Author.Tests.{eqb-true, eqb-false, ltb-true, ltb-false}
+use borrow.Author.Tests.{eqb-true, eqb-false}
 use Rattle.ground.specs.Limits.{countLimit, wordLimit}
 use Rattle.ground.proofs.Stores.{sets-both}
-use Rattle.file_digits.specs.Frame.{lineLimit, block, lineFeed, byteAt, bytesFrom, wordsFrom}
+use Rattle.file_digits.specs.Frame.{block, lineFeed, byteAt, bytesFrom, wordsFrom}
 use Rattle.file_digits.proofs.Round.{Below, none}
 use Rattle.net.specs.Net.{Net, netOf}
 use Rattle.net.specs.Letter.{row}
 use Rattle.net.specs.Given.{Fine}
 use Rattle.net.proofs.Rows.{row-end}
 use Rattle.file_line.specs.declared.Reading.{Reading}
-use Rattle.net.specs.declared.Fault.{Fault}
-use Rattle.net.specs.declared.Fault.the-variants.{Sound, Faulty}
+use Rattle.net.specs.declared.Fault.the-variants.{Sound}
 use Rattle.file_line.specs.Read.{Rooms, rooms, fresh, judgeOf, lettersIn, advanced, advancedKind, stored, storedKind}
 use Rattle.file_line.specs.Walk.{Large}
-use Rattle.file_parts.specs.File.{going, Both, both, feedOf, feedAll}
-use Rattle.file_parts.proofs.Line.{feed-push, feed-long, never-goes, line-taken, line-stopped}
+use Rattle.file_line.proofs.Meaning.{taken-exactly}
 use Rattle.file_text.specs.Text.{countsLine, capsLine, tokensLine, rowLine, lettersLine, lettersLines, joined, fileOf, endOf, filled}
+use Rattle.file_text.specs.Refusal.{TakenLines, no-line, one-more}
 use Rattle.file_digits.proofs.Bytes.{below-append, bytes-long, bytes-small, words-long, words-small}
 use Rattle.file_text.proofs.Fronts.{getD-sets}
 use Rattle.file_text.proofs.Lines.{state, kind-next, counts-of, caps-of, tokens-of, tokens-fine, row-of, letters-of}
@@ -243,36 +242,7 @@ module _ (x : Rooms) (big : Large x) (d : List ℕ) where
   step s y p (rowed net n initial r h es ey ep) j = rw (es, ey, ep) (step-rowed net n initial r h (rw (es, ey) at j))
   step s y p (lettered net initial w l es ey ep) j = rw (es, ey, ep) (step-lettered net initial w l (rw (es, ey) at j))
 
--- what was read, byte by byte, up to the end of a line
-module _ (x : Rooms) (big : Large x) (t : Reading) (z : Rooms) where
-  pub reads : (bs : List ℕ) (s : Reading) (y : Rooms) (q l : List ℕ) → Stage x s y q → feedAll (both (going s l) y) bs ≡ both (going t []) z → Stage x t z (q ++ (l ++ bs))
-  unfolding feedAll
-  reads [] s y q l g e =
-      let r : going s l ≡ going t [] = ap (λ (u : Both). u .run) e in
-      let k : y ≡ z = ap (λ (u : Both). u .rooms) e in
-      let a : s ≡ t = cc in
-      let b : l ≡ [] = cc in
-      rw (← a, ← k, b, append-nil) g
-  reads (b ∷ bs) s y q l g e = go (eqb b lineFeed) refl (λ s y q l g e. reads bs s y q l g e) where
-    Rec : Type 0
-    Rec = (s : Reading) (y : Rooms) (q l : List ℕ) → Stage x s y q → feedAll (both (going s l) y) bs ≡ both (going t []) z → Stage x t z (q ++ (l ++ bs))
-
-    line : b ≡ lineFeed → (f : Fault) → judgeOf s l y ≡ f → Rec → Stage x t z (q ++ (l ++ b ∷ bs))
-    line h Sound o rec =
-        let k = rec (advanced s l) (stored s l y) (q ++ (l ++ (lineFeed ∷ []))) [] (step x big l s y q g o)
-        (ap (λ (u : Both). feedAll u bs) (sym (line-taken s l y o)) ∙ ap (λ (c : ℕ). feedAll (feedOf (both (going s l) y) c) bs) (sym h) ∙ e) in
-        rw h (rw (append-assoc q (l ++ (lineFeed ∷ [])) bs, append-assoc l (lineFeed ∷ []) bs) at k)
-    line h (Faulty n at) o rec =
-        absurd (never-goes n at y z bs t []
-        (ap (λ (u : Both). feedAll u bs) (sym (line-stopped s l y n at o)) ∙ ap (λ (c : ℕ). feedAll (feedOf (both (going s l) y) c) bs) (sym h) ∙ e))
-
-    go : (a : Bool) → eqb b lineFeed ≡ a → Rec → Stage x t z (q ++ (l ++ b ∷ bs))
-    go true h rec = line (eqb-true _ _ h) (judgeOf s l y) refl rec
-    go false h rec = held (ltb (length l) lineLimit) refl rec where
-      n : b ≡ lineFeed → ⊥
-      n = eqb-false _ _ h
-
-      held : (a : Bool) → ltb (length l) lineLimit ≡ a → Rec → Stage x t z (q ++ (l ++ b ∷ bs))
-      held true i rec =
-          rw (append-assoc l (b ∷ []) bs) at (rec s y q (l ++ (b ∷ [])) g (ap (λ (u : Both). feedAll u bs) (sym (feed-push s l y b n (ltb-true _ _ i))) ∙ e))
-      held false i rec = absurd (never-goes 11 (s .line + 1) y z bs t [] (ap (λ (u : Both). feedAll u bs) (sym (feed-long s l y b n (ltb-false _ _ i))) ∙ e))
+-- so far has a reading come after lines that are taken
+pub staged : (x : Rooms) → Large x → (lines : List ℕ) (s : Reading) (y : Rooms) → TakenLines x lines s y → Stage x s y lines
+staged x big lines s y no-line = start refl refl refl
+staged x big lines s y (one-more before line t z k f m) = step x big line t z before (staged x big before t z k) (taken-exactly t line z .1 m)

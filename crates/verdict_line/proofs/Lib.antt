@@ -2,3 +2,5 @@ pub mod Lines
 pub mod Meaning
 pub mod Sample
 pub mod Numbers
+pub mod Causes
+pub mod Truth

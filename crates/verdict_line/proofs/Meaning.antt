@@ -1,13 +1,13 @@
 -- What the program's line means. Assumes nothing.
-use Prim.Native.Nat.{ℕ, _/_, _%_, _<_}
+use Prim.Native.Nat.{ℕ, _<_}
 use mathlib.Core.Path.{_≡_, refl, sym, subst, ap, _∙_}
 use mathlib.Core.Bool.{true}
-use mathlib.Core.List.{List, [], _∷_, _++_, append-nil}
+use mathlib.Core.List.{List, [], _∷_, _++_}
 use native.Mathlib.Omega.{arith}
 use lib.ListN.{length}
 use Rattle.ground.proofs.Fill.{table-length}
-use Rattle.file_digits.specs.Frame.{allDigits, digitsOf, lineFeed, lineText, four, fours}
-use Rattle.file_digits.proofs.Round.{Below, none, more}
+use Rattle.file_digits.specs.Frame.{allDigits, digitsOf, lineFeed, lineText}
+use Rattle.file_digits.proofs.Round.{Below}
 use Rattle.file_line.specs.declared.Reading.{Reading}
 use Rattle.file_line.specs.Read.{Rooms, fresh}
 use Rattle.file_line.specs.Walk.{Large}
@@ -16,13 +16,11 @@ use Rattle.file_parts.specs.declared.Case.the-variants as file
 use Rattle.file_parts.specs.File.{Both, both, going, stopped, feedAll, readOf, together, feedParts, caseOf}
 use Rattle.file_parts.proofs.Line.{stays, all-append, any-cutting}
 use Rattle.net.specs.Firing.{Fires}
-use Rattle.net.specs.declared.Cause.the-variants.{Short, Over}
 use Rattle.replay.specs.Entry.{Replayed, Allowed}
-use Rattle.replay.specs.declared.Replay.{Replay}
-use Rattle.replay.specs.declared.Replay.the-variants.{Fired, Blocked, Refused}
+use Rattle.replay.specs.declared.Replay.the-variants.{Fired, Refused}
 use Rattle.replay.proofs.Meaning.{allowed-answered, fires-fired}
 use Rattle.verdict_text.specs.Verdict.{bytesOf}
-use Rattle.verdict_text.specs.Walk.{Placed}
+use Rattle.verdict_text.proofs.Meaning.{bytes-below}
 use Rattle.file_text.specs.Text.{netIn, markingIn, wordIn}
 use Rattle.file_digits.proofs.Bytes.{digits-all}
 use Rattle.file_text.proofs.Meaning.{limited-allowed, read-file}
@@ -40,7 +38,7 @@ refusal-decides f g x y n l e =
     ap lineAt (all-append (both (going fresh []) x) f g ∙ ap (λ (z : Both). feedAll z g) e ∙ stays n l y g ∙ sym e)
 
 -- the answer of a replay is what its definition says
-replayed : (s : Reading) (x : Rooms) → Replayed (netIn s x) (markingIn s x) (wordIn s x) true (roomFor s) (ranRead s x .answer) (ranRead s x .left)
+pub replayed : (s : Reading) (x : Rooms) → Replayed (netIn s x) (markingIn s x) (wordIn s x) true (roomFor s) (ranRead s x .answer) (ranRead s x .left)
 replayed s x = record { answer = refl; left = refl }
 
 -- of a whole case that document 01 allows the line is a verdict, 81, and never a refusal
@@ -59,28 +57,6 @@ pub record OneLine (l : List ℕ) : Type 0 where
   pub digits : List ℕ
   pub ends : l ≡ digits ++ (lineFeed ∷ [])
   pub only : allDigits digits ≡ true
-
--- one more byte
-cons : (b : ℕ) (bs : List ℕ) → b < 256 → Below 256 bs → Below 256 (b ∷ bs)
-cons b bs h w = more h w
-
-four-below : (n : ℕ) (bs : List ℕ) → Below 256 bs → Below 256 (four n ++ bs)
-unfolding four
-four-below n bs b =
-    cons (n / 16777216 % 256) _ (omega arith) (cons (n / 65536 % 256) _ (omega arith) (cons (n / 256 % 256) _ (omega arith) (cons (n % 256) _ (omega arith) b)))
-
-fours-below : (m : List ℕ) → Below 256 (fours m)
-unfolding fours
-fours-below [] = none
-fours-below (x ∷ m) = four-below x (fours m) (fours-below m)
-
-bytes-below : (a : Replay) (m : List ℕ) → Placed a → ((n at : ℕ) → a ≡ Refused n at → n < 256) → Below 256 (bytesOf a m)
-bytes-below (Fired n) m p r = cons 0x81 _ (omega arith) (cons 0 _ (omega arith) (four-below n (fours m) (fours-below m)))
-bytes-below (Blocked i (Short q)) m p r = cons 0x81 _ (omega arith) (cons 1 _ (omega arith) (four-below i (q ∷ []) (cons q [] (omega (arith, p)) none)))
-bytes-below (Blocked i (Over q)) m p r = cons 0x81 _ (omega arith) (cons 2 _ (omega arith) (four-below i (q ∷ []) (cons q [] (omega (arith, p)) none)))
-bytes-below (Refused n at) m p r =
-    let w = four-below at [] none in
-    cons 0x82 _ (omega arith) (cons n _ (r n at refl) (rw append-nil at w))
 
 line-of-bytes : (bs : List ℕ) → Below 256 bs → OneLine (lineText bs)
 line-of-bytes bs b = record { digits = digitsOf bs; ends = refl; only = digits-all bs b }

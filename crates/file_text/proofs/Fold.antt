@@ -15,10 +15,9 @@ use Rattle.file_line.specs.Read.{fresh, Rooms, lineOf, roomsOf, judgeOf, advanc
 use Rattle.file_line.specs.Walk.{Good}
 use Rattle.file_line.proofs.Meaning.{judged-number, taken-line, refused-line}
 use Rattle.file_line.proofs.Accept.{accepted, good-advanced}
-use Rattle.file_parts.specs.File.{Run, going, stopped, Both, both, ended, fedTo, feedOf, feedAll}
+use Rattle.file_parts.specs.File.{Run, going, stopped, Both, both, ended, fedTo, feedOf, feedAll, readOf}
 use Rattle.file_parts.proofs.Line.{Same}
-use Rattle.file_entry.specs.Entry.{blank, readAll}
-use Rattle.file_entry.specs.Cut.{feeds}
+use Rattle.file_text.specs.Refusal.{feeds}
 
 -- after k line feeds
 abbrev pub LinesCounted : ℕ → Run → Type 0
@@ -116,8 +115,8 @@ good-fresh =
       line = omega arith;
     }
 
-pub fed-file : (file : List ℕ) → Fed blank (feeds file) (readAll file)
-fed-file file =
+pub fed-file : (x : Rooms) (file : List ℕ) → Fed x (feeds file) (readOf x file)
+fed-file x file =
     let e : 0 + feeds file ≡ feeds file = omega arith in
-    subst (λ (n : ℕ). Fed blank n (readAll file)) e
-    (fed-all blank file (both (going fresh []) blank) 0 (record { same = same-own blank; counted = (good-fresh, refl) }))
+    subst (λ (n : ℕ). Fed x n (readOf x file)) e
+    (fed-all x file (both (going fresh []) x) 0 (record { same = same-own x; counted = (good-fresh, refl) }))
