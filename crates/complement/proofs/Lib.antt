@@ -3,3 +3,4 @@ pub mod Written
 pub mod Answers
 pub mod Entries
 pub mod Meaning
+pub mod Promise
