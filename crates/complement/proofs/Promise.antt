@@ -1,24 +1,41 @@
 -- Demand 2, from the promise: what is true, over the published relation, of the net that the rooms hold where `complement_net` has answered made. Assumes nothing.
-use Prim.Native.Nat.{ℕ, _+_, _<_}
+use Prim.Native.Nat.{ℕ, _+_, _<_, zero-le}
 use mathlib.Core.Path.{_≡_, refl, sym, ap, _∙_}
 use mathlib.Core.Bool.{true}
 use mathlib.Core.List.{List}
 use mathlib.Core.Logic.{_↔_}
 use native.Mathlib.Omega.{arith}
 use lib.ListN.{length, getD}
+use borrow.Author.Tests.{lt-ltb}
 use Rattle.ground.specs.Limits.{noCapacity}
-use Rattle.ground.proofs.Fill.{table-length}
-use Rattle.net.specs.Net.{Net}
+use Rattle.ground.proofs.Fill.{table-length, table-at}
+use Rattle.net.specs.Net.{Net, capacity, Capped}
 use Rattle.net.specs.Firing.{Fires, Within}
 use Rattle.net.proofs.Meaning.{deterministic}
-use Rattle.complement.specs.Complement.{complementPlaces, complementNet, complementMarking, Related}
+use Rattle.complement.specs.Complement.{made, madePlaces, complementPlaces, complementNet, complementMarking, Related}
 use Rattle.complement.specs.Entry.{Rooms, written, Complemented, Allowed}
-use Rattle.complement.specs.Held.{heldNet}
+use Rattle.complement.specs.Held.{heldNet, OldPlace, NewPlace, CappedInOrder}
 use Rattle.complement.specs.declared.ComplementNet.{ComplementNet}
 use Rattle.complement.specs.declared.ComplementNet.the-variants.{Made, Refused}
-use Rattle.complement.proofs.Meaning.{answered-allowed, allowed-made, fine-within, starts-related, word-to, word-from}
+use Rattle.complement.proofs.Choice.{chosen-has, chosen-order}
+use Rattle.complement.proofs.Entries.{pre-old, post-old, pre-new, post-new}
+use Rattle.complement.proofs.Meaning.{arc-from, arc-to, made-place, made-cap, answered-allowed, allowed-made, fine-within, starts-related, word-to, word-from}
 
-module _ (net : Net) (initial : List ℕ) (rooms : Rooms) (r : ComplementNet) (rooms′ : Rooms) (promise : Complemented net initial rooms r rooms′) (made : r ≡ Made) where
+-- "Each capped place, in order of number, gets a new place": those that do
+capped-made : (net : Net) (p : ℕ) → Capped net p → made net p ≡ true
+unfolding made
+capped-made net p c = lt-ltb (capacity net p) noCapacity c
+
+pub made-in-order : (net : Net) → CappedInOrder net (madePlaces net)
+made-in-order net =
+    record {
+      here = made-place net;
+      capped = made-cap net;
+      each = λ p h c. chosen-has (made net) 0 (net .places) p (record { from = zero-le; below = omega arith; passes = capped-made net p c });
+      order = chosen-order (made net) 0 (net .places);
+    }
+
+module _ (net : Net) (initial : List ℕ) (rooms : Rooms) (r : ComplementNet) (rooms′ : Rooms) (promise : Complemented net initial rooms r rooms′) (e : r ≡ Made) where
   -- what was lent was allowed
   pub made-allowed : Allowed net initial rooms
   made-allowed = answered-allowed net initial rooms r rooms′ promise (λ n at q. let z : _≡_ {A = ℕ} 0 1 = cc in omega arith)
@@ -52,3 +69,30 @@ module _ (net : Net) (initial : List ℕ) (rooms : Rooms) (r : ComplementNet) (r
   -- so whatever markings a word leads to in the two are related
   pub made-fires-related : (w m m′ : List ℕ) → Fires net initial w m → Fires (heldNet (net .transitions) rooms′) (rooms′ .initial) w m′ → Related net m m′
   made-fires-related w m m′ f g = let a = made-fires w m f in rw (deterministic g (a .1)) (a .2)
+
+  -- what the complement net has, the held net has
+  held-has : (Q : Net → Type 0) → Q (complementNet net) → Q (heldNet (net .transitions) rooms′)
+  held-has Q q = rw made-net q
+
+  -- the old places, and after them one for each capped place (`made-in-order`)
+  pub made-places : heldNet (net .transitions) rooms′ .places ≡ net .places + length (madePlaces net)
+  made-places = held-has (λ k. k .places ≡ complementPlaces net) refl
+
+  -- "No capacities remain."
+  pub made-no-capacity : (q : ℕ) → q < heldNet (net .transitions) rooms′ .places → capacity (heldNet (net .transitions) rooms′) q ≡ noCapacity
+  made-no-capacity = held-has (λ k. (q : ℕ) → q < k .places → capacity k q ≡ noCapacity) (λ q h. table-at (λ p. noCapacity) (complementPlaces net) q 0 h)
+
+  pub made-old-places : (p : ℕ) → p < net .places → OldPlace net initial (heldNet (net .transitions) rooms′) (rooms′ .initial) p
+  made-old-places p h =
+      rw (made-net, made-initial)
+      (record { takes = λ t l. pre-old net (made-allowed .sized) t l p h; puts = λ t l. post-old net (made-allowed .sized) t l p h; holds = start .old p h })
+
+  -- "Change > 0 becomes an arc from it, change < 0 an arc to it"
+  pub made-new-places : (j : ℕ) → j < length (madePlaces net) → NewPlace net initial (heldNet (net .transitions) rooms′) (rooms′ .initial) (getD (madePlaces net) j 0) (net .places + j)
+  made-new-places j h =
+      rw (made-net, made-initial)
+      (record {
+        takes = λ t l. pre-new net (made-allowed .sized) t l j h ∙ arc-from net (getD (madePlaces net) j 0) t;
+        puts = λ t l. post-new net (made-allowed .sized) t l j h ∙ arc-to net (getD (madePlaces net) j 0) t;
+        holds = start .new j h;
+      })
