@@ -14,11 +14,17 @@ use Rattle.net.specs.Firing.{Within, ShortAt, OverAt, Names}
 use Rattle.net.specs.Given.{Sized}
 use Rattle.net.specs.declared.Cause.{Cause}
 use Rattle.net.specs.declared.Cause.the-variants.{Short, Over}
-use Rattle.complement.specs.Complement.{made, madePlaces, complementNet, Related}
+use Rattle.net.proofs.Meaning.{deterministic}
+use Rattle.replay.specs.Entry.{Replayed, Allowed as Replayable, lettersFired, Longest}
+use Rattle.replay.specs.declared.Replay.{Replay}
+use Rattle.replay.specs.declared.Replay.the-variants.{Fired, Blocked, Refused}
+use Rattle.replay.proofs.Meaning.{answered-allowed as replayable, allowed-answered as never-refused, fired-means, fired-longest, blocked-cause, left-within}
+use Rattle.complement.specs.Complement.{made, madePlaces, complementPlaces, complementNet, complementMarking, Related}
+use Rattle.complement.specs.Entry.{Rooms, Allowed}
 use Rattle.complement.specs.Held.{NewOf, Tied}
 use Rattle.complement.proofs.Choice.{chosen-has, chosen-order, unmade-flat}
 use Rattle.complement.proofs.Entries.{pre-old, pre-new, never-capped}
-use Rattle.complement.proofs.Meaning.{Place, old, new, place, made-place, made-cap}
+use Rattle.complement.proofs.Meaning.{Place, old, new, place, made-place, made-cap, fine-within, starts-related, word-to, word-from, to-other, from-other}
 
 -- one letter, from related markings, the first within capacities
 module _ (net : Net) (sized : Sized net) (m m′ : List ℕ) (within : Within net m) (related : Related net m m′) (t : ℕ) (named : t < net .transitions) where
@@ -77,3 +83,78 @@ module _ (net : Net) (sized : Sized net) (m m′ : List ℕ) (within : Within ne
           same (no l) (no k) = omega arith
   causes-tied (Short p) (Over q) a b = never-capped net q (b .here) (b .over .0)
   causes-tied (Over p) (Over q) a b = never-capped net q (b .here) (b .over .0)
+
+-- two replays of one word, as `replay-same` has them
+module _ (net : Net) (initial : List ℕ) (rooms : Rooms) (allowed : Allowed net initial rooms) (w room room′ : List ℕ)
+    (long : length room ≡ net .places) (long′ : length room′ ≡ complementPlaces net)
+    (r r′ : Replay) (left left′ : List ℕ) (p : Replayed net initial w true room r left) (p′ : Replayed (complementNet net) (complementMarking net initial) w true room′ r′ left′) where
+  inside : Within net initial
+  inside = fine-within net (allowed .sized) initial (allowed .marked) (allowed .fine)
+
+  start : Related net initial (complementMarking net initial)
+  start = starts-related net (allowed .sized) initial (allowed .marked) (allowed .fine)
+
+  -- neither is refused: both fire as many letters, and leave related markings
+  module _ (a : Replayable net initial w true room) (b : Replayable (complementNet net) (complementMarking net initial) w true room′) where
+    one : Longest net initial w (lettersFired r) left
+    one = fired-longest net initial w true room r left p a
+
+    other : Longest (complementNet net) (complementMarking net initial) w (lettersFired r′) left′
+    other = fired-longest (complementNet net) (complementMarking net initial) w true room′ r′ left′ p′ b
+
+    as-many : lettersFired r′ ≡ lettersFired r
+    as-many = go (decLt (lettersFired r′) (lettersFired r)) (decLt (lettersFired r) (lettersFired r′))
+      where
+        go : Dec (lettersFired r′ < lettersFired r) → Dec (lettersFired r < lettersFired r′) → lettersFired r′ ≡ lettersFired r
+        go (yes h) k = let f = word-to net (allowed .sized) (complementMarking net initial) inside start (one .fires) in absurd (other .more (lettersFired r) h (one .within) (f .0) (f .1))
+        go (no h) (yes k) = let f = word-from net (allowed .sized) initial inside start (other .fires) in absurd (one .more (lettersFired r′) k (other .within) (f .0) (f .1))
+        go (no h) (no k) = omega arith
+
+    pub left-related : Related net left left′
+    left-related =
+        let f = word-to net (allowed .sized) (complementMarking net initial) inside start (one .fires) in
+        rw (deterministic (rw as-many at (other .fires)) (f .1)) (f .2)
+
+    -- both blocked: at the same position, for tied causes
+    both-blocked : (i k : ℕ) (why why′ : Cause) → r ≡ Blocked i why → r′ ≡ Blocked k why′ → (k ≡ i) × Tied net why why′
+    both-blocked i k why why′ e e′ =
+        let q : k ≡ i = sym (ap lettersFired e′) ∙ as-many ∙ ap lettersFired e in
+        let c = blocked-cause net initial w true room r left p a i why e in
+        let d = blocked-cause (complementNet net) (complementMarking net initial) w true room′ r′ left′ p′ b k why′ e′ in
+        (q, causes-tied net (allowed .sized) left left′ (left-within net initial w true room r left p a) left-related (getD w i 0) (a .letters .at i (c .0)) why why′ (c .1) (rw q at (d .1)))
+
+    -- one blocked: so is the other, since neither has fired the whole word
+    blocked-to : (i : ℕ) (why : Cause) → r ≡ Blocked i why → (why′ : Cause) × (r′ ≡ Blocked i why′) × Tied net why why′
+    blocked-to i why e = go r′ refl
+      where
+        go : (x : Replay) → r′ ≡ x → (why′ : Cause) × (r′ ≡ Blocked i why′) × Tied net why why′
+        go (Fired n) q =
+            let l = fired-means (complementNet net) (complementMarking net initial) w true room′ r′ left′ p′ b n q .0 in
+            let c = blocked-cause net initial w true room r left p a i why e .0 in
+            let k : n ≡ i = sym (ap lettersFired q) ∙ as-many ∙ ap lettersFired e in
+            absurd (omega arith)
+        go (Blocked k why′) q = let t = both-blocked i k why why′ e q in (why′, q ∙ ap (λ (z : ℕ). Blocked z why′) (t .0), t .1)
+        go (Refused n at) q = absurd (never-refused (complementNet net) (complementMarking net initial) w true room′ r′ left′ p′ b n at q)
+
+    blocked-from : (i : ℕ) (why′ : Cause) → r′ ≡ Blocked i why′ → (why : Cause) × (r ≡ Blocked i why) × Tied net why why′
+    blocked-from i why′ e = go r refl
+      where
+        go : (x : Replay) → r ≡ x → (why : Cause) × (r ≡ Blocked i why) × Tied net why why′
+        go (Fired n) q =
+            let l = fired-means net initial w true room r left p a n q .0 in
+            let c = blocked-cause (complementNet net) (complementMarking net initial) w true room′ r′ left′ p′ b i why′ e .0 in
+            let k : i ≡ n = sym (ap lettersFired e) ∙ as-many ∙ ap lettersFired q in
+            absurd (omega arith)
+        go (Blocked k why) q = let t = both-blocked k i why why′ q e in (why, q ∙ ap (λ (z : ℕ). Blocked z why) (sym (t .0)), t .1)
+        go (Refused n at) q = absurd (never-refused net initial w true room r left p a n at q)
+
+  -- what is blocked is not refused
+  pub blocks-tied : (i : ℕ) (why : Cause) → r ≡ Blocked i why → (why′ : Cause) × (r′ ≡ Blocked i why′) × Tied net why why′
+  blocks-tied i why e =
+      let a = replayable net initial w true room r left p (λ k at q. let z : _≡_ {A = ℕ} 0 1 = cc in omega arith) in
+      blocked-to a (to-other net initial rooms allowed w room room′ long long′ r r′ left left′ p p′ a) i why e
+
+  pub blocks-tied-only : (i : ℕ) (why′ : Cause) → r′ ≡ Blocked i why′ → (why : Cause) × (r ≡ Blocked i why) × Tied net why why′
+  blocks-tied-only i why′ e =
+      let b = replayable (complementNet net) (complementMarking net initial) w true room′ r′ left′ p′ (λ k at q. let z : _≡_ {A = ℕ} 0 1 = cc in omega arith) in
+      blocked-from (from-other net initial rooms allowed w room room′ long long′ r r′ left left′ p p′ b) b i why′ e

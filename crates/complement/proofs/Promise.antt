@@ -1,7 +1,7 @@
 -- Demand 2, from the promise: what is true, over the published relation, of the net that the rooms hold where `complement_net` has answered made. Assumes nothing.
 use Prim.Native.Nat.{ℕ, _+_, _<_, zero-le}
 use mathlib.Core.Path.{_≡_, refl, sym, ap, _∙_}
-use mathlib.Core.Bool.{true}
+use mathlib.Core.Bool.{Bool, true}
 use mathlib.Core.List.{List}
 use mathlib.Core.Logic.{_↔_}
 use native.Mathlib.Omega.{arith}
@@ -11,15 +11,26 @@ use Rattle.ground.specs.Limits.{noCapacity}
 use Rattle.ground.proofs.Fill.{table-length, table-at}
 use Rattle.net.specs.Net.{Net, capacity, Capped}
 use Rattle.net.specs.Firing.{Fires, Within}
+use Rattle.net.specs.Given.{Fine}
+use Rattle.net.specs.declared.Cause.{Cause}
+use Rattle.net.specs.declared.Cause.the-variants.{Short, Over}
 use Rattle.net.proofs.Meaning.{deterministic}
+use Rattle.replay.specs.Entry.{Replayed}
+use Rattle.replay.specs.declared.Replay.{Replay}
+use Rattle.replay.specs.declared.Replay.the-variants.{Fired, Blocked, Refused as NotReplayed}
+use Rattle.replay.proofs.Meaning.{answered-allowed as replayable}
 use Rattle.complement.specs.Complement.{made, madePlaces, complementPlaces, complementNet, complementMarking, Related}
+use Rattle.complement.specs.Told.{Told, Countable}
 use Rattle.complement.specs.Entry.{Rooms, written, Complemented, Allowed}
-use Rattle.complement.specs.Held.{heldNet, OldPlace, NewPlace, CappedInOrder}
+use Rattle.complement.specs.Held.{heldNet, OldPlace, NewPlace, CappedInOrder, NewOf, Tied, RoomsFor}
+use Rattle.complement.specs.declared.ComplementPlaces.{ComplementPlaces}
+use Rattle.complement.specs.declared.ComplementPlaces.the-variants.{Places}
 use Rattle.complement.specs.declared.ComplementNet.{ComplementNet}
 use Rattle.complement.specs.declared.ComplementNet.the-variants.{Made, Refused}
 use Rattle.complement.proofs.Choice.{chosen-has, chosen-order}
 use Rattle.complement.proofs.Entries.{pre-old, post-old, pre-new, post-new}
-use Rattle.complement.proofs.Meaning.{arc-from, arc-to, made-place, made-cap, answered-allowed, allowed-made, fine-within, starts-related, word-to, word-from}
+use Rattle.complement.proofs.Meaning.{arc-from, arc-to, made-place, made-cap, answered-allowed, allowed-made, fine-within, starts-related, word-to, word-from, replay-same, places-answered-allowed, places-told}
+use Rattle.complement.proofs.Blocks.{blocks-tied, blocks-tied-only}
 
 -- "Each capped place, in order of number, gets a new place": those that do
 capped-made : (net : Net) (p : ℕ) → Capped net p → made net p ≡ true
@@ -96,3 +107,102 @@ module _ (net : Net) (initial : List ℕ) (rooms : Rooms) (r : ComplementNet) (r
         puts = λ t l. post-new net (made-allowed .sized) t l j h ∙ arc-to net (getD (madePlaces net) j 0) t;
         holds = start .new j h;
       })
+
+  -- two replays of one word, or of one stretch: on the net from its initial marking, and on the made net from the made marking
+  module _ (w : List ℕ) (within : Bool) (room room″ : List ℕ) (long : length room ≡ net .places) (long″ : length room″ ≡ heldNet (net .transitions) rooms′ .places)
+      (s s″ : Replay) (left left″ : List ℕ) (p : Replayed net initial w within room s left) (p″ : Replayed (heldNet (net .transitions) rooms′) (rooms′ .initial) w within room″ s″ left″) where
+    -- where one is not refused, the stretch is inside its word
+    answered-inside : ((n at : ℕ) → s ≡ NotReplayed n at → ⊥) → within ≡ true
+    answered-inside h = replayable net initial w within room s left p h .inside
+
+    answered-inside″ : ((n at : ℕ) → s″ ≡ NotReplayed n at → ⊥) → within ≡ true
+    answered-inside″ h = replayable (heldNet (net .transitions) rooms′) (rooms′ .initial) w within room″ s″ left″ p″ h .inside
+
+    on-net : within ≡ true → Replayed net initial w true room s left
+    on-net q = rw q at p
+
+    on-complement : within ≡ true → Replayed (complementNet net) (complementMarking net initial) w true room″ s″ left″
+    on-complement q = rw (q, made-net, made-initial) at p″
+
+    -- one has fired the whole word exactly if the other has
+    pub made-fired-same : (n : ℕ) → (s ≡ Fired n) ↔ (s″ ≡ Fired n)
+    made-fired-same n = (λ f. same (answered-inside (λ k at q. let z : _≡_ {A = ℕ} 0 1 = cc in omega arith)) .0 f, λ f. same (answered-inside″ (λ k at q. let z : _≡_ {A = ℕ} 0 1 = cc in omega arith)) .1 f)
+      where
+        same : within ≡ true → (s ≡ Fired n) ↔ (s″ ≡ Fired n)
+        same q = replay-same net initial rooms made-allowed w room room″ long (long″ ∙ made-places) s s″ left left″ (on-net q) (on-complement q) n
+
+    -- one is blocked exactly if the other is, at the same position, and their causes are tied
+    pub made-blocked : (i : ℕ) (why : Cause) → s ≡ Blocked i why → (why″ : Cause) × (s″ ≡ Blocked i why″) × Tied net why why″
+    made-blocked i why f =
+        let q = answered-inside (λ k at q. let z : _≡_ {A = ℕ} 0 1 = cc in omega arith) in
+        blocks-tied net initial rooms made-allowed w room room″ long (long″ ∙ made-places) s s″ left left″ (on-net q) (on-complement q) i why f
+
+    pub made-blocked-only : (i : ℕ) (why″ : Cause) → s″ ≡ Blocked i why″ → (why : Cause) × (s ≡ Blocked i why) × Tied net why why″
+    made-blocked-only i why″ f =
+        let q = answered-inside″ (λ k at q. let z : _≡_ {A = ℕ} 0 1 = cc in omega arith) in
+        blocks-tied-only net initial rooms made-allowed w room room″ long (long″ ∙ made-places) s s″ left left″ (on-net q) (on-complement q) i why″ f
+
+    pub made-blocked-same : (i : ℕ) → ((why : Cause) × (s ≡ Blocked i why)) ↔ ((why″ : Cause) × (s″ ≡ Blocked i why″))
+    made-blocked-same i = (λ f. let a = made-blocked i (f .0) (f .1) in (a .0, a .1), λ f. let a = made-blocked-only i (f .0) (f .1) in (a .0, a .1))
+
+    -- short at an old place in the one exactly if in the other: it is the lowest short place of both
+    pub made-blocked-short : (i q : ℕ) → (s ≡ Blocked i (Short q)) ↔ ((q < net .places) × (s″ ≡ Blocked i (Short q)))
+    made-blocked-short i q = (λ f. to (made-blocked i (Short q) f), λ f. from (f .0) (made-blocked-only i (Short q) (f .1)))
+      where
+        to : (why″ : Cause) × (s″ ≡ Blocked i why″) × Tied net (Short q) why″ → (q < net .places) × (s″ ≡ Blocked i (Short q))
+        to (Short k, f, t) = (t .0, f ∙ ap (λ (z : ℕ). Blocked i (Short z)) (t .1))
+        to (Over k, f, t) = absurd t
+
+        from : q < net .places → (why : Cause) × (s ≡ Blocked i why) × Tied net why (Short q) → s ≡ Blocked i (Short q)
+        from h (Short k, f, t) = f ∙ ap (λ (z : ℕ). Blocked i (Short z)) (sym (t .1))
+        from h (Over k, f, t) = let a = t .after in absurd (omega arith)
+
+    -- over at a place of the net exactly if short at its new place: where no old place is short, that is the lowest short place
+    pub made-blocked-over : (i q : ℕ) → (s ≡ Blocked i (Over q)) ↔ ((k : ℕ) × NewOf net q k × (s″ ≡ Blocked i (Short k)))
+    made-blocked-over i q = (λ f. to (made-blocked i (Over q) f), λ f. from (f .0) (f .1) (made-blocked-only i (Short (f .0)) (f .2)))
+      where
+        to : (why″ : Cause) × (s″ ≡ Blocked i why″) × Tied net (Over q) why″ → (k : ℕ) × NewOf net q k × (s″ ≡ Blocked i (Short k))
+        to (Short k, f, t) = (k, t, f)
+        to (Over k, f, t) = absurd t
+
+        from : (k : ℕ) → NewOf net q k → (why : Cause) × (s ≡ Blocked i why) × Tied net why (Short k) → s ≡ Blocked i (Over q)
+        from k a (Short j, f, t) = let x = t .0 in let y = t .1 in let z = a .after in absurd (omega arith)
+        from k a (Over j, f, t) =
+            let x = a .after in
+            let y = t .after in
+            let n : t .number ≡ a .number = omega arith in
+            f ∙ ap (λ (z : ℕ). Blocked i (Over z)) (sym (t .stands) ∙ ap (λ (z : ℕ). getD (madePlaces net) z 0) n ∙ a .stands)
+
+    pub made-never-over : (i q : ℕ) → s″ ≡ Blocked i (Over q) → ⊥
+    made-never-over i q f = go (made-blocked-only i (Over q) f)
+      where
+        go : (why : Cause) × (s ≡ Blocked i why) × Tied net why (Over q) → ⊥
+        go (Short k, f, t) = t
+        go (Over k, f, t) = t
+
+-- `complement_places` answers n: the places of the net that `complement_net` makes, and of the rooms that it wants for it
+module _ (net : Net) (r : ComplementPlaces) (promise : Told net r) (n : ℕ) (e : r ≡ Places n) where
+  told-countable : Countable net
+  told-countable = places-answered-allowed net r promise (λ k at q. let z : _≡_ {A = ℕ} 0 1 = cc in omega arith)
+
+  told-is : complementPlaces net ≡ n
+  told-is = let q = places-told net r promise told-countable in cc
+
+  module _ (initial : List ℕ) (rooms : Rooms) (a : ComplementNet) (rooms′ : Rooms) (answer : Complemented net initial rooms a rooms′) where
+    pub told-places : a ≡ Made → heldNet (net .transitions) rooms′ .places ≡ n
+    told-places f = made-places net initial rooms a rooms′ answer f ∙ told-is
+
+    -- with a marking that may be given, rooms of these lengths are all that is wanted, and no others will do
+    pub told-rooms : length initial ≡ net .places → Fine (net .caps) initial → (a ≡ Made) ↔ RoomsFor (net .transitions) n rooms
+    told-rooms marked fine = (there, back)
+      where
+        there : a ≡ Made → RoomsFor (net .transitions) n rooms
+        there f =
+            let y = made-allowed net initial rooms a rooms′ answer f .roomy in
+            rw (← told-is) (record { pres = y .pres; posts = y .posts; caps = y .capped; initials = y .initials })
+
+        back : RoomsFor (net .transitions) n rooms → a ≡ Made
+        back y =
+            let z = rw (← told-is) at y in
+            allowed-made net initial rooms a rooms′ answer
+            (record { sized = told-countable .sized; marked = marked; roomy = record { pres = z .pres; posts = z .posts; capped = z .caps; initials = z .initials }; fine = fine; few = told-countable .few }) .0
