@@ -12,16 +12,17 @@ use Rattle.ground.proofs.Parts.{moved-lt}
 use Rattle.net.specs.Net.{Net, Pre, Post, capacity, tokens}
 use Rattle.net.specs.Firing.{Within, ShortAt, OverAt, Names}
 use Rattle.net.specs.Given.{Sized}
+use Rattle.net.specs.First.{First, fails, holds, Counts, Lengths}
 use Rattle.net.specs.declared.Cause.{Cause}
 use Rattle.net.specs.declared.Cause.the-variants.{Short, Over}
 use Rattle.net.proofs.Meaning.{deterministic}
-use Rattle.replay.specs.Entry.{Replayed, Allowed as Replayable, lettersFired, Longest}
+use Rattle.replay.specs.Entry.{Replayed, Allowed as Replayable, Refusal, lettersFired, Longest}
 use Rattle.replay.specs.declared.Replay.{Replay}
 use Rattle.replay.specs.declared.Replay.the-variants.{Fired, Blocked, Refused}
 use Rattle.replay.proofs.Meaning.{answered-allowed as replayable, allowed-answered as never-refused, fired-means, fired-longest, blocked-cause, left-within}
 use Rattle.complement.specs.Complement.{made, madePlaces, complementPlaces, complementNet, complementMarking, Related}
 use Rattle.complement.specs.Entry.{Rooms, Allowed}
-use Rattle.complement.specs.Held.{NewOf, Tied}
+use Rattle.complement.specs.Held.{NewOf, Tied, Ready}
 use Rattle.complement.proofs.Choice.{chosen-has, chosen-order, unmade-flat}
 use Rattle.complement.proofs.Entries.{pre-old, pre-new, never-capped}
 use Rattle.complement.proofs.Meaning.{Place, old, new, place, made-place, made-cap, fine-within, starts-related, word-to, word-from, to-other, from-other}
@@ -83,6 +84,26 @@ module _ (net : Net) (sized : Sized net) (m m′ : List ℕ) (within : Within ne
           same (no l) (no k) = omega arith
   causes-tied (Short p) (Over q) a b = never-capped net q (b .here) (b .over .0)
   causes-tied (Over p) (Over q) a b = never-capped net q (b .here) (b .over .0)
+
+-- what is refused of two nets that are ready lies in the word, and is alike where they have as many transitions
+ready-counts : {net : Net} {m room : List ℕ} → Ready net m room → Counts net
+ready-counts a =
+    record { some-places = a .sized .some-places; few-places = a .sized .few-places; some-transitions = a .sized .some-transitions; few-transitions = a .sized .few-transitions }
+
+both-hold : {D D′ G G′ N N′ : Type 0} → D → D′ → (N → N′) → First D G N → First D′ G′ N′
+both-hold d d′ f (fails n g) = absurd (n d)
+both-hold d d′ f (holds x k) = holds d′ (f k)
+
+hold-alike : {D D′ G N N′ : Type 0} → (D → D′) → (D′ → D) → (N → N′) → First D G N → First D′ G N′
+hold-alike to from f (fails n g) = fails (λ d. n (from d)) g
+hold-alike to from f (holds x k) = holds (to x) (f k)
+
+pub refusal-same : (net net′ : Net) (m m′ w : List ℕ) (within : Bool) (room room′ : List ℕ) → net′ .transitions ≡ net .transitions → Ready net m room → Ready net′ m′ room′ → (n at : ℕ) → Refusal net m w within room n at → Refusal net′ m′ w within room′ n at
+refusal-same net net′ m m′ w within room room′ e a b n at =
+    both-hold (ready-counts a) (ready-counts b) (hold-alike (λ l. lengths b (l .others .1 .1)) (λ l. lengths a (l .others .1 .1)) (both-hold (a .fine) (b .fine) (λ x. rw e x)))
+  where
+    lengths : {k : Net} {u v : List ℕ} → Ready k u v → within ≡ true → Lengths k ((length u ≡ k .places) × ((length v ≡ k .places) × (within ≡ true)))
+    lengths c i = record { pres = c .sized .pres; posts = c .sized .posts; capped = c .sized .capped; others = (c .marked, (c .roomy, i)) }
 
 -- two replays of one word, as `replay-same` has them
 module _ (net : Net) (initial : List ℕ) (rooms : Rooms) (allowed : Allowed net initial rooms) (w room room′ : List ℕ)
@@ -147,6 +168,11 @@ module _ (net : Net) (initial : List ℕ) (rooms : Rooms) (allowed : Allowed net
             absurd (omega arith)
         go (Blocked k why) q = let t = both-blocked k i why why′ q e in (why, q ∙ ap (λ (z : ℕ). Blocked z why) (sym (t .0)), t .1)
         go (Refused n at) q = absurd (never-refused net initial w true room r left p a n at q)
+
+  pub answered-related : ((n at : ℕ) → r ≡ Refused n at → ⊥) → Related net left left′
+  answered-related h =
+      let a = replayable net initial w true room r left p h in
+      left-related a (to-other net initial rooms allowed w room room′ long long′ r r′ left left′ p p′ a)
 
   -- what is blocked is not refused
   pub blocks-tied : (i : ℕ) (why : Cause) → r ≡ Blocked i why → (why′ : Cause) × (r′ ≡ Blocked i why′) × Tied net why why′

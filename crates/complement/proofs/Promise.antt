@@ -15,22 +15,22 @@ use Rattle.net.specs.Given.{Fine}
 use Rattle.net.specs.declared.Cause.{Cause}
 use Rattle.net.specs.declared.Cause.the-variants.{Short, Over}
 use Rattle.net.proofs.Meaning.{deterministic}
-use Rattle.replay.specs.Entry.{Replayed}
+use Rattle.replay.specs.Entry.{Replayed, Refusal as ReplayRefusal}
 use Rattle.replay.specs.declared.Replay.{Replay}
 use Rattle.replay.specs.declared.Replay.the-variants.{Fired, Blocked, Refused as NotReplayed}
-use Rattle.replay.proofs.Meaning.{answered-allowed as replayable}
+use Rattle.replay.proofs.Meaning.{answered-allowed as replayable, refused-exactly as replay-refused-exactly, blocked-cause}
 use Rattle.complement.specs.Complement.{made, madePlaces, complementPlaces, complementNet, complementMarking, Related}
 use Rattle.complement.specs.Told.{Told, Countable}
 use Rattle.complement.specs.Entry.{Rooms, written, Complemented, Allowed}
-use Rattle.complement.specs.Held.{heldNet, OldPlace, NewPlace, CappedInOrder, NewOf, Tied, RoomsFor}
+use Rattle.complement.specs.Held.{heldNet, OldPlace, NewPlace, CappedInOrder, NewOf, Tied, TiedBlock, Ready, RoomsFor}
 use Rattle.complement.specs.declared.ComplementPlaces.{ComplementPlaces}
 use Rattle.complement.specs.declared.ComplementPlaces.the-variants.{Places}
 use Rattle.complement.specs.declared.ComplementNet.{ComplementNet}
 use Rattle.complement.specs.declared.ComplementNet.the-variants.{Made, Refused}
 use Rattle.complement.proofs.Choice.{chosen-has, chosen-order}
 use Rattle.complement.proofs.Entries.{pre-old, post-old, pre-new, post-new}
-use Rattle.complement.proofs.Meaning.{arc-from, arc-to, made-place, made-cap, answered-allowed, allowed-made, fine-within, starts-related, word-to, word-from, replay-same, places-answered-allowed, places-told}
-use Rattle.complement.proofs.Blocks.{blocks-tied, blocks-tied-only}
+use Rattle.complement.proofs.Meaning.{arc-from, arc-to, made-place, made-cap, answered-allowed, allowed-made, fine-within, starts-related, sized-stays, fine-stays, word-to, word-from, replay-same, places-answered-allowed, places-told}
+use Rattle.complement.proofs.Blocks.{refusal-same, answered-related, blocks-tied, blocks-tied-only}
 
 -- "Each capped place, in order of number, gets a new place": those that do
 capped-made : (net : Net) (p : ℕ) → Capped net p → made net p ≡ true
@@ -99,14 +99,28 @@ module _ (net : Net) (initial : List ℕ) (rooms : Rooms) (r : ComplementNet) (r
       (record { takes = λ t l. pre-old net (made-allowed .sized) t l p h; puts = λ t l. post-old net (made-allowed .sized) t l p h; holds = start .old p h })
 
   -- "Change > 0 becomes an arc from it, change < 0 an arc to it"
-  pub made-new-places : (j : ℕ) → j < length (madePlaces net) → NewPlace net initial (heldNet (net .transitions) rooms′) (rooms′ .initial) (getD (madePlaces net) j 0) (net .places + j)
-  made-new-places j h =
-      rw (made-net, made-initial)
-      (record {
+  new-at : (j : ℕ) → j < length (madePlaces net) → NewPlace net initial (complementNet net) (complementMarking net initial) (getD (madePlaces net) j 0) (net .places + j)
+  new-at j h =
+      record {
         takes = λ t l. pre-new net (made-allowed .sized) t l j h ∙ arc-from net (getD (madePlaces net) j 0) t;
         puts = λ t l. post-new net (made-allowed .sized) t l j h ∙ arc-to net (getD (madePlaces net) j 0) t;
         holds = start .new j h;
-      })
+      }
+
+  pub made-new-places : (p q : ℕ) → NewOf net p q → NewPlace net initial (heldNet (net .transitions) rooms′) (rooms′ .initial) p q
+  made-new-places p q x = rw (made-net, made-initial, x .after, ← x .stands) (new-at (x .number) (x .here))
+
+  -- every entry accepts the made net and its initial marking
+  pub made-ready : (room : List ℕ) → length room ≡ heldNet (net .transitions) rooms′ .places → Ready (heldNet (net .transitions) rooms′) (rooms′ .initial) room
+  made-ready room long =
+      let l : length room ≡ complementPlaces net = long ∙ made-places in
+      let x : Ready (complementNet net) (complementMarking net initial) room = record {
+        sized = sized-stays net (made-allowed .sized) (made-allowed .few);
+        marked = start .long;
+        roomy = l;
+        fine = fine-stays net (made-allowed .sized) initial (made-allowed .marked) (made-allowed .fine);
+      } in
+      rw (made-net, made-initial) x
 
   -- two replays of one word, or of one stretch: on the net from its initial marking, and on the made net from the made marking
   module _ (w : List ℕ) (within : Bool) (room room″ : List ℕ) (long : length room ≡ net .places) (long″ : length room″ ≡ heldNet (net .transitions) rooms′ .places)
@@ -123,6 +137,31 @@ module _ (net : Net) (initial : List ℕ) (rooms : Rooms) (r : ComplementNet) (r
 
     on-complement : within ≡ true → Replayed (complementNet net) (complementMarking net initial) w true room″ s″ left″
     on-complement q = rw (q, made-net, made-initial) at p″
+
+    -- where nothing is refused the two leave related markings, whether fired or blocked
+    pub made-left-related : ((n at : ℕ) → s ≡ NotReplayed n at → ⊥) → Related net left left″
+    made-left-related h =
+        let q = answered-inside h in
+        answered-related net initial rooms made-allowed w room room″ long (long″ ∙ made-places) s s″ left left″ (on-net q) (on-complement q) h
+
+    -- one is refused exactly if the other is, with the same number and position
+    pub made-refused-same : (n at : ℕ) → (s ≡ NotReplayed n at) ↔ (s″ ≡ NotReplayed n at)
+    made-refused-same n at = (
+      λ f. other .1 (refusal-same net held initial (rooms′ .initial) w within room room″ refl ready (made-ready room″ long″) n at (one .0 f)),
+      λ f. one .1 (refusal-same held net (rooms′ .initial) initial w within room″ room refl (made-ready room″ long″) ready n at (other .0 f)),
+    )
+      where
+        held : Net
+        held = heldNet (net .transitions) rooms′
+
+        ready : Ready net initial room
+        ready = record { sized = made-allowed .sized; marked = made-allowed .marked; roomy = long; fine = made-allowed .fine }
+
+        one : (s ≡ NotReplayed n at) ↔ ReplayRefusal net initial w within room n at
+        one = replay-refused-exactly net initial w within room s left p n at
+
+        other : (s″ ≡ NotReplayed n at) ↔ ReplayRefusal (heldNet (net .transitions) rooms′) (rooms′ .initial) w within room″ n at
+        other = replay-refused-exactly (heldNet (net .transitions) rooms′) (rooms′ .initial) w within room″ s″ left″ p″ n at
 
     -- one has fired the whole word exactly if the other has
     pub made-fired-same : (n : ℕ) → (s ≡ Fired n) ↔ (s″ ≡ Fired n)
@@ -144,6 +183,18 @@ module _ (net : Net) (initial : List ℕ) (rooms : Rooms) (r : ComplementNet) (r
 
     pub made-blocked-same : (i : ℕ) → ((why : Cause) × (s ≡ Blocked i why)) ↔ ((why″ : Cause) × (s″ ≡ Blocked i why″))
     made-blocked-same i = (λ f. let a = made-blocked i (f .0) (f .1) in (a .0, a .1), λ f. let a = made-blocked-only i (f .0) (f .1) in (a .0, a .1))
+
+    -- of both blocks, all that 01 says of one, and what ties them
+    pub made-block-means : (i : ℕ) (why why″ : Cause) → s ≡ Blocked i why → s″ ≡ Blocked i why″ → TiedBlock net (heldNet (net .transitions) rooms′) w left left″ i why why″
+    made-block-means i why why″ f g =
+        let a = replayable net initial w within room s left p (λ k at q. let z : _≡_ {A = ℕ} 0 1 = cc in omega arith) in
+        let b = replayable (heldNet (net .transitions) rooms′) (rooms′ .initial) w within room″ s″ left″ p″ (λ k at q. let z : _≡_ {A = ℕ} 0 1 = cc in omega arith) in
+        let c = blocked-cause net initial w within room s left p a i why f in
+        let d = blocked-cause (heldNet (net .transitions) rooms′) (rooms′ .initial) w within room″ s″ left″ p″ b i why″ g in
+        record { here = c .0; markings = made-left-related (λ k at q. let z : _≡_ {A = ℕ} 0 1 = cc in omega arith); named = c .1; named′ = d .1; causes = go (made-blocked i why f) }
+      where
+        go : (x : Cause) × (s″ ≡ Blocked i x) × Tied net why x → Tied net why why″
+        go (x, h, t) = let y : x ≡ why″ = cc in rw y at t
 
     -- short at an old place in the one exactly if in the other: it is the lowest short place of both
     pub made-blocked-short : (i q : ℕ) → (s ≡ Blocked i (Short q)) ↔ ((q < net .places) × (s″ ≡ Blocked i (Short q)))

@@ -5,9 +5,11 @@ use mathlib.Core.List.{List}
 use lib.ListN.{length, getD}
 use Rattle.ground.specs.Parts.{up, dn}
 use Rattle.net.specs.Net.{Net, netOf, Pre, Post, Change, capacity, Capped, tokens}
+use Rattle.net.specs.Firing.{Names}
+use Rattle.net.specs.Given.{Sized, Fine}
 use Rattle.net.specs.declared.Cause.{Cause}
 use Rattle.net.specs.declared.Cause.the-variants.{Short, Over}
-use Rattle.complement.specs.Complement.{madePlaces}
+use Rattle.complement.specs.Complement.{madePlaces, Related}
 use Rattle.complement.specs.Entry.{Rooms}
 
 -- the net that four rooms hold: a place for each capacity, and so many transitions
@@ -46,6 +48,22 @@ abbrev pub Tied : Net → Cause → Cause → Type 0
 Tied net (Short p) (Short q) = (p < net .places) × (q ≡ p)
 Tied net (Over p) (Short q) = NewOf net p q
 Tied net why (Over q) = ⊥
+
+-- two replays of w are blocked at letter i, on the net and on `held`, having left m and m′: each names the lowest place, the markings
+-- agree as the complement says, and the causes are tied
+pub record TiedBlock (net held : Net) (w m m′ : List ℕ) (i : ℕ) (why why′ : Cause) : Type 0 where
+  pub here : i < length w
+  pub markings : Related net m m′
+  pub named : Names net m (getD w i 0) why
+  pub named′ : Names held m′ (getD w i 0) why′
+  pub causes : Tied net why why′
+
+-- a net, a marking and a room for another in which no entry finds a fault
+pub record Ready (net : Net) (m room : List ℕ) : Type 0 where
+  pub sized : Sized net
+  pub marked : length m ≡ net .places
+  pub roomy : length room ≡ net .places
+  pub fine : Fine (net .caps) m
 
 -- rooms for a net of so many transitions and places
 pub record RoomsFor (transitions places : ℕ) (rooms : Rooms) : Type 0 where
