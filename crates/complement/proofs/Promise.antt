@@ -26,7 +26,7 @@ use Rattle.complement.specs.Held.{heldNet, OldPlace, NewPlace, CappedInO
 use Rattle.complement.specs.declared.ComplementPlaces.{ComplementPlaces}
 use Rattle.complement.specs.declared.ComplementPlaces.the-variants.{Places}
 use Rattle.complement.specs.declared.ComplementNet.{ComplementNet}
-use Rattle.complement.specs.declared.ComplementNet.the-variants.{Made, Refused}
+use Rattle.complement.specs.declared.ComplementNet.the-variants.{Made}
 use Rattle.complement.proofs.Choice.{chosen-has, chosen-order}
 use Rattle.complement.proofs.Entries.{pre-old, post-old, pre-new, post-new}
 use Rattle.complement.proofs.Meaning.{arc-from, arc-to, made-place, made-cap, answered-allowed, allowed-made, fine-within, starts-related, sized-stays, fine-stays, word-to, word-from, replay-same, places-answered-allowed, places-told}
@@ -45,6 +45,13 @@ made-in-order net =
       each = λ p h c. chosen-has (made net) 0 (net .places) p (record { from = zero-le; below = omega arith; passes = capped-made net p c });
       order = chosen-order (made net) 0 (net .places);
     }
+
+-- a replay that fired or is blocked is no refusal
+fired-answered : {s : Replay} (k : ℕ) → s ≡ Fired k → (n at : ℕ) → s ≡ NotReplayed n at → ⊥
+fired-answered k e n at q = let z : _≡_ {A = ℕ} 0 1 = cc in omega arith
+
+blocked-answered : {s : Replay} (i : ℕ) (why : Cause) → s ≡ Blocked i why → (n at : ℕ) → s ≡ NotReplayed n at → ⊥
+blocked-answered i why e n at q = let z : _≡_ {A = ℕ} 0 1 = cc in omega arith
 
 module _ (net : Net) (initial : List ℕ) (rooms : Rooms) (r : ComplementNet) (rooms′ : Rooms) (promise : Complemented net initial rooms r rooms′) (e : r ≡ Made) where
   -- what was lent was allowed
@@ -165,7 +172,7 @@ module _ (net : Net) (initial : List ℕ) (rooms : Rooms) (r : ComplementNet) (r
 
     -- one has fired the whole word exactly if the other has
     pub made-fired-same : (n : ℕ) → (s ≡ Fired n) ↔ (s″ ≡ Fired n)
-    made-fired-same n = (λ f. same (answered-inside (λ k at q. let z : _≡_ {A = ℕ} 0 1 = cc in omega arith)) .0 f, λ f. same (answered-inside″ (λ k at q. let z : _≡_ {A = ℕ} 0 1 = cc in omega arith)) .1 f)
+    made-fired-same n = (λ f. same (answered-inside (fired-answered n f)) .0 f, λ f. same (answered-inside″ (fired-answered n f)) .1 f)
       where
         same : within ≡ true → (s ≡ Fired n) ↔ (s″ ≡ Fired n)
         same q = replay-same net initial rooms made-allowed w room room″ long (long″ ∙ made-places) s s″ left left″ (on-net q) (on-complement q) n
@@ -173,12 +180,12 @@ module _ (net : Net) (initial : List ℕ) (rooms : Rooms) (r : ComplementNet) (r
     -- one is blocked exactly if the other is, at the same position, and their causes are tied
     pub made-blocked : (i : ℕ) (why : Cause) → s ≡ Blocked i why → (why″ : Cause) × (s″ ≡ Blocked i why″) × Tied net why why″
     made-blocked i why f =
-        let q = answered-inside (λ k at q. let z : _≡_ {A = ℕ} 0 1 = cc in omega arith) in
+        let q = answered-inside (blocked-answered i why f) in
         blocks-tied net initial rooms made-allowed w room room″ long (long″ ∙ made-places) s s″ left left″ (on-net q) (on-complement q) i why f
 
     pub made-blocked-only : (i : ℕ) (why″ : Cause) → s″ ≡ Blocked i why″ → (why : Cause) × (s ≡ Blocked i why) × Tied net why why″
     made-blocked-only i why″ f =
-        let q = answered-inside″ (λ k at q. let z : _≡_ {A = ℕ} 0 1 = cc in omega arith) in
+        let q = answered-inside″ (blocked-answered i why″ f) in
         blocks-tied-only net initial rooms made-allowed w room room″ long (long″ ∙ made-places) s s″ left left″ (on-net q) (on-complement q) i why″ f
 
     pub made-blocked-same : (i : ℕ) → ((why : Cause) × (s ≡ Blocked i why)) ↔ ((why″ : Cause) × (s″ ≡ Blocked i why″))
@@ -187,11 +194,11 @@ module _ (net : Net) (initial : List ℕ) (rooms : Rooms) (r : ComplementNet) (r
     -- of both blocks, all that 01 says of one, and what ties them
     pub made-block-means : (i : ℕ) (why why″ : Cause) → s ≡ Blocked i why → s″ ≡ Blocked i why″ → TiedBlock net (heldNet (net .transitions) rooms′) w left left″ i why why″
     made-block-means i why why″ f g =
-        let a = replayable net initial w within room s left p (λ k at q. let z : _≡_ {A = ℕ} 0 1 = cc in omega arith) in
-        let b = replayable (heldNet (net .transitions) rooms′) (rooms′ .initial) w within room″ s″ left″ p″ (λ k at q. let z : _≡_ {A = ℕ} 0 1 = cc in omega arith) in
+        let a = replayable net initial w within room s left p (blocked-answered i why f) in
+        let b = replayable (heldNet (net .transitions) rooms′) (rooms′ .initial) w within room″ s″ left″ p″ (blocked-answered i why″ g) in
         let c = blocked-cause net initial w within room s left p a i why f in
         let d = blocked-cause (heldNet (net .transitions) rooms′) (rooms′ .initial) w within room″ s″ left″ p″ b i why″ g in
-        record { here = c .0; markings = made-left-related (λ k at q. let z : _≡_ {A = ℕ} 0 1 = cc in omega arith); named = c .1; named′ = d .1; causes = go (made-blocked i why f) }
+        record { here = c .0; markings = made-left-related (blocked-answered i why f); named = c .1; named′ = d .1; causes = go (made-blocked i why f) }
       where
         go : (x : Cause) × (s″ ≡ Blocked i x) × Tied net why x → Tied net why why″
         go (x, h, t) = let y : x ≡ why″ = cc in rw y at t
