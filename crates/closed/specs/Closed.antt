@@ -39,3 +39,9 @@ pub record AllEnable (net : Net) (list : List ℕ) : Type 0 where
   pub transition : ℕ → ℕ
   pub named : (k : ℕ) → k < count (net .places) list → transition k < net .transitions
   pub enabled : (k : ℕ) → k < count (net .places) list → Enabled net (markingAt (net .places) list k) (transition k)
+
+-- "otherwise": a listed marking enables nothing. It need not be reachable: that is no stall of the line
+pub record DeadListed (net : Net) (list : List ℕ) : Type 0 where
+  pub number : ℕ
+  pub inside : number < count (net .places) list
+  pub enables-none : (t : ℕ) → t < net .transitions → Enabled net (markingAt (net .places) list number) t → ⊥

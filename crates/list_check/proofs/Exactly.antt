@@ -65,7 +65,7 @@ module _ (kind : Kind) (net : Net) (initial l : List ℕ) (fits : Bool) (next : 
 
 -- ---- a list alone
 module _ (kind : Kind) (net : Net) (initial l : List ℕ) where
-  allowed-of : givenFault kind net initial l true Sound ≡ Sound → ListAllowed kind net initial l
+  pub allowed-of : givenFault kind net initial l true Sound ≡ Sound → ListAllowed kind net initial l
   allowed-of e =
       let g = lent-of kind net initial l true Sound e in
       record {
@@ -118,7 +118,7 @@ module _ (kind : Kind) (net : Net) (initial l : List ℕ) where
 
 -- ---- a list with a target
 module _ (kind : Kind) (net : Net) (initial l m : List ℕ) where
-  aimed-of : givenFault kind net initial l (eqb (length m) (net .places)) (targetFault m) ≡ Sound → TargetAllowed kind net initial l m
+  pub aimed-of : givenFault kind net initial l (eqb (length m) (net .places)) (targetFault m) ≡ Sound → TargetAllowed kind net initial l m
   aimed-of e =
       let g = lent-of kind net initial l (eqb (length m) (net .places)) (targetFault m) e in
       record {
