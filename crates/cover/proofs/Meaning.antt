@@ -22,7 +22,8 @@ use Rattle.lists.proofs.Pairs.{accepted-looked, looked-accepted, looked-initial
 use Rattle.lists.proofs.Answers.{numbers-apart, claim-numbers-apart}
 use Rattle.list_check.specs.Given.{givenFault, listOf, targetOf}
 use Rattle.list_check.proofs.Refusals.{lent-of, accepted-sound, failed-sound}
-use Rattle.cover.specs.Cover.{ListCovers, CoverEnabled, IsCover, FirstMissing}
+use Rattle.cover.specs.Number.{Number, nat, any, listed, marking, CoversAt, Covers, after}
+use Rattle.cover.specs.Cover.{ListCovers, EnabledAt, IsCover, FirstMissing}
 use Rattle.cover.proofs.Covered.{of-covered, covered-of, uncovered-of, of-uncovered, holds-of, missing-of, of-holds, of-missing}
 
 -- `Allowed` is what 01 asks of all that is lent: of a list alone (`true`, `Sound`), or of a list with a target (`fits`, `next`)
@@ -50,23 +51,23 @@ module _ (net : Net) (initial l : List ℕ) (fits : Bool) (next : Fault) {Allowe
           (accepted-looked _ _ _ _ (of-covered (net .places) l initial (g .start) (c .starts))
           (λ k t hk ht. of-holds net l (g .ready) k hk t (c .holds k t hk) ht))
 
-  pub initial-missing-is : (listOf Cover net initial l fits next ≡ list.Failed InitialMissing) ↔ (Allowed × (ListCovers (net .places) l initial → ⊥))
+  pub initial-missing-is : (listOf Cover net initial l fits next ≡ list.Failed InitialMissing) ↔ (Allowed × (ListCovers (net .places) l (marking initial) → ⊥))
   unfolding listOf
   initial-missing-is = (there, λ h. back (sound .1 (h .0)) (h .1))
     where
-      there : listOf Cover net initial l fits next ≡ list.Failed InitialMissing → Allowed × (ListCovers (net .places) l initial → ⊥)
+      there : listOf Cover net initial l fits next ≡ list.Failed InitialMissing → Allowed × (ListCovers (net .places) l (marking initial) → ⊥)
       there q =
           let a = failed-sound Cover net initial l fits next InitialMissing q in
           (sound .0 (a .0), uncovered-of (net .places) l initial (lent-of Cover net initial l fits next (a .0) .start) (looked-initial _ _ _ _ (a .1)))
 
-      back : givenFault Cover net initial l fits next ≡ Sound → (ListCovers (net .places) l initial → ⊥) → listOf Cover net initial l fits next ≡ list.Failed InitialMissing
+      back : givenFault Cover net initial l fits next ≡ Sound → (ListCovers (net .places) l (marking initial) → ⊥) → listOf Cover net initial l fits next ≡ list.Failed InitialMissing
       back q h = rw q (initial-looked _ _ _ _ (of-uncovered (net .places) l initial (lent-of Cover net initial l fits next q .start) h))
 
-  pub result-missing-is : (k t : ℕ) → (listOf Cover net initial l fits next ≡ list.Failed (ResultMissing k t)) ↔ (Allowed × (ListCovers (net .places) l initial × FirstMissing net l k t))
+  pub result-missing-is : (k t : ℕ) → (listOf Cover net initial l fits next ≡ list.Failed (ResultMissing k t)) ↔ (Allowed × (ListCovers (net .places) l (marking initial) × FirstMissing net l k t))
   unfolding listOf
   result-missing-is k t = (there, λ h. back (sound .1 (h .0)) (h .1 .0) (h .1 .1))
     where
-      there : listOf Cover net initial l fits next ≡ list.Failed (ResultMissing k t) → Allowed × (ListCovers (net .places) l initial × FirstMissing net l k t)
+      there : listOf Cover net initial l fits next ≡ list.Failed (ResultMissing k t) → Allowed × (ListCovers (net .places) l (marking initial) × FirstMissing net l k t)
       there q =
           let a = failed-sound Cover net initial l fits next (ResultMissing k t) q in
           let g = lent-of Cover net initial l fits next (a .0) in
@@ -86,7 +87,7 @@ module _ (net : Net) (initial l : List ℕ) (fits : Bool) (next : Fault) {Allowe
             ),
           )
 
-      back : givenFault Cover net initial l fits next ≡ Sound → ListCovers (net .places) l initial → FirstMissing net l k t → listOf Cover net initial l fits next ≡ list.Failed (ResultMissing k t)
+      back : givenFault Cover net initial l fits next ≡ Sound → ListCovers (net .places) l (marking initial) → FirstMissing net l k t → listOf Cover net initial l fits next ≡ list.Failed (ResultMissing k t)
       back q s f =
           let g = lent-of Cover net initial l fits next q in
           rw q
@@ -99,18 +100,37 @@ module _ (net : Net) (initial l : List ℕ) (fits : Bool) (next : Fault) {Allowe
             earlier = λ j u h hu. of-holds net l (g .ready) j (omega (arith, f .inside)) u (f .earlier j u h) hu;
           }))
 
+-- "covers" carries on, and a fuller place stays fuller under firing
+covers-on : (x y z : Number) → CoversAt x y → CoversAt y z → CoversAt x z
+covers-on any y z h k = tt
+covers-on (nat a) (nat b) (nat c) h k = omega arith
+covers-on (nat a) (nat b) any h k = absurd k
+covers-on (nat a) any z h k = absurd h
+
+pub covers-through : {P : ℕ} {x y z : ℕ → Number} → Covers P x y → Covers P y z → Covers P x z
+covers-through {P} {x} {y} {z} h k = record { at = λ p b. covers-on (x p) (y p) (z p) (h .at p b) (k .at p b) }
+
+fuller-after : (takes puts n k : ℕ) (x : Number) → CoversAt x (nat n) → takes ≤ n → k + takes ≡ n + puts → CoversAt (after takes puts x) (nat k)
+fuller-after takes puts n k (nat a) h e q = omega arith
+fuller-after takes puts n k any h e q = tt
+
 -- every marking reachable in the net with its capacities is covered by a listed one: capacities only disable
-pub cover-covers : {net : Net} {initial l m : List ℕ} → IsCover net initial l → Reachable net initial m → ListCovers (net .places) l m
-cover-covers {net} {initial} {l} {m} c r = reachable-has net (λ (x : List ℕ). ListCovers (net .places) l x) step r (c .starts)
+pub cover-covers : {net : Net} {initial l m : List ℕ} → IsCover net initial l → Reachable net initial m → ListCovers (net .places) l (marking m)
+cover-covers {net} {initial} {l} {m} c r = reachable-has net (λ (x : List ℕ). ListCovers (net .places) l (marking x)) step r (c .starts)
   where
-    step : (x y : List ℕ) (t : ℕ) → Firing net x t y → ListCovers (net .places) l x → ListCovers (net .places) l y
+    step : (x y : List ℕ) (t : ℕ) → Firing net x t y → ListCovers (net .places) l (marking x) → ListCovers (net .places) l (marking y)
     step x y t f h =
-        let a : CoverEnabled net (markingAt (net .places) l (h .number)) t = record { named = f .named; enough = λ p b q. omega (arith, f .enabled .covers p b, h .covers .at p b q) } in
+        let a : EnabledAt net l (h .number) t = record { named = f .named; enough = covers-through (h .covers) (record { at = f .enabled .covers }) } in
         let d = c .holds (h .number) t (h .inside) a in
         record {
           number = d .number;
           inside = d .inside;
-          covers = record { at = λ p b q. omega (arith, gives-plain (f .gives) p b, h .covers .at p b (d .covers .number p b q), d .covers .at p b q) };
+          covers =
+              covers-through (d .covers)
+              (record {
+                at = λ p b.
+                    fuller-after (Pre net p t) (Post net p t) (tokens x p) (tokens y p) (listed (markingAt (net .places) l (h .number)) p) (h .covers .at p b) (f .enabled .covers p b) (gives-plain (f .gives) p b);
+              });
         }
 
 -- each promise fixes its answer
