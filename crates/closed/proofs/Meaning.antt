@@ -47,7 +47,7 @@ module _ (net : Net) (initial l : List ℕ) (fits : Bool) (next : Fault) {Allowe
             sound .0 (a .0),
             record {
               starts = listed-of (net .places) l initial (g .ready .long) (g .start) (k .0);
-              holds = λ j t m′ h f. holds-of net l (g .ready) j h t (k .1 j t h (f .named)) m′ f;
+              holds = λ j t h m′ f. holds-of net l (g .ready) j h t (k .1 j t h (f .named)) m′ f;
             },
           )
 
@@ -56,7 +56,7 @@ module _ (net : Net) (initial l : List ℕ) (fits : Bool) (next : Fault) {Allowe
           let g = lent-of Closed net initial l fits next q in
           rw q
           (accepted-looked _ _ _ _ (of-listed (net .places) l initial (c .starts))
-          (λ k t hk ht. of-holds net l (g .ready) k hk t (λ m′ f. c .holds k t m′ hk f) ht))
+          (λ k t hk ht. of-holds net l (g .ready) k hk t (c .holds k t hk) ht))
 
   pub initial-missing-is : (listOf Closed net initial l fits next ≡ list.Failed InitialMissing) ↔ (Allowed × (Listed (net .places) l initial → ⊥))
   unfolding listOf
@@ -113,7 +113,7 @@ module _ (net : Net) (initial l : List ℕ) (fits : Bool) (next : Fault) {Allowe
 -- "From an accepted list, a target not listed is never reached": every reachable marking is listed
 pub closed-reaches : {net : Net} {initial l m : List ℕ} → IsClosed net initial l → Reachable net initial m → Listed (net .places) l m
 closed-reaches {net} {initial} {l} {m} c r =
-    reachable-has net (λ (x : List ℕ). Listed (net .places) l x) (λ x y t f h. c .holds (h .number) t y (h .inside) (rw (h .is) f)) r (c .starts)
+    reachable-has net (λ (x : List ℕ). Listed (net .places) l x) (λ x y t f h. c .holds (h .number) t (h .inside) y (rw (h .is) f)) r (c .starts)
 
 -- a marking with more tokens than may be given is in no list that is allowed: results are never cut to 16 bits
 pub large-absent : {net : Net} {initial l : List ℕ} (m : List ℕ) (p : ℕ) → ListAllowed Closed net initial l → tokenLimit < tokens m p → Listed (net .places) l m → ⊥
@@ -137,9 +137,9 @@ pub repeats-harmless : {net : Net} {initial l l′ : List ℕ} → ((m : List �
 repeats-harmless {net} {initial} {l} {l′} same c =
     record {
       starts = same initial .0 (c .starts);
-      holds = λ k t m′ h f.
+      holds = λ k t h m′ f.
           let x = same (markingAt (net .places) l′ k) .1 (record { number = k; inside = h; is = refl }) in
-          same m′ .0 (c .holds (x .number) t m′ (x .inside) (rw (x .is) f));
+          same m′ .0 (c .holds (x .number) t (x .inside) m′ (rw (x .is) f));
     }
 
 -- each promise fixes its answer

@@ -21,9 +21,9 @@ use Rattle.lists.specs.declared.ClaimAnswer.{ClaimAnswer}
 use Rattle.lists.specs.declared.ClaimAnswer.the-variants as claim
 use Rattle.lists.proofs.Answers.{numbers-apart, claim-numbers-apart, shown-is, open-is, failed-is}
 use Rattle.list_check.specs.Look.{Ready}
-use Rattle.list_check.specs.Given.{givenFault, listOf, targetOf}
+use Rattle.list_check.specs.Given.{listOf, targetOf}
 use Rattle.list_check.specs.Allowed.{ListAllowed, TargetAllowed}
-use Rattle.list_check.proofs.Exactly.{allowed-of, of-allowed, aimed-of, of-aimed}
+use Rattle.list_check.proofs.Exactly.{list-sound, target-sound}
 use Rattle.list_check.proofs.Refusals.{lent-of}
 use Rattle.closed.specs.Closed.{Listed, IsClosed, FirstMissing, AllEnable, DeadListed}
 use Rattle.closed.specs.Dead.{someDead}
@@ -31,16 +31,9 @@ use Rattle.closed.specs.Stall.{stallOf}
 use Rattle.closed.proofs.Listed.{of-listed, listed-of, unlisted-of, of-unlisted, all-enable, dead-of, of-dead, of-enabling}
 use Rattle.closed.proofs.Meaning.{accepted-is, initial-missing-is, result-missing-is, closed-reaches, above-absent}
 
--- what is allowed is not refused, and what is not refused is allowed
-module _ (net : Net) (initial l : List ℕ) where
-  list-sound : (givenFault Closed net initial l true Sound ≡ Sound) ↔ ListAllowed Closed net initial l
-  list-sound = (allowed-of Closed net initial l, of-allowed Closed net initial l)
-
-  target-sound : (m : List ℕ) → (givenFault Closed net initial l (eqb (length m) (net .places)) (targetFault m) ≡ Sound) ↔ TargetAllowed Closed net initial l m
-  target-sound m = (aimed-of Closed net initial l m, of-aimed Closed net initial l m)
-
-  list-ready : ListAllowed Closed net initial l → Ready net (count (net .places) l) l
-  list-ready a = lent-of Closed net initial l true Sound (of-allowed Closed net initial l a) .ready
+-- what is allowed is lent as the laws ask
+list-ready : (net : Net) (initial l : List ℕ) → ListAllowed Closed net initial l → Ready net (count (net .places) l) l
+list-ready net initial l a = lent-of Closed net initial l true Sound (list-sound Closed net initial l .1 a) .ready
 
 -- `closed_list`
 module _ (net : Net) (initial l : List ℕ) (r : ListAnswer) (promise : numbers r ≡ numbers (listOf Closed net initial l true Sound)) where
@@ -49,7 +42,7 @@ module _ (net : Net) (initial l : List ℕ) (r : ListAnswer) (promise : numbers 
 
   -- accepted if it meets its definition, and only then
   pub accepted-exactly : (r ≡ list.Accepted) ↔ (ListAllowed Closed net initial l × IsClosed net initial l)
-  accepted-exactly = rw list-is (accepted-is net initial l true Sound (list-sound net initial l))
+  accepted-exactly = rw list-is (accepted-is net initial l true Sound (list-sound Closed net initial l))
 
   -- "a marking missing from an accepted closed list is never met" from the initial marking
   pub accepted-never-reached : r ≡ list.Accepted → (m : List ℕ) → (Listed (net .places) l m → ⊥) → Reachable net initial m → ⊥
@@ -57,11 +50,11 @@ module _ (net : Net) (initial l : List ℕ) (r : ListAnswer) (promise : numbers 
 
   -- "A failure is: initial missing"
   pub initial-missing-exactly : (r ≡ list.Failed InitialMissing) ↔ (ListAllowed Closed net initial l × (Listed (net .places) l initial → ⊥))
-  initial-missing-exactly = rw list-is (initial-missing-is net initial l true Sound (list-sound net initial l))
+  initial-missing-exactly = rw list-is (initial-missing-is net initial l true Sound (list-sound Closed net initial l))
 
   -- "else the first listed marking, and in it the lowest transition, whose result is absent"
   pub result-missing-exactly : (k t : ℕ) → (r ≡ list.Failed (ResultMissing k t)) ↔ (ListAllowed Closed net initial l × (Listed (net .places) l initial × FirstMissing net l k t))
-  result-missing-exactly k t = rw list-is (result-missing-is net initial l true Sound (list-sound net initial l) k t)
+  result-missing-exactly k t = rw list-is (result-missing-is net initial l true Sound (list-sound Closed net initial l) k t)
 
 -- `closed_target`
 module _ (net : Net) (initial l m : List ℕ) (r : ClaimAnswer) (promise : claimNumbers r ≡ claimNumbers (targetOf Closed net initial l m)) where
@@ -72,7 +65,7 @@ module _ (net : Net) (initial l m : List ℕ) (r : ClaimAnswer) (promise : claim
   pub target-shown-exactly : (r ≡ claim.Shown) ↔ (TargetAllowed Closed net initial l m × (IsClosed net initial l × (Listed (net .places) l m → ⊥)))
   target-shown-exactly =
       rw target-is
-      (shown-is _ _ (accepted-is net initial l (eqb (length m) (net .places)) (targetFault m) (target-sound net initial l m))
+      (shown-is _ _ (accepted-is net initial l (eqb (length m) (net .places)) (targetFault m) (target-sound Closed net initial l m))
       (λ a. (unlisted-of (net .places) l m, of-unlisted (net .places) l m (list-ready net initial l (a .listed) .long) (a .long))))
 
   -- and then it is so
@@ -83,15 +76,15 @@ module _ (net : Net) (initial l m : List ℕ) (r : ClaimAnswer) (promise : claim
   pub target-open-exactly : (r ≡ claim.NotShown) ↔ (TargetAllowed Closed net initial l m × (IsClosed net initial l × Listed (net .places) l m))
   target-open-exactly =
       rw target-is
-      (open-is _ _ (accepted-is net initial l (eqb (length m) (net .places)) (targetFault m) (target-sound net initial l m))
+      (open-is _ _ (accepted-is net initial l (eqb (length m) (net .places)) (targetFault m) (target-sound Closed net initial l m))
       (λ a. (listed-of (net .places) l m (list-ready net initial l (a .listed) .long) (a .long), of-listed (net .places) l m)))
 
   -- a list that is not closed answers by its failure
   pub target-initial-missing-exactly : (r ≡ claim.Failed InitialMissing) ↔ (TargetAllowed Closed net initial l m × (Listed (net .places) l initial → ⊥))
-  target-initial-missing-exactly = rw target-is (failed-is _ _ InitialMissing (initial-missing-is net initial l (eqb (length m) (net .places)) (targetFault m) (target-sound net initial l m)))
+  target-initial-missing-exactly = rw target-is (failed-is _ _ InitialMissing (initial-missing-is net initial l (eqb (length m) (net .places)) (targetFault m) (target-sound Closed net initial l m)))
 
   pub target-result-missing-exactly : (k t : ℕ) → (r ≡ claim.Failed (ResultMissing k t)) ↔ (TargetAllowed Closed net initial l m × (Listed (net .places) l initial × FirstMissing net l k t))
-  target-result-missing-exactly k t = rw target-is (failed-is _ _ (ResultMissing k t) (result-missing-is net initial l (eqb (length m) (net .places)) (targetFault m) (target-sound net initial l m) k t))
+  target-result-missing-exactly k t = rw target-is (failed-is _ _ (ResultMissing k t) (result-missing-is net initial l (eqb (length m) (net .places)) (targetFault m) (target-sound Closed net initial l m) k t))
 
   -- a target above capacity may be asked, and is shown to be never reached
   pub above-capacity-shown : TargetAllowed Closed net initial l m → IsClosed net initial l → (p : ℕ) → p < net .places → capacity net p < tokens m p → r ≡ claim.Shown
@@ -106,7 +99,7 @@ module _ (net : Net) (initial l : List ℕ) (r : ClaimAnswer) (promise : claimNu
   pub stall-shown-exactly : (r ≡ claim.Shown) ↔ (ListAllowed Closed net initial l × (IsClosed net initial l × AllEnable net l))
   stall-shown-exactly =
       rw stall-is
-      (shown-is _ _ (accepted-is net initial l true Sound (list-sound net initial l))
+      (shown-is _ _ (accepted-is net initial l true Sound (list-sound Closed net initial l))
       (λ a. (all-enable net l (list-ready net initial l a), of-enabling net l (list-ready net initial l a))))
 
   -- and then it is so: every reachable marking enables a transition
@@ -121,12 +114,12 @@ module _ (net : Net) (initial l : List ℕ) (r : ClaimAnswer) (promise : claimNu
   pub stall-open-exactly : (r ≡ claim.NotShown) ↔ (ListAllowed Closed net initial l × (IsClosed net initial l × DeadListed net l))
   stall-open-exactly =
       rw stall-is
-      (open-is _ _ (accepted-is net initial l true Sound (list-sound net initial l))
+      (open-is _ _ (accepted-is net initial l true Sound (list-sound Closed net initial l))
       (λ a. (dead-of net l (list-ready net initial l a), of-dead net l (list-ready net initial l a))))
 
   -- a list that is not closed answers by its failure
   pub stall-initial-missing-exactly : (r ≡ claim.Failed InitialMissing) ↔ (ListAllowed Closed net initial l × (Listed (net .places) l initial → ⊥))
-  stall-initial-missing-exactly = rw stall-is (failed-is _ _ InitialMissing (initial-missing-is net initial l true Sound (list-sound net initial l)))
+  stall-initial-missing-exactly = rw stall-is (failed-is _ _ InitialMissing (initial-missing-is net initial l true Sound (list-sound Closed net initial l)))
 
   pub stall-result-missing-exactly : (k t : ℕ) → (r ≡ claim.Failed (ResultMissing k t)) ↔ (ListAllowed Closed net initial l × (Listed (net .places) l initial × FirstMissing net l k t))
-  stall-result-missing-exactly k t = rw stall-is (failed-is _ _ (ResultMissing k t) (result-missing-is net initial l true Sound (list-sound net initial l) k t))
+  stall-result-missing-exactly k t = rw stall-is (failed-is _ _ (ResultMissing k t) (result-missing-is net initial l true Sound (list-sound Closed net initial l) k t))

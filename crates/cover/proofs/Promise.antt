@@ -19,21 +19,13 @@ use Rattle.lists.specs.declared.ListAnswer.the-variants as list
 use Rattle.lists.specs.declared.ClaimAnswer.{ClaimAnswer}
 use Rattle.lists.specs.declared.ClaimAnswer.the-variants as claim
 use Rattle.lists.proofs.Answers.{numbers-apart, claim-numbers-apart, shown-is, open-is, failed-is}
-use Rattle.list_check.specs.Given.{givenFault, listOf, targetOf}
+use Rattle.list_check.specs.Given.{listOf, targetOf}
 use Rattle.list_check.specs.Allowed.{ListAllowed, TargetAllowed}
-use Rattle.list_check.proofs.Exactly.{allowed-of, of-allowed, aimed-of, of-aimed}
+use Rattle.list_check.proofs.Exactly.{list-sound, target-sound}
 use Rattle.cover.specs.Number.{marking}
 use Rattle.cover.specs.Cover.{Coverable, ListCovers, IsCover, FirstMissing}
 use Rattle.cover.proofs.Covered.{of-covered, covered-of, uncovered-of, of-uncovered}
 use Rattle.cover.proofs.Meaning.{accepted-is, initial-missing-is, result-missing-is, covers-through, cover-covers}
-
--- what is allowed is not refused, and what is not refused is allowed
-module _ (net : Net) (initial l : List ℕ) where
-  list-sound : (givenFault Cover net initial l true Sound ≡ Sound) ↔ ListAllowed Cover net initial l
-  list-sound = (allowed-of Cover net initial l, of-allowed Cover net initial l)
-
-  target-sound : (m : List ℕ) → (givenFault Cover net initial l (eqb (length m) (net .places)) (targetFault m) ≡ Sound) ↔ TargetAllowed Cover net initial l m
-  target-sound m = (aimed-of Cover net initial l m, of-aimed Cover net initial l m)
 
 -- `cover_list`
 module _ (net : Net) (initial l : List ℕ) (r : ListAnswer) (promise : numbers r ≡ numbers (listOf Cover net initial l true Sound)) where
@@ -42,7 +34,7 @@ module _ (net : Net) (initial l : List ℕ) (r : ListAnswer) (promise : numbers 
 
   -- accepted if it meets its definition, and only then
   pub accepted-exactly : (r ≡ list.Accepted) ↔ (ListAllowed Cover net initial l × IsCover net initial l)
-  accepted-exactly = rw list-is (accepted-is net initial l true Sound (list-sound net initial l))
+  accepted-exactly = rw list-is (accepted-is net initial l true Sound (list-sound Cover net initial l))
 
   -- every marking reachable in the net with its capacities is covered by a marking of an accepted list
   pub accepted-covers : r ≡ list.Accepted → (m : List ℕ) → Reachable net initial m → ListCovers (net .places) l (marking m)
@@ -50,11 +42,11 @@ module _ (net : Net) (initial l : List ℕ) (r : ListAnswer) (promise : numbers 
 
   -- "A failure is named as for a closed list": initial missing
   pub initial-missing-exactly : (r ≡ list.Failed InitialMissing) ↔ (ListAllowed Cover net initial l × (ListCovers (net .places) l (marking initial) → ⊥))
-  initial-missing-exactly = rw list-is (initial-missing-is net initial l true Sound (list-sound net initial l))
+  initial-missing-exactly = rw list-is (initial-missing-is net initial l true Sound (list-sound Cover net initial l))
 
   -- else the first listed marking, and in it the lowest transition, whose result is not covered
   pub result-missing-exactly : (k t : ℕ) → (r ≡ list.Failed (ResultMissing k t)) ↔ (ListAllowed Cover net initial l × (ListCovers (net .places) l (marking initial) × FirstMissing net l k t))
-  result-missing-exactly k t = rw list-is (result-missing-is net initial l true Sound (list-sound net initial l) k t)
+  result-missing-exactly k t = rw list-is (result-missing-is net initial l true Sound (list-sound Cover net initial l) k t)
 
 -- `cover_target`
 module _ (net : Net) (initial l m : List ℕ) (r : ClaimAnswer) (promise : claimNumbers r ≡ claimNumbers (targetOf Cover net initial l m)) where
@@ -65,7 +57,7 @@ module _ (net : Net) (initial l m : List ℕ) (r : ClaimAnswer) (promise : claim
   pub target-shown-exactly : (r ≡ claim.Shown) ↔ (TargetAllowed Cover net initial l m × (IsCover net initial l × (ListCovers (net .places) l (marking m) → ⊥)))
   target-shown-exactly =
       rw target-is
-      (shown-is _ _ (accepted-is net initial l (eqb (length m) (net .places)) (targetFault m) (target-sound net initial l m))
+      (shown-is _ _ (accepted-is net initial l (eqb (length m) (net .places)) (targetFault m) (target-sound Cover net initial l m))
       (λ a. (uncovered-of (net .places) l m (a .long), of-uncovered (net .places) l m (a .long))))
 
   -- and then it is so: no reachable marking covers it
@@ -79,12 +71,12 @@ module _ (net : Net) (initial l m : List ℕ) (r : ClaimAnswer) (promise : claim
   pub target-open-exactly : (r ≡ claim.NotShown) ↔ (TargetAllowed Cover net initial l m × (IsCover net initial l × ListCovers (net .places) l (marking m)))
   target-open-exactly =
       rw target-is
-      (open-is _ _ (accepted-is net initial l (eqb (length m) (net .places)) (targetFault m) (target-sound net initial l m))
+      (open-is _ _ (accepted-is net initial l (eqb (length m) (net .places)) (targetFault m) (target-sound Cover net initial l m))
       (λ a. (covered-of (net .places) l m (a .long), of-covered (net .places) l m (a .long))))
 
   -- a list that is no cover list answers by its failure
   pub target-initial-missing-exactly : (r ≡ claim.Failed InitialMissing) ↔ (TargetAllowed Cover net initial l m × (ListCovers (net .places) l (marking initial) → ⊥))
-  target-initial-missing-exactly = rw target-is (failed-is _ _ InitialMissing (initial-missing-is net initial l (eqb (length m) (net .places)) (targetFault m) (target-sound net initial l m)))
+  target-initial-missing-exactly = rw target-is (failed-is _ _ InitialMissing (initial-missing-is net initial l (eqb (length m) (net .places)) (targetFault m) (target-sound Cover net initial l m)))
 
   pub target-result-missing-exactly : (k t : ℕ) → (r ≡ claim.Failed (ResultMissing k t)) ↔ (TargetAllowed Cover net initial l m × (ListCovers (net .places) l (marking initial) × FirstMissing net l k t))
-  target-result-missing-exactly k t = rw target-is (failed-is _ _ (ResultMissing k t) (result-missing-is net initial l (eqb (length m) (net .places)) (targetFault m) (target-sound net initial l m) k t))
+  target-result-missing-exactly k t = rw target-is (failed-is _ _ (ResultMissing k t) (result-missing-is net initial l (eqb (length m) (net .places)) (targetFault m) (target-sound Cover net initial l m) k t))

@@ -12,16 +12,16 @@ pub record Coverable (net : Net) (initial m : List ℕ) : Type 0 where
   pub reachable : Reachable net initial reached
   pub covers : Covers (net .places) (marking reached) (marking m)
 
--- what t takes
+-- what t takes: 001's t⁻
 abbrev pub taken : Net → ℕ → ℕ → Number
 taken net t p = nat (Pre net p t)
 
--- t is enabled at the ω-marking x: x covers what t takes. "Capacities are ignored there."
+-- "t is enabled at m iff t⁻ ≤ m" (001): the ω-marking x covers what t takes. "Capacities are ignored there."
 pub record CoverEnabled (net : Net) (x : ℕ → Number) (t : ℕ) : Type 0 where
   pub named : t < net .transitions
   pub enough : Covers (net .places) x (taken net t)
 
--- and its result there
+-- and its result there, "m′ = m + Δt"
 abbrev pub resultAt : Net → ℕ → (ℕ → Number) → ℕ → Number
 resultAt net t x p = after (Pre net p t) (Post net p t) (x p)
 
