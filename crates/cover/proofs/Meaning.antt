@@ -1,13 +1,14 @@
 -- What the answers to a cover list say of the published relation, whatever follows the list, and that each promise fixes its answer. From each
 -- entry's promise it is said in Promise.antt. Assumes nothing.
-use Prim.Native.Nat.{ℕ, _+_, _≤_, _<_}
-use mathlib.Core.Path.{_≡_, sym, _∙_}
+use Prim.Native.Nat.{ℕ, _+_, _-_, _≤_, _<_}
+use mathlib.Core.Path.{_≡_, sym, ap, _∙_}
 use mathlib.Core.Bool.{Bool, true}
 use mathlib.Core.List.{List}
 use mathlib.Core.Logic.{_↔_}
 use native.Mathlib.Omega.{arith}
 use Rattle.net.specs.Net.{Net, Pre, Post, tokens}
-use Rattle.net.specs.Firing.{Firing, Reachable}
+use Rattle.net.specs.Firing as firing
+use Rattle.net.specs.Firing.{Gives, Firing, Reachable}
 use Rattle.net.specs.declared.Fault.{Fault}
 use Rattle.net.specs.declared.Fault.the-variants.{Sound}
 use Rattle.net.proofs.Meaning.{gives-plain, reachable-has}
@@ -23,7 +24,7 @@ use Rattle.lists.proofs.Answers.{numbers-apart, claim-numbers-apart}
 use Rattle.list_check.specs.Given.{givenFault, listOf, targetOf}
 use Rattle.list_check.proofs.Refusals.{lent-of, accepted-sound, failed-sound}
 use Rattle.cover.specs.Number.{Number, nat, any, listed, marking, CoversAt, Covers, after}
-use Rattle.cover.specs.Cover.{ListCovers, EnabledAt, IsCover, FirstMissing}
+use Rattle.cover.specs.Cover.{CoverEnabled, resultAt, ListCovers, EnabledAt, IsCover, FirstMissing}
 use Rattle.cover.proofs.Covered.{of-covered, covered-of, uncovered-of, of-uncovered, holds-of, missing-of, of-holds, of-missing}
 
 -- `Allowed` is what 01 asks of all that is lent: of a list alone (`true`, `Sound`), or of a list with a target (`fits`, `next`)
@@ -99,6 +100,15 @@ module _ (net : Net) (initial l : List ℕ) (fits : Bool) (next : Fault) {Allowe
             lower = λ u h. of-holds net l (g .ready) k (f .inside) u (f .lower u h) (omega (arith, f .able .named));
             earlier = λ j u h hu. of-holds net l (g .ready) j (omega (arith, f .inside)) u (f .earlier j u h) hu;
           }))
+
+-- at a marking, which has no ω, enabled and the result are the published ones without the capacity rule
+pub enabled-at-marking : (net : Net) (m : List ℕ) (t : ℕ) → CoverEnabled net (marking m) t ↔ ((t < net .transitions) × ((p : ℕ) → p < net .places → firing.Covers net m t p))
+enabled-at-marking net m t = (λ a. (a .named, a .enough .at), λ h. record { named = h .0; enough = record { at = h .1 } })
+
+pub result-at-marking : (net : Net) (m m′ : List ℕ) (t : ℕ) → CoverEnabled net (marking m) t → Gives net m t m′ → (p : ℕ) → p < net .places → resultAt net t (marking m) p ≡ marking m′ p
+result-at-marking net m m′ t a g p h =
+    let e : tokens m p + Post net p t - Pre net p t ≡ tokens m′ p = omega (arith, gives-plain g p h, a .enough .at p h) in
+    ap nat e
 
 -- "covers" carries on, and a fuller place stays fuller under firing
 covers-on : (x y z : Number) → CoversAt x y → CoversAt y z → CoversAt x z
