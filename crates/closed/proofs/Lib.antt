@@ -1,3 +1,5 @@
 pub mod Deads
+pub mod Listed
 pub mod Meaning
 pub mod Exactly
+pub mod Promise

@@ -16,14 +16,14 @@ pub record Listed (P : ℕ) (list m : List ℕ) : Type 0 where
 abbrev pub FiringAt : Net → List ℕ → ℕ → ℕ → List ℕ → Type 0
 FiringAt net list k t m′ = Firing net (markingAt (net .places) list k) t m′
 
--- "A closed list is accepted if it holds the initial marking and, for each listed marking and each transition enabled there, the result."
-pub record IsClosed (net : Net) (initial list : List ℕ) : Type 0 where
-  pub starts : Listed (net .places) list initial
-  pub holds : (k t : ℕ) (m′ : List ℕ) → k < count (net .places) list → FiringAt net list k t m′ → Listed (net .places) list m′
-
 -- t is not enabled at marking number k, or its result is listed
 abbrev pub EnabledResultListed : Net → List ℕ → ℕ → ℕ → Type 0
 EnabledResultListed net list k t = (m′ : List ℕ) → FiringAt net list k t m′ → Listed (net .places) list m′
+
+-- "A closed list is accepted if it holds the initial marking and, for each listed marking and each transition enabled there, the result."
+pub record IsClosed (net : Net) (initial list : List ℕ) : Type 0 where
+  pub starts : Listed (net .places) list initial
+  pub holds : (k t : ℕ) → k < count (net .places) list → EnabledResultListed net list k t
 
 -- "the first listed marking, and in it the lowest transition, whose result is absent"
 pub record FirstMissing (net : Net) (list : List ℕ) (k t : ℕ) : Type 0 where
@@ -39,3 +39,9 @@ pub record AllEnable (net : Net) (list : List ℕ) : Type 0 where
   pub transition : ℕ → ℕ
   pub named : (k : ℕ) → k < count (net .places) list → transition k < net .transitions
   pub enabled : (k : ℕ) → k < count (net .places) list → Enabled net (markingAt (net .places) list k) (transition k)
+
+-- "otherwise": a listed marking enables nothing. It need not be reachable: that is no stall of the line
+pub record DeadListed (net : Net) (list : List ℕ) : Type 0 where
+  pub number : ℕ
+  pub inside : number < count (net .places) list
+  pub enables-none : (t : ℕ) → t < net .transitions → Enabled net (markingAt (net .places) list number) t → ⊥

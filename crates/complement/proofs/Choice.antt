@@ -59,6 +59,18 @@ module _ (f : ℕ → Bool) where
       go false e (inl q) ih = never (sym (c .passes) ∙ rw (← q) e)
       go false e (inr h) ih = rw e (ih (later h))
 
+  -- they ascend
+  pub chosen-order : (p n i j : ℕ) → i < j → j < length (chosenFrom f p n) → getD (chosenFrom f p n) i 0 < getD (chosenFrom f p n) j 0
+  unfolding chosenFrom
+  chosen-order p zero i j h l = absurd (not-suc-le-zero l)
+  chosen-order p (suc n) i j h l = go (f p) i j (chosen-order (suc p) n) h l
+    where
+      go : (b : Bool) (i j : ℕ) → ((i j : ℕ) → i < j → j < length (chosenFrom f (suc p) n) → getD (chosenFrom f (suc p) n) i 0 < getD (chosenFrom f (suc p) n) j 0) → i < j → j < length (cond b (p ∷ chosenFrom f (suc p) n) (chosenFrom f (suc p) n)) → getD (cond b (p ∷ chosenFrom f (suc p) n) (chosenFrom f (suc p) n)) i 0 < getD (cond b (p ∷ chosenFrom f (suc p) n) (chosenFrom f (suc p) n)) j 0
+      go true i zero ih h l = absurd (not-suc-le-zero h)
+      go true zero (suc j) ih h l = chosen-is (suc p) n j (le-of-suc-le-suc l) .from
+      go true (suc i) (suc j) ih h l = ih i j (le-of-suc-le-suc h) (le-of-suc-le-suc l)
+      go false i j ih h l = ih i j h l
+
   -- two functions that agree at the numbers agree over the chosen ones
   pub chosen-map : (g h : ℕ → ℕ) (p n : ℕ) → ((k : ℕ) → k < p + n → g k ≡ h k) → map g (chosenFrom f p n) ≡ map h (chosenFrom f p n)
   unfolding chosenFrom

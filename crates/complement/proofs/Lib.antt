@@ -3,3 +3,5 @@ pub mod Written
 pub mod Answers
 pub mod Entries
 pub mod Meaning
+pub mod Blocks
+pub mod Promise

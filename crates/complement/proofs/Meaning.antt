@@ -47,11 +47,11 @@ pub arc-to : (net : Net) (p t : ℕ) → fall net p t ≡ dn (Change net p t)
 arc-to net p t = let d = ap dn (minus-is (Post net p t) (Pre net p t)) ∙ dn-sub (Post net p t) (Pre net p t) in omega (arith, d)
 
 -- place q of the complement net: an old one, or the new place number j
-data Place (net : Net) (q : ℕ) : Type 0 where
+pub data Place (net : Net) (q : ℕ) : Type 0 where
   old : q < net .places → Place net q
   new : (j : ℕ) → j < length (madePlaces net) → q ≡ net .places + j → Place net q
 
-place : (net : Net) (q : ℕ) → q < complementPlaces net → Place net q
+pub place : (net : Net) (q : ℕ) → q < complementPlaces net → Place net q
 place net q h = go (decLt q (net .places))
   where
     go : Dec (q < net .places) → Place net q
@@ -60,10 +60,10 @@ place net q h = go (decLt q (net .places))
 
 -- the place that new place j stands for is one of the net's, and has a capacity
 module _ (net : Net) (j : ℕ) (h : j < length (madePlaces net)) where
-  made-place : getD (madePlaces net) j 0 < net .places
+  pub made-place : getD (madePlaces net) j 0 < net .places
   made-place = omega (arith, chosen-is (made net) 0 (net .places) j h .below)
 
-  made-cap : Capped net (getD (madePlaces net) j 0)
+  pub made-cap : Capped net (getD (madePlaces net) j 0)
   made-cap = made-capped net (getD (madePlaces net) j 0) (chosen-is (made net) 0 (net .places) j h .passes)
 
 -- a marking within capacities has one related marking, the one that is written
@@ -213,7 +213,7 @@ module _ (net : Net) (initial : List ℕ) (rooms : Rooms) (allowed : Allowed net
   start : Related net initial (complementMarking net initial)
   start = starts-related net (allowed .sized) initial (allowed .marked) (allowed .fine)
 
-  to-other : Replayable net initial w true room → Replayable (complementNet net) (complementMarking net initial) w true room′
+  pub to-other : Replayable net initial w true room → Replayable (complementNet net) (complementMarking net initial) w true room′
   to-other a =
       record {
         sized = sized-stays net (allowed .sized) (allowed .few);
@@ -225,7 +225,7 @@ module _ (net : Net) (initial : List ℕ) (rooms : Rooms) (allowed : Allowed net
         letters = a .letters;
       }
 
-  from-other : Replayable (complementNet net) (complementMarking net initial) w true room′ → Replayable net initial w true room
+  pub from-other : Replayable (complementNet net) (complementMarking net initial) w true room′ → Replayable net initial w true room
   from-other a =
       record { sized = allowed .sized; marked = allowed .marked; roomy = long; inside = refl; fine = allowed .fine; short = a .short; letters = a .letters }
 

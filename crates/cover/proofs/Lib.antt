@@ -1,2 +1,4 @@
+pub mod Covered
 pub mod Meaning
 pub mod Exactly
+pub mod Promise

@@ -90,6 +90,10 @@ module _ (kind : Kind) (net : Net) (initial l : List ℕ) where
         some = a .some;
       })
 
+  -- what is allowed is not refused, and what is not refused is allowed
+  pub list-sound : (givenFault kind net initial l true Sound ≡ Sound) ↔ ListAllowed kind net initial l
+  list-sound = (allowed-of, of-allowed)
+
   list-chain : Chain (givenFault kind net initial l true Sound) (ListRefused kind net initial l)
   list-chain = reads-all (given-reads kind net initial l true there back none-reads)
     where
@@ -146,6 +150,9 @@ module _ (kind : Kind) (net : Net) (initial l m : List ℕ) where
         entries = a .listed .entries;
         some = a .listed .some;
       })
+
+  pub target-sound : (givenFault kind net initial l (eqb (length m) (net .places)) (targetFault m) ≡ Sound) ↔ TargetAllowed kind net initial l m
+  target-sound = (aimed-of, of-aimed)
 
   target-chain : Chain (givenFault kind net initial l (eqb (length m) (net .places)) (targetFault m)) (TargetRefused kind net initial l m)
   target-chain = reads-all (given-reads kind net initial l (eqb (length m) (net .places)) there back (target-reads m))

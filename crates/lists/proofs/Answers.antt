@@ -4,6 +4,7 @@ use Prim.Native.Nat.{ℕ}
 use mathlib.Core.Path.{_≡_, refl, sym, ap, _∙_}
 use mathlib.Core.Bool.{Bool, true, false, cond}
 use mathlib.Core.List.{List, [], _∷_}
+use mathlib.Core.Logic.{_↔_}
 use native.Mathlib.Omega.{arith}
 use lib.Dec.{eqb}
 use Rattle.lists.specs.declared.Failure.{Failure}
@@ -77,6 +78,22 @@ shown-claim list.Accepted false e = (refl, refl)
 shown-claim (list.Failed why) leftOpen e = let z : _≡_ {A = ℕ} 0 1 = cc in absurd (omega arith)
 shown-claim (list.Refused n at) leftOpen e = let z : _≡_ {A = ℕ} 0 1 = cc in absurd (omega arith)
 
+-- not shown only where it is
+pub open-claim : (a : ListAnswer) (leftOpen : Bool) → claimOf a leftOpen ≡ claim.NotShown → (a ≡ list.Accepted) × (leftOpen ≡ true)
+unfolding claimOf
+open-claim list.Accepted true e = (refl, refl)
+open-claim list.Accepted false e = let z : _≡_ {A = ℕ} 0 1 = cc in absurd (omega arith)
+open-claim (list.Failed why) leftOpen e = let z : _≡_ {A = ℕ} 0 1 = cc in absurd (omega arith)
+open-claim (list.Refused n at) leftOpen e = let z : _≡_ {A = ℕ} 0 1 = cc in absurd (omega arith)
+
+-- a claim fails exactly as its list does
+pub failed-claim : (a : ListAnswer) (leftOpen : Bool) (why : Failure) → claimOf a leftOpen ≡ claim.Failed why → a ≡ list.Failed why
+unfolding claimOf
+failed-claim list.Accepted true why e = let z : _≡_ {A = ℕ} 0 1 = cc in absurd (omega arith)
+failed-claim list.Accepted false why e = let z : _≡_ {A = ℕ} 0 1 = cc in absurd (omega arith)
+failed-claim (list.Failed x) leftOpen why e = let y : x ≡ why = cc in ap list.Failed y
+failed-claim (list.Refused n at) leftOpen why e = let z : _≡_ {A = ℕ} 0 1 = cc in absurd (omega arith)
+
 -- a claim is refused exactly as its list is
 pub refused-claim : (a : ListAnswer) (leftOpen : Bool) (n at : ℕ) → claimOf a leftOpen ≡ claim.Refused n at → a ≡ list.Refused n at
 unfolding claimOf
@@ -87,3 +104,20 @@ refused-claim (list.Refused k p) leftOpen n at e =
     let x : k ≡ n = cc in
     let y : p ≡ at = cc in
     rw (x, y)
+
+-- a claim's answers, exactly: what accepts its list, or lets it fail, and what leaves the claim open, are told by A, I, N and B
+module _ (a : ListAnswer) (leftOpen : Bool) where
+  pub shown-is : {A I N : Type 0} → (a ≡ list.Accepted) ↔ (A × I) → (A → (leftOpen ≡ false) ↔ N) → (claimOf a leftOpen ≡ claim.Shown) ↔ (A × (I × N))
+  shown-is {A} {I} {N} x y = (there, λ h. sym (claim-shown a a refl leftOpen leftOpen (x .1 (h .0, h .1 .0)) refl (y (h .0) .1 (h .1 .1))))
+    where
+      there : claimOf a leftOpen ≡ claim.Shown → A × (I × N)
+      there e = let c = shown-claim a leftOpen e in let k = x .0 (c .0) in (k .0, (k .1, y (k .0) .0 (c .1)))
+
+  pub open-is : {A I N : Type 0} → (a ≡ list.Accepted) ↔ (A × I) → (A → (leftOpen ≡ true) ↔ N) → (claimOf a leftOpen ≡ claim.NotShown) ↔ (A × (I × N))
+  open-is {A} {I} {N} x y = (there, λ h. sym (claim-open a a refl leftOpen leftOpen (x .1 (h .0, h .1 .0)) refl (y (h .0) .1 (h .1 .1))))
+    where
+      there : claimOf a leftOpen ≡ claim.NotShown → A × (I × N)
+      there e = let c = open-claim a leftOpen e in let k = x .0 (c .0) in (k .0, (k .1, y (k .0) .0 (c .1)))
+
+  pub failed-is : {B : Type 0} (why : Failure) → (a ≡ list.Failed why) ↔ B → (claimOf a leftOpen ≡ claim.Failed why) ↔ B
+  failed-is why x = (λ e. x .0 (failed-claim a leftOpen why e), λ b. sym (claim-failed a a refl leftOpen why (x .1 b)))

@@ -114,6 +114,11 @@ module _ (missing : ℕ → ℕ → Bool) (T n : ℕ) where
           rw (← b, ← a) (first-pair missing T n (ltb-true (firstFailing missing T n) n e))
       go false e = let z : _≡_ {A = ℕ} 0 1 = cc (rw e at q) in absurd (omega arith)
 
+  failed-results : (k t : ℕ) → FirstPair missing T n k t → Failed (ResultMissing k t) ≡ resultsOf missing T n
+  failed-results k t f =
+      results-found missing T k (record { none = λ j h. sym (some-end (missing j) T T (record { none = λ u hu. f .earlier j u h hu }) (omega arith) (omega arith)) }) n t (record { none = f .lower })
+      true (sym (f .missed)) refl (f .inside) (f .named)
+
   module _ (starts : Bool) where
     -- accepted says that its start holds and no pair fails
     pub looked-accepted : lookedOf starts missing T n ≡ Accepted → (starts ≡ true) × NoPair missing T n
@@ -141,6 +146,13 @@ module _ (missing : ℕ → ℕ → Bool) (T n : ℕ) where
         go : (b : Bool) → starts ≡ b → (starts ≡ true) × FirstPair missing T n k t
         go true e = (e, results-failed k t (rw e at q))
         go false e = let z : _≡_ {A = ℕ} 0 1 = cc (rw e at q) in absurd (omega arith)
+
+    -- and back: the start that fails is told, and the first pair that fails is the one that is named
+    pub initial-looked : starts ≡ false → lookedOf starts missing T n ≡ Failed InitialMissing
+    initial-looked e = sym (looked-missing starts missing T n starts refl e)
+
+    pub result-looked : (k t : ℕ) → starts ≡ true → FirstPair missing T n k t → lookedOf starts missing T n ≡ Failed (ResultMissing k t)
+    result-looked k t e f = sym (looked-holds starts missing T n starts refl (Failed (ResultMissing k t)) e (failed-results k t f))
 
     -- a list that is looked through is not refused
     pub looked-never : (k p : ℕ) → lookedOf starts missing T n ≡ Refused k p → ⊥

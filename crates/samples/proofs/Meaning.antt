@@ -1,5 +1,5 @@
 -- The twelve samples, proved by computing, and what some of them mean.
-use Prim.Native.Nat.{ℕ, _≤_, _<_}
+use Prim.Native.Nat.{ℕ, _≤_}
 use mathlib.Core.Path.{_≡_, refl}
 use mathlib.Core.Bool.{true}
 use mathlib.Core.List.{List, [], _∷_, map}
@@ -29,10 +29,12 @@ use Rattle.lists.specs.Some.{some, none}
 use Rattle.lists.specs.Whole.{targetFault, firstBad, entryFault, sizeFault, listFault}
 use Rattle.lists.specs.Answers.{claimOf}
 use Rattle.lists.specs.Match.{matches}
+use Rattle.lists.specs.declared.ClaimAnswer.the-variants as claim
 use Rattle.lists.specs.Pairs.{resultsOf, lookedOf}
 use Rattle.list_check.specs.Look.{absent}
 use Rattle.list_check.specs.Given.{givenFault, listOf}
-use Rattle.cover.proofs.Meaning.{target-never}
+use Rattle.cover.specs.Cover.{Coverable}
+use Rattle.cover.proofs.Promise.{shown-never-covered}
 use Rattle.samples.specs.Samples.{net, initial, coverSample, answerOf, samples}
 
 -- each question has the answer that 01 gives, whatever numbers a, b, c the room of a replay held before
@@ -76,6 +78,6 @@ unfolding first countsFault netFault touches escapes setFault
 sample-trap = trap-accepted net (1 ∷ 1 ∷ 0 ∷ []) (allowed-of net (1 ∷ 1 ∷ 0 ∷ []) refl) .0 refl
 
 -- sample 12: no reachable marking has a token in place 0 and one in place 1
-pub sample-cover : (m : List ℕ) → Reachable net initial m → ((p : ℕ) → p < 3 → tokens (1 ∷ 1 ∷ 0 ∷ []) p ≤ tokens m p) → ⊥
+pub sample-cover : Coverable net initial (1 ∷ 1 ∷ 0 ∷ []) → ⊥
 unfolding first table countsFault netFault markingFault startFault markedFault some none targetFault firstBad entryFault sizeFault listFault claimOf matches resultsOf lookedOf absent givenFault listOf
-sample-cover = target-never net initial coverSample (1 ∷ 1 ∷ 0 ∷ []) refl
+sample-cover = shown-never-covered net initial coverSample (1 ∷ 1 ∷ 0 ∷ []) claim.Shown refl refl
