@@ -11,7 +11,6 @@ use borrow.Author.Tests.{not-true, not-false}
 use Rattle.ground.specs.Lists.{first}
 use Rattle.ground.proofs.Tests.{never, and-true, unlike-false, like-false}
 use Rattle.net.specs.Net.{Net}
-use Rattle.net.specs.Firing.{Enabled}
 use Rattle.net.specs.Letter.{arcsAt, passes, firedAt}
 use Rattle.net.specs.Given.{unlike}
 use Rattle.net.proofs.Meaning.{gives-one}

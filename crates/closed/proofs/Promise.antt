@@ -1,8 +1,8 @@
 -- Demand 2's sentences on closed lists, from each entry's promise: what is true of the net, over the published relation, exactly where the entry
 -- has answered so. Assumes nothing.
 use Prim.Native.Nat.{ℕ, _<_}
-use mathlib.Core.Path.{_≡_, refl}
-use mathlib.Core.Bool.{true, false}
+use mathlib.Core.Path.{_≡_}
+use mathlib.Core.Bool.{true}
 use mathlib.Core.List.{List}
 use mathlib.Core.Logic.{_↔_}
 use lib.ListN.{length}
@@ -11,7 +11,6 @@ use Rattle.net.specs.Net.{Net, capacity, tokens}
 use Rattle.net.specs.Firing.{Enabled, Reachable}
 use Rattle.net.specs.declared.Fault.the-variants.{Sound}
 use Rattle.lists.specs.Whole.{count, targetFault}
-use Rattle.lists.specs.Match.{held}
 use Rattle.lists.specs.Answers.{numbers, claimNumbers}
 use Rattle.lists.specs.declared.Failure.the-variants.{InitialMissing, ResultMissing}
 use Rattle.lists.specs.declared.Kind.the-variants.{Closed}
@@ -26,7 +25,6 @@ use Rattle.list_check.specs.Allowed.{ListAllowed, TargetAllowed}
 use Rattle.list_check.proofs.Exactly.{list-sound, target-sound}
 use Rattle.list_check.proofs.Refusals.{lent-of}
 use Rattle.closed.specs.Closed.{Listed, IsClosed, FirstMissing, AllEnable, DeadListed}
-use Rattle.closed.specs.Dead.{someDead}
 use Rattle.closed.specs.Stall.{stallOf}
 use Rattle.closed.proofs.Listed.{of-listed, listed-of, unlisted-of, of-unlisted, all-enable, dead-of, of-dead, of-enabling}
 use Rattle.closed.proofs.Meaning.{accepted-is, initial-missing-is, result-missing-is, closed-reaches, above-absent}
@@ -44,7 +42,7 @@ module _ (net : Net) (initial l : List ℕ) (r : ListAnswer) (promise : numbers 
   pub accepted-exactly : (r ≡ list.Accepted) ↔ (ListAllowed Closed net initial l × IsClosed net initial l)
   accepted-exactly = rw list-is (accepted-is net initial l true Sound (list-sound Closed net initial l))
 
-  -- "a marking missing from an accepted closed list is never met" from the initial marking
+  -- a marking missing from an accepted list is never met from the initial marking
   pub accepted-never-reached : r ≡ list.Accepted → (m : List ℕ) → (Listed (net .places) l m → ⊥) → Reachable net initial m → ⊥
   accepted-never-reached e m h f = h (closed-reaches (accepted-exactly .0 e .1) f)
 

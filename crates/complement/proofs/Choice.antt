@@ -1,4 +1,4 @@
--- Laws of the chosen numbers, for any test: how many, which, and where each stands among them; and two of the test in force. Assumes nothing.
+-- Laws of the chosen numbers, for any test: how many, which, and where each stands among them; and three of the test in force. Assumes nothing.
 use Prim.Native.Nat.{ℕ, zero, suc, _+_, _≤_, _<_, zero-le, suc-le-suc}
 use mathlib.Core.Path.{_≡_, refl, sym, _∙_}
 use mathlib.Core.Bool.{Bool, true, false, cond}
@@ -91,6 +91,11 @@ map-at g (x ∷ l) (suc j) h = map-at g l j (le-of-suc-le-suc h)
 pub made-capped : (net : Net) (p : ℕ) → made net p ≡ true → Capped net p
 unfolding made
 made-capped net p e = ltb-true (capacity net p) noCapacity e
+
+-- each place that has one gets a new place,
+pub capped-made : (net : Net) (p : ℕ) → Capped net p → made net p ≡ true
+unfolding made
+capped-made net p c = lt-ltb (capacity net p) noCapacity c
 
 -- and a place that has one, but no new place, never rises
 pub unmade-flat : (net : Net) (p t : ℕ) → Capped net p → made net p ≡ false → rise net p t ≡ 0

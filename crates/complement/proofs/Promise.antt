@@ -6,10 +6,9 @@ use mathlib.Core.List.{List}
 use mathlib.Core.Logic.{_↔_}
 use native.Mathlib.Omega.{arith}
 use lib.ListN.{length, getD}
-use borrow.Author.Tests.{lt-ltb}
 use Rattle.ground.specs.Limits.{noCapacity}
 use Rattle.ground.proofs.Fill.{table-length, table-at}
-use Rattle.net.specs.Net.{Net, capacity, Capped}
+use Rattle.net.specs.Net.{Net, capacity}
 use Rattle.net.specs.Firing.{Fires, Within}
 use Rattle.net.specs.Given.{Fine}
 use Rattle.net.specs.declared.Cause.{Cause}
@@ -27,16 +26,12 @@ use Rattle.complement.specs.declared.ComplementPlaces.{ComplementPlaces}
 use Rattle.complement.specs.declared.ComplementPlaces.the-variants.{Places}
 use Rattle.complement.specs.declared.ComplementNet.{ComplementNet}
 use Rattle.complement.specs.declared.ComplementNet.the-variants.{Made}
-use Rattle.complement.proofs.Choice.{chosen-has, chosen-order}
+use Rattle.complement.proofs.Choice.{chosen-has, chosen-order, capped-made}
 use Rattle.complement.proofs.Entries.{pre-old, post-old, pre-new, post-new}
 use Rattle.complement.proofs.Meaning.{arc-from, arc-to, made-place, made-cap, answered-allowed, allowed-made, fine-within, starts-related, sized-stays, fine-stays, word-to, word-from, replay-same, places-answered-allowed, places-told}
 use Rattle.complement.proofs.Blocks.{refusal-same, answered-related, blocks-tied, blocks-tied-only}
 
--- "Each capped place, in order of number, gets a new place": those that do
-capped-made : (net : Net) (p : ℕ) → Capped net p → made net p ≡ true
-unfolding made
-capped-made net p c = lt-ltb (capacity net p) noCapacity c
-
+-- "Each capped place, in order of number, gets a new place": these do, and no other
 pub made-in-order : (net : Net) → CappedInOrder net (madePlaces net)
 made-in-order net =
     record {
@@ -100,12 +95,12 @@ module _ (net : Net) (initial : List ℕ) (rooms : Rooms) (r : ComplementNet) (r
   pub made-no-capacity : (q : ℕ) → q < heldNet (net .transitions) rooms′ .places → capacity (heldNet (net .transitions) rooms′) q ≡ noCapacity
   made-no-capacity = held-has (λ k. (q : ℕ) → q < k .places → capacity k q ≡ noCapacity) (λ q h. table-at (λ p. noCapacity) (complementPlaces net) q 0 h)
 
+  -- arcs and tokens of the old places are the net's
   pub made-old-places : (p : ℕ) → p < net .places → OldPlace net initial (heldNet (net .transitions) rooms′) (rooms′ .initial) p
   made-old-places p h =
       rw (made-net, made-initial)
       (record { takes = λ t l. pre-old net (made-allowed .sized) t l p h; puts = λ t l. post-old net (made-allowed .sized) t l p h; holds = start .old p h })
 
-  -- "Change > 0 becomes an arc from it, change < 0 an arc to it"
   new-at : (j : ℕ) → j < length (madePlaces net) → NewPlace net initial (complementNet net) (complementMarking net initial) (getD (madePlaces net) j 0) (net .places + j)
   new-at j h =
       record {
@@ -114,10 +109,11 @@ module _ (net : Net) (initial : List ℕ) (rooms : Rooms) (r : ComplementNet) (r
         holds = start .new j h;
       }
 
+  -- "starting with capacity minus tokens. Change > 0 becomes an arc from it, change < 0 an arc to it."
   pub made-new-places : (p q : ℕ) → NewOf net p q → NewPlace net initial (heldNet (net .transitions) rooms′) (rooms′ .initial) p q
   made-new-places p q x = rw (made-net, made-initial, x .after, ← x .stands) (new-at (x .number) (x .here))
 
-  -- every entry accepts the made net and its initial marking
+  -- of the made net and its initial marking nothing is refused
   pub made-ready : (room : List ℕ) → length room ≡ heldNet (net .transitions) rooms′ .places → Ready (heldNet (net .transitions) rooms′) (rooms′ .initial) room
   made-ready room long =
       let l : length room ≡ complementPlaces net = long ∙ made-places in
@@ -231,6 +227,7 @@ module _ (net : Net) (initial : List ℕ) (rooms : Rooms) (r : ComplementNet) (r
             let n : t .number ≡ a .number = omega arith in
             f ∙ ap (λ (z : ℕ). Blocked i (Over z)) (sym (t .stands) ∙ ap (λ (z : ℕ). getD (madePlaces net) z 0) n ∙ a .stands)
 
+    -- the complement net is never over
     pub made-never-over : (i q : ℕ) → s″ ≡ Blocked i (Over q) → ⊥
     made-never-over i q f = go (made-blocked-only i (Over q) f)
       where
@@ -247,6 +244,7 @@ module _ (net : Net) (r : ComplementPlaces) (promise : Told net r) (n : ℕ) (e 
   told-is = let q = places-told net r promise told-countable in cc
 
   module _ (initial : List ℕ) (rooms : Rooms) (a : ComplementNet) (rooms′ : Rooms) (answer : Complemented net initial rooms a rooms′) where
+    -- n is how many places the made net has
     pub told-places : a ≡ Made → heldNet (net .transitions) rooms′ .places ≡ n
     told-places f = made-places net initial rooms a rooms′ answer f ∙ told-is
 

@@ -58,7 +58,7 @@ pub record TiedBlock (net held : Net) (w m m′ : List ℕ) (i : ℕ) (why why�
   pub named′ : Names held m′ (getD w i 0) why′
   pub causes : Tied net why why′
 
--- a net, a marking and a room for another in which no entry finds a fault
+-- a net, its marking and a room for one, of which nothing is refused by 1, 2 or 3
 pub record Ready (net : Net) (m room : List ℕ) : Type 0 where
   pub sized : Sized net
   pub marked : length m ≡ net .places

@@ -2,11 +2,11 @@
 -- a listed one, a pair's result covered. Assumes nothing.
 use Prim.Native.Nat.{ℕ, _<_}
 use mathlib.Core.Path.{_≡_, refl, sym, _∙_}
-use mathlib.Core.Bool.{Bool, true, false, _&&_, cond}
+use mathlib.Core.Bool.{Bool, true, false}
 use mathlib.Core.List.{List}
 use native.Mathlib.Omega.{arith}
 use lib.ListN.{length, getD}
-use lib.Dec.{ltb, leb}
+use lib.Dec.{leb}
 use borrow.Author.Tests.{ltb-false, le-ltb, leb-true, leb-false, not-true, not-false}
 use Rattle.ground.specs.Limits.{tokenLimit}
 use Rattle.ground.specs.Lists.{first}
@@ -20,8 +20,8 @@ use Rattle.lists.proofs.Somes.{some-first, some-is, is-none, none-at}
 use Rattle.lists.proofs.Wholes.{marking-long}
 use Rattle.list_check.specs.Fire.{lacks, passesAny, afterAny, firedAny}
 use Rattle.list_check.specs.Look.{Ready, absent, missing}
-use Rattle.cover.specs.Number.{nat, any, entryNumber, listed, marking, CoversAt, Covers, after}
-use Rattle.cover.specs.Cover.{taken, CoverEnabled, resultAt, ListCovers, EnabledAt, ResultCovered}
+use Rattle.cover.specs.Number.{nat, entryNumber, listed, marking, CoversAt, Covers, after}
+use Rattle.cover.specs.Cover.{CoverEnabled, resultAt, ListCovers, EnabledAt, ResultCovered}
 
 -- one place: the test for an entry that is a number and less than x, tokens or a weight
 of-beyond : (entry x : ℕ) → beyond entry x ≡ false → CoversAt (entryNumber entry) (nat x)

@@ -12,7 +12,7 @@ use Rattle.net.specs.Firing.{Gives, Firing, Reachable}
 use Rattle.net.specs.declared.Fault.{Fault}
 use Rattle.net.specs.declared.Fault.the-variants.{Sound}
 use Rattle.net.proofs.Meaning.{gives-plain, reachable-has}
-use Rattle.lists.specs.Whole.{count, markingAt}
+use Rattle.lists.specs.Whole.{markingAt}
 use Rattle.lists.specs.Answers.{numbers, claimNumbers}
 use Rattle.lists.specs.declared.Failure.the-variants.{InitialMissing, ResultMissing}
 use Rattle.lists.specs.declared.Kind.the-variants.{Cover}

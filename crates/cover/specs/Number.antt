@@ -12,7 +12,7 @@ pub data Number : Type 0 where
   nat : ℕ → Number
   any : Number
 
--- an entry as lent: "A cover list may hold 65,535 for any number", the one entry that is above the limit
+-- an entry as lent: a cover list "may hold 65,535", the one entry above the limit, for any number
 abbrev pub entryNumber : ℕ → Number
 entryNumber entry = cond (leb entry tokenLimit) (nat entry) any
 
