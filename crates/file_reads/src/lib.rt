@@ -29,21 +29,19 @@ fn after_failure(interrupted: bool) -> Input
     ensures { λ r. ⌜ r ≡ failureOf interrupted ⌝ }
 {
     if interrupted {
-        Input::More
-    } else {
-        Input::Failed
+        return Input::More;
     }
+    Input::Failed
 }
 
 // After a refusal nothing more is read, since nothing after it can change the answer.
 fn after_part(refusal: u8) -> Input
     ensures { λ r. ⌜ r ≡ partBy refusal ⌝ }
 {
-    if refusal == 0 {
-        Input::More
-    } else {
-        Input::Over
+    if refusal != 0 {
+        return Input::Over;
     }
+    Input::More
 }
 
 // What a read leaves, by the sign of its count; the refusal is that of the reading after its bytes.
