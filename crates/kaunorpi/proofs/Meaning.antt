@@ -4,16 +4,22 @@ use mathlib.Core.Path.{_≡_, refl, sym, ap, subst, _∙_}
 use mathlib.Core.Bool.{Bool, true, false}
 use mathlib.Core.List.{List, [], _∷_, _++_}
 use native.Mathlib.Omega.{arith}
-use lib.ListN.{length}
+use lib.ListN.{length, getD, set}
 use lib.Seq.{sets}
 use lib.IntN.{ℤ, pos, negsuc}
+use Rattle.file_digits.specs.Frame.{digitOf, digitsOf, lineText}
 use Rattle.file_line.specs.Read.{Rooms, fresh}
-use Rattle.file_parts.specs.File.{Run, going, stopped, Both, both, feedAll, readOf}
+use Rattle.file_parts.specs.File.{Run, going, stopped, Both, both, feedAll, readOf, caseOf}
+use Rattle.file_parts.specs.declared.Case.{Case}
+use Rattle.file_parts.specs.declared.Case.the-variants as file
 use Rattle.file_reads.specs.declared.Input.{Input}
 use Rattle.file_reads.specs.declared.Input.the-variants.{More, Over, Failed}
 use Rattle.file_reads.specs.Reads.{Read, State, state, failureOf, partOf, stepBy, stepOf, stepAll, AllMore, bytesIn, readLimit, Ended, byLast, usedUp}
 use Rattle.file_reads.proofs.Inputs.{step-last, reads-fed}
-use Rattle.verdict_line.specs.Answer.{lineAt, fileLine}
+use Rattle.replay.specs.declared.Replay.{Replay}
+use Rattle.replay.specs.declared.Replay.the-variants.{Fired, Blocked, Refused}
+use Rattle.verdict_text.specs.Verdict.{bytesOf}
+use Rattle.verdict_line.specs.Answer.{ranRead, lineFor, lineAt, fileLine}
 use Rattle.verdict_line.proofs.Meaning.{refusal-decides}
 use Rattle.kaunorpi.specs.Made.{Output, nothing, oneLine, first, Made}
 
@@ -41,6 +47,54 @@ last-more : (s : State) (before : List Read) (last : Read) → AllMore s (before
 unfolding stepAll AllMore
 last-more s [] last m = m .0
 last-more s (r ∷ before) last m = last-more (stepOf s r) before last (m .1)
+
+-- reads end in one way only
+one-end : (s e e′ : State) (rs : List Read) → Ended s rs e → Ended s rs e′ → e ≡ e′
+one-end s e e′ rs (byLast before last q a f h) (byLast before′ last′ q′ a′ f′ h′) = f ∙ sym f′
+one-end s e e′ rs (byLast before last q a f h) (usedUp l a′ f′) =
+    absurd (h (ap (λ (v : State). v .input) (f ∙ ap (stepAll s) q ∙ step-last s before last) ∙ last-more s before last (subst (AllMore s) q a′)))
+one-end s e e′ rs (usedUp l a f) (byLast before last q a′ f′ h) =
+    absurd (h (ap (λ (v : State). v .input) (f′ ∙ ap (stepAll s) q ∙ step-last s before last) ∙ last-more s before last (subst (AllMore s) q a)))
+one-end s e e′ rs (usedUp l a f) (usedUp l′ a′ f′) = f ∙ sym f′
+
+one-output : (e : State) (out o o′ : List ℕ) → Output e out o → Output e out o′ → o ≡ o′
+one-output e out o o′ (nothing f q) (nothing f′ q′) = q ∙ sym q′
+one-output e out o o′ (nothing f q) (oneLine f′ w) = absurd (over-failed (sym f′ ∙ f))
+one-output e out o o′ (oneLine f w) (nothing f′ q) = absurd (over-failed (sym f ∙ f′))
+one-output e out o o′ (oneLine f w) (oneLine f′ w′) = w .line .made ∙ sym (w′ .line .made)
+
+-- the promise determines what is made: of the same reads, the same
+pub unique : (x : Rooms) (out o o′ : List ℕ) (m : Made x out o) (m′ : Made x out o′) → m .input .reads ≡ m′ .input .reads → o ≡ o′
+unique x out o o′ m m′ e =
+    let g = one-end (first x) (m .end) (m′ .end) (m′ .input .reads) (subst (λ (rs : List Read). Ended (first x) rs (m .end)) e (m .input .ended)) (m′ .input .ended) in
+    one-output (m′ .end) out o o′ (subst (λ (v : State). Output v out o) g (m .output)) (m′ .output)
+
+-- a line begins with the digit 8
+record Eight (line : List ℕ) : Type 0 where
+  rest : List ℕ
+  begins : line ≡ 56 ∷ rest
+
+eight : (a : Replay) (left : List ℕ) → Eight (lineText (bytesOf a left))
+unfolding digitsOf digitOf
+eight (Fired n) left = record { rest = _; begins = refl }
+eight (Blocked i why) left = record { rest = _; begins = refl }
+eight (Refused n at) left = record { rest = _; begins = refl }
+
+line-eight : (c : Case) (y : Rooms) → Eight (lineFor c y)
+line-eight (file.Whole s) y = eight (ranRead s y .answer) (ranRead s y .left)
+line-eight (file.Refused n l) y = eight (Refused n l) []
+
+-- what stands before the first store is kept
+sets-after : (vs l : List ℕ) (i b : ℕ) → sets (b ∷ l) (suc i) vs ≡ b ∷ sets l i vs
+sets-after [] l i b = refl
+sets-after (v ∷ vs) l i b = sets-after vs (set l i v) (suc i) b
+
+-- so a line shows in a room that begins with 0
+shows : (line rest : List ℕ) → Eight line → sets (0 ∷ rest) 0 line ≡ 0 ∷ rest → ⊥
+shows line rest w e =
+    let f = sym (sets-after (w .rest) rest 0 56) ∙ ap (sets (0 ∷ rest) 0) (sym (w .begins)) ∙ e in
+    let z : _≡_ {A = ℕ} 56 0 = ap (λ (l : List ℕ). getD l 0 0) f in
+    omega (arith, z)
 
 -- how a run of the program ended, and what it made
 pub data Outcome (x : Rooms) (rs : List Read) (out out′ : List ℕ) : Type 0 where
@@ -78,6 +132,14 @@ module _ (x : Rooms) (out out′ : List ℕ) (m : Made x out out′) where
       go : Output (m .end) out out′ → out′ ≡ out
       go (nothing f q) = q
       go (oneLine f w) = absurd (over-failed (sym f ∙ g))
+
+  -- and only there: in a room that begins with 0, as the program's own does, every line shows
+  pub nothing-failed : (rest : List ℕ) → out ≡ 0 ∷ rest → out′ ≡ out → m .end .input ≡ Failed
+  nothing-failed rest z e = go (m .output)
+    where
+      go : Output (m .end) out out′ → m .end .input ≡ Failed
+      go (nothing f q) = f
+      go (oneLine f w) = absurd (shows _ rest (line-eight (caseOf (m .end .fed .run)) (m .end .fed .rooms)) (ap (λ (l : List ℕ). sets l 0 (lineAt (m .end .fed))) (sym z) ∙ sym (w .line .made) ∙ e ∙ z))
 
   -- after a refusal no byte changes the line
   refused-line : (n l : ℕ) → m .end .fed .run ≡ stopped n l → (rest : List ℕ) → fileLine (bytesIn (m .input .reads) ++ rest) x ≡ fileLine (bytesIn (m .input .reads)) x
