@@ -1,10 +1,12 @@
--- To be believed: the line that the program makes. No contract can say which bytes a read gives: whichever they are, they are fed
--- in order, and the line is that of them all.
+-- To be believed: the line that the program makes. No contract can say which bytes a read gives, so the promise is that there are
+-- reads of which all that the program does follows; that they are those of standard input is trusted.
 use Prim.Native.Nat.{ℕ}
 use mathlib.Core.Path.{_≡_}
-use mathlib.Core.List.{List}
-use Rattle.file_line.specs.Read.{Rooms}
-use Rattle.file_parts.specs.File.{readOf, caseOf}
+use mathlib.Core.List.{List, []}
+use Rattle.file_line.specs.Read.{Rooms, fresh}
+use Rattle.file_parts.specs.File.{both, going, caseOf}
+use Rattle.file_reads.specs.declared.Input.the-variants.{More, Over, Failed}
+use Rattle.file_reads.specs.Reads.{State, state, InputRead}
 use Rattle.verdict_text.specs.Verdict.{WrittenBytes}
 use Rattle.verdict_line.specs.Answer.{answerFor}
 
@@ -13,7 +15,17 @@ pub record Shown (out bytes out′ : List ℕ) : Type 0 where
   pub long : ℕ
   pub line : WrittenBytes out bytes long out′
 
--- what the program has made: nothing, where a read failed; else the line of the bytes that were read
-pub data Made (x : Rooms) (out out′ : List ℕ) : Type 0 where
-  nothing : out′ ≡ out → Made x out out′
-  answer : (f : List ℕ) → Shown out (answerFor (caseOf (readOf x f .run)) (readOf x f .rooms)) out′ → Made x out out′
+-- what is made of an input that came to the state e: nothing, where it failed; where it is over, the line of what was fed
+pub data Output (e : State) (out out′ : List ℕ) : Type 0 where
+  nothing : e .input ≡ Failed → out′ ≡ out → Output e out out′
+  oneLine : e .input ≡ Over → Shown out (answerFor (caseOf (e .fed .run)) (e .fed .rooms)) out′ → Output e out out′
+
+-- before the first read
+abbrev pub first : Rooms → State
+first x = state (both (going fresh []) x) More
+
+-- what the program has made: there are reads from the first on, and what was made of their end
+pub record Made (x : Rooms) (out out′ : List ℕ) : Type 0 where
+  pub end : State
+  pub input : InputRead (first x) end
+  pub output : Output end out out′

@@ -1,10 +1,12 @@
 // The program: a case file on standard input, read in parts; one verdict line on standard output.
-// Reading stops at the file's end, at the first refusal, since nothing after it can change the
-// answer, or at a read that fails: then the file has no end that is known, so no line is written,
+// What each read comes to is decided in file_reads: reading stops at the file's end, at the first
+// refusal, or at a read that fails: then the file has no end that is known, so no line is written,
 // and the failure is told on standard error.
 use file_line::CELL_LIMIT;
 use file_line::Reading;
 use file_parts::Held;
+use file_reads::Fed;
+use file_reads::Input;
 use ground::COUNT_LIMIT;
 use ground::WORD_LIMIT;
 use ground::Weight;
@@ -17,43 +19,14 @@ ghost use Rattle.file_line.specs.Read.{rooms};
 ghost use Rattle.file_line.specs.Walk.{Large};
 ghost use Rattle.file_parts.specs.File.{both, caseOf};
 ghost use Rattle.file_parts.specs.Held.{abs, Sound};
+ghost use Rattle.file_reads.specs.Reads.{state, InputRead};
+ghost use Rattle.file_reads.specs.Walk.{OneRead};
 ghost use Rattle.verdict_text.specs.Verdict.{answerLimit};
 ghost use Rattle.verdict_line.specs.Answer.{answerFor};
 ghost use Rattle.kaunorpi.specs.Made.{Shown, Made};
-ghost use Rattle.kaunorpi.specs.Walk.{BytesFed};
 
-// Whether there is more to read.
-enum Input {
-    More,
-    Over,
-    Failed,
-}
-
-// What was read so far.
-struct Fed {
-    held: Held,
-    input: Input,
-}
-
-// A read that a signal interrupted is made again; any other failure is one.
-fn after_failure() -> Input {
-    if os::errno() == libc::EINTR {
-        Input::More
-    } else {
-        Input::Failed
-    }
-}
-
-// After a refusal nothing more is read.
-fn after_part(refusal: u8) -> Input {
-    if refusal == 0 {
-        Input::More
-    } else {
-        Input::Over
-    }
-}
-
-// One read, fed to the reader.
+// One read, and what it comes to. That got, errno and buf are those of a read of standard input is all that is trusted
+// here; errno means something only where got is negative, and is looked at only there.
 fn read_some(
     h: Held,
     caps: &mut [u16],
@@ -64,33 +37,17 @@ fn read_some(
 ) -> Fed
     requires { ⌜ (Sound h) × (Large (rooms (now caps) (now initial) (now pre) (now post) (now word))) ⌝ }
     ensures sound { λ r. ⌜ Sound (r .held) ⌝ }
-    ensures came { λ r. ⌜ BytesFed (both (abs h) (rooms (now (caps .entry)) (now (initial .entry)) (now (pre .entry)) (now (post .entry)) (now (word .entry))))
-        (both (abs (r .held)) (rooms (now (caps .exit)) (now (initial .exit)) (now (pre .exit)) (now (post .exit)) (now (word .exit)))) ⌝ }
+    ensures step { λ r. ⌜ OneRead (state (both (abs h) (rooms (now (caps .entry)) (now (initial .entry)) (now (pre .entry)) (now (post .entry)) (now (word .entry)))) Input.More)
+        (state (both (abs (r .held)) (rooms (now (caps .exit)) (now (initial .exit)) (now (pre .exit)) (now (post .exit)) (now (word .exit)))) (r .input)) ⌝ }
 {
     let mut buf = io::large_buffer();
     let got = libc::read(STDIN_FILENO, &mut buf);
-    if got < 0 {
-        return Fed {
-            held: h,
-            input: after_failure(),
-        };
-    }
-    if got == 0 {
-        return Fed {
-            held: h,
-            input: Input::Over,
-        };
-    }
-    let n = io::count(got, &buf);
-    let r = file_parts::read_part(h, &buf[..n], caps, initial, pre, post, word);
-    Fed {
-        held: r,
-        input: after_part(r.refusal),
-    }
+    let interrupted = os::errno() == libc::EINTR;
+    file_reads::take_read(h, got, interrupted, &buf, caps, initial, pre, post, word)
 }
 
-// Every part of standard input. The loop counts its turns down from a number that no run uses up,
-// since nothing says that an input ends.
+// Every read of standard input, up to the first that leaves no more. The loop counts its turns down from a number that no
+// run uses up, since nothing says that an input ends; if one did, that would be a failure.
 fn read_all(
     h: Held,
     caps: &mut [u16],
@@ -101,8 +58,8 @@ fn read_all(
 ) -> Fed
     requires { ⌜ (Sound h) × (Large (rooms (now caps) (now initial) (now pre) (now post) (now word))) ⌝ }
     ensures sound { λ r. ⌜ Sound (r .held) ⌝ }
-    ensures came { λ r. ⌜ BytesFed (both (abs h) (rooms (now (caps .entry)) (now (initial .entry)) (now (pre .entry)) (now (post .entry)) (now (word .entry))))
-        (both (abs (r .held)) (rooms (now (caps .exit)) (now (initial .exit)) (now (pre .exit)) (now (post .exit)) (now (word .exit)))) ⌝ }
+    ensures reads { λ r. ⌜ InputRead (state (both (abs h) (rooms (now (caps .entry)) (now (initial .entry)) (now (pre .entry)) (now (post .entry)) (now (word .entry)))) Input.More)
+        (state (both (abs (r .held)) (rooms (now (caps .exit)) (now (initial .exit)) (now (pre .exit)) (now (post .exit)) (now (word .exit)))) (r .input)) ⌝ }
 {
     let mut r = h;
     let mut turns = u64::MAX;

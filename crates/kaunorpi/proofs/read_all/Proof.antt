@@ -1,9 +1,13 @@
+use native.Mathlib.Omega.{arith}
 use mathlib.Core.Path.{refl, _∙_}
 use Rattle.file_line.specs.Read.{rooms}
 use Rattle.file_parts.specs.File.{both}
 use Rattle.file_parts.specs.Held.{abs, Sound}
-use Rattle.kaunorpi.specs.Walk.{BytesFed}
-use Rattle.kaunorpi.proofs.Feeding.{came-none, came-then}
+use Rattle.file_reads.specs.declared.Input.the-variants.{More}
+use Rattle.file_reads.specs.Reads.{state}
+use Rattle.file_reads.specs.Walk.{MoreReads}
+use Rattle.file_reads.proofs.Inputs.{reads-none, reads-next, reads-last, reads-over}
+use Rattle.kaunorpi.proofs.Making.{told-no-more}
 use Rattle.file_parts.proofs.Line.{Same, large}
 use borrow.Author.Needs.{needs}
 use Rattle.kaunorpi.proofs.read_all.Statement.{statement}
@@ -12,7 +16,7 @@ use Rattle.kaunorpi.proofs.read_all.Tie as tie
 abbrev Inv-loop : tie.InvT-loop
 Inv-loop caps₀ initial₀ pre₀ post₀ word₀ r₀ turns₀ caps initial pre post word r turns =
     (Sound r) × (Same (rooms caps initial pre post word) (rooms caps₀ initial₀ pre₀ post₀ word₀))
-    × (BytesFed (both (abs r₀) (rooms caps₀ initial₀ pre₀ post₀ word₀)) (both (abs r) (rooms caps initial pre post word)))
+    × (MoreReads (state (both (abs r₀) (rooms caps₀ initial₀ pre₀ post₀ word₀)) More) turns (state (both (abs r) (rooms caps initial pre post word)) More))
 
 abbrev μ-loop : tie.MeasureT-loop
 μ-loop caps₀ initial₀ pre₀ post₀ word₀ r₀ turns₀ caps initial pre post word r turns = turns
@@ -20,7 +24,7 @@ abbrev μ-loop : tie.MeasureT-loop
 loop-holds : tie.Need-loop-holds Inv-loop μ-loop
 loop-holds c =
     let s : tie.Start Inv-loop μ-loop = search needs in
-    (s .pre .0, record { caps = refl; initial = refl; pre = refl; post = refl; word = refl }, came-none _)
+    (s .pre .0, record { caps = refl; initial = refl; pre = refl; post = refl; word = refl }, reads-none _ _ refl)
 
 read-some-requires : tie.Need-read-some-requires Inv-loop μ-loop
 read-some-requires c κs =
@@ -43,7 +47,7 @@ loop-again c =
     let i : tie.In-loop Inv-loop μ-loop = search needs in
     let m = k .read-some .kept in
     let e = i .before .loop .inv .1 in
-    (k .read-some .ensures .0, record { caps = m .1 .0 ∙ e .caps; initial = m .1 .1 .0 ∙ e .initial; pre = m .1 .1 .1 .0 ∙ e .pre; post = m .1 .1 .1 .1 .0 ∙ e .post; word = m .1 .1 .1 .1 .1 .0 ∙ e .word }, came-then _ _ _ (i .before .loop .inv .2) (k .read-some .ensures .1))
+    (k .read-some .ensures .0, record { caps = m .1 .0 ∙ e .caps; initial = m .1 .1 .0 ∙ e .initial; pre = m .1 .1 .1 .0 ∙ e .pre; post = m .1 .1 .1 .1 .0 ∙ e .post; word = m .1 .1 .1 .1 .1 .0 ∙ e .word }, reads-next _ _ _ (i .before .loop .inv .2) _ _ (k .read-some .ensures .1) _ (omega (arith, i .loop-test .taken)) (c .before .enum-told .given .1))
 
 same-length : tie.Need-same-length Inv-loop μ-loop
 same-length c =
@@ -79,7 +83,7 @@ returns : tie.Need-returns Inv-loop μ-loop
 returns c =
     let k : tie.After-read-some Inv-loop μ-loop = search needs in
     let i : tie.In-loop Inv-loop μ-loop = search needs in
-    (k .read-some .ensures .0, came-then _ _ _ (i .before .loop .inv .2) (k .read-some .ensures .1))
+    (k .read-some .ensures .0, reads-last _ _ _ (i .before .loop .inv .2) _ _ (k .read-some .ensures .1) (told-no-more _ (c .match .keys2)))
 
 same-length-6 : tie.Need-same-length-6 Inv-loop μ-loop
 same-length-6 c = c .before .loop .inv .1 .caps
@@ -97,7 +101,7 @@ same-length-10 : tie.Need-same-length-10 Inv-loop μ-loop
 same-length-10 c = c .before .loop .inv .1 .word
 
 returns-2 : tie.Need-returns-2 Inv-loop μ-loop
-returns-2 c = (c .before .loop .inv .0, c .before .loop .inv .2)
+returns-2 c = (c .before .loop .inv .0, reads-over _ _ _ (c .before .loop .inv .2) (omega (arith, c .loop-test .left)))
 
 pub read-all-spec : {M : Type 1} → statement M
 read-all-spec =

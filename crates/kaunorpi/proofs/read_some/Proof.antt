@@ -1,4 +1,7 @@
-use Rattle.kaunorpi.proofs.Feeding.{came-none, came-part}
+use native.Mathlib.Omega.{arith}
+use mir.Syntax.{w64}
+use mir.Facts.{toZ-ofZ}
+use Rattle.kaunorpi.proofs.Making.{moved-fits, read-one}
 use borrow.Author.Needs.{needs}
 use Rattle.kaunorpi.proofs.read_some.Statement.{statement}
 use Rattle.kaunorpi.proofs.read_some.Tie as tie
@@ -12,36 +15,14 @@ slice-aggregate-read c = search needs
 read-requires : tie.Need-read-requires
 read-requires c κs = search needs
 
-after-failure-requires : tie.Need-after-failure-requires
-after-failure-requires c κs = search needs
+errno-requires : tie.Need-errno-requires
+errno-requires c κs = search needs
 
-returns : tie.Need-returns
-returns c =
-    let s : tie.Start = search needs in
-    (s .pre .0, came-none _)
+slice-aggregate-take-read : tie.Need-slice-aggregate-take-read
+slice-aggregate-take-read c = search needs
 
-returns-2 : tie.Need-returns-2
-returns-2 c =
-    let s : tie.Start = search needs in
-    (s .pre .0, came-none _)
-
-slice-aggregate-count : tie.Need-slice-aggregate-count
-slice-aggregate-count c = search needs
-
-count-requires : tie.Need-count-requires
-count-requires c κs = search needs
-
-array-share-prefix-buf : tie.Need-array-share-prefix-buf
-array-share-prefix-buf c = search needs
-
-slice-aggregate-read-part : tie.Need-slice-aggregate-read-part
-slice-aggregate-read-part c = search needs
-
-read-part-requires : tie.Need-read-part-requires
-read-part-requires c κs = search needs
-
-after-part-requires : tie.Need-after-part-requires
-after-part-requires c κs = search needs
+take-read-requires : tie.Need-take-read-requires
+take-read-requires c κs = search needs
 
 same-length : tie.Need-same-length
 same-length c = search needs
@@ -58,10 +39,18 @@ same-length-4 c = search needs
 same-length-5 : tie.Need-same-length-5
 same-length-5 c = search needs
 
-returns-3 : tie.Need-returns-3
-returns-3 c =
-    let k : tie.After-read-part = search needs in
-    (k .read-part .ensures .1, came-part _ _ _ (k .read-part .ensures .0))
+-- what the read answered, before it is taken
+abbrev asked : tie.After-take-read → tie.After-read
+asked c = search needs
+
+returns : tie.Need-returns
+returns c =
+    let t : tie.After-take-read = search needs in
+    let r = asked t in
+    let b : tie.After-large-buffer = r .before .before in
+    let long = b .large-buffer .ensures in
+    let z = toZ-ofZ {w = w64} (moved-fits _ (r .read .result) (omega (arith, long)) (r .read .ensures)) in
+    (t .take-read .ensures .1, read-one _ _ (r .read .result) _ _ _ _ z (omega (arith, long, r .read .kept .1 .0)) (r .read .ensures) (t .take-read .ensures .0))
 
 pub read-some-spec : {M : Type 1} → statement M
 read-some-spec =
@@ -70,18 +59,12 @@ read-some-spec =
     large-buffer-requires
     slice-aggregate-read
     read-requires
-    after-failure-requires
-    returns
-    returns-2
-    slice-aggregate-count
-    count-requires
-    array-share-prefix-buf
-    slice-aggregate-read-part
-    read-part-requires
-    after-part-requires
+    errno-requires
+    slice-aggregate-take-read
+    take-read-requires
     same-length
     same-length-2
     same-length-3
     same-length-4
     same-length-5
-    returns-3)
+    returns)
