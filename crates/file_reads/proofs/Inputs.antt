@@ -1,7 +1,7 @@
 -- Laws of reads one after another. Assumes nothing.
 use Prim.Native.Nat.{ℕ, zero, suc, _+_}
-use mathlib.Core.Path.{_≡_, refl, sym, ap, subst, _∙_}
-use mathlib.Core.Bool.{Bool, true, false}
+use mathlib.Core.Path.{_≡_, refl, sym, ap, _∙_}
+use mathlib.Core.Bool.{Bool}
 use mathlib.Core.List.{List, [], _∷_, _++_}
 use native.Mathlib.Omega.{arith}
 use lib.ListN.{length, length-append}
@@ -11,7 +11,7 @@ use Rattle.file_parts.specs.File.{Both, feedAll}
 use Rattle.file_parts.proofs.Line.{all-append}
 use Rattle.file_reads.specs.declared.Input.{Input}
 use Rattle.file_reads.specs.declared.Input.the-variants.{More, Over, Failed}
-use Rattle.file_reads.specs.Reads.{Read, Counted, State, state, stepBy, stepOf, stepAll, AllMore, AllCounted, bytesIn, readLimit, Ended, byLast, usedUp, InputRead}
+use Rattle.file_reads.specs.Reads.{Read, Brings, State, state, stepBy, stepOf, stepAll, AllMore, AllBring, bytesIn, readLimit, InputEnds, byLast, usedUp, InputRead}
 use Rattle.file_reads.specs.Walk.{OneRead, MoreReads}
 
 -- one read after others
@@ -25,15 +25,15 @@ unfolding stepAll AllMore
 more-last s [] r m e = (e, tt)
 more-last s (q ∷ rs) r m e = (m .0, more-last (stepOf s q) rs r (m .1) e)
 
-counted-last : (rs : List Read) (r : Read) → AllCounted rs → Counted r → AllCounted (rs ++ (r ∷ []))
-unfolding AllCounted
-counted-last [] r m e = (e, tt)
-counted-last (q ∷ rs) r m e = (m .0, counted-last rs r (m .1) e)
+bring-last : (rs : List Read) (r : Read) → AllBring rs → Brings r → AllBring (rs ++ (r ∷ []))
+unfolding AllBring
+bring-last [] r m e = (e, tt)
+bring-last (q ∷ rs) r m e = (m .0, bring-last rs r (m .1) e)
 
 -- no read yet
 pub reads-none : (s : State) (left : ℕ) → left ≡ readLimit → MoreReads s left s
-unfolding stepAll AllMore AllCounted
-reads-none s left e = record { reads = []; spare = omega (arith, e); counted = tt; more = tt; stepped = refl }
+unfolding stepAll AllMore AllBring
+reads-none s left e = record { reads = []; spare = omega (arith, e); brought = tt; more = tt; stepped = refl }
 
 module _ (s w : State) (left : ℕ) (m : MoreReads s left w) (z : Both) (i : Input) (o : OneRead w (state z i)) where
   came : state z i ≡ stepAll s (m .reads ++ (o .read ∷ []))
@@ -48,7 +48,7 @@ module _ (s w : State) (left : ℕ) (m : MoreReads s left w) (z : Both) (i : Inp
       record {
         reads = m .reads ++ (o .read ∷ []);
         spare = omega (arith, h, m .spare, length-append (m .reads) (o .read ∷ []));
-        counted = counted-last (m .reads) (o .read) (m .counted) (o .counted);
+        brought = bring-last (m .reads) (o .read) (m .brought) (o .brought);
         more = more-last s (m .reads) (o .read) (m .more) (ap (λ (v : State). v .input) leaves ∙ e);
         stepped = ap (state z) (sym e) ∙ came;
       }
@@ -58,7 +58,7 @@ module _ (s w : State) (left : ℕ) (m : MoreReads s left w) (z : Both) (i : Inp
   reads-last h =
       record {
         reads = m .reads ++ (o .read ∷ []);
-        counted = counted-last (m .reads) (o .read) (m .counted) (o .counted);
+        brought = bring-last (m .reads) (o .read) (m .brought) (o .brought);
         ended = byLast (m .reads) (o .read) refl (m .more) came h;
       }
 
@@ -67,12 +67,12 @@ pub reads-over : (s : State) (left : ℕ) (z : Both) → MoreReads s left (state
 reads-over s left z m h =
     record {
       reads = m .reads;
-      counted = m .counted;
+      brought = m .brought;
       ended = usedUp (omega (arith, h, m .spare)) (m .more) (ap (λ (v : State). state (v .fed) Failed) (m .stepped));
     }
 
 -- an input that was read is over, or it failed
-not-more : (s e : State) (rs : List Read) → Ended s rs e → e .input ≡ More → ⊥
+not-more : (s e : State) (rs : List Read) → InputEnds s rs e → e .input ≡ More → ⊥
 not-more s e rs (byLast before last q m f h) g = h g
 not-more s e rs (usedUp l m f) g = let z : Failed ≡ More = ap (λ (v : State). v .input) (sym f) ∙ g in let y : _≡_ {A = ℕ} 0 1 = cc in omega arith
 
@@ -94,8 +94,8 @@ step-fed z (negsuc k) i [] c = refl
 step-fed z (negsuc k) i (b ∷ bs) c = absurd (omega (arith, c))
 
 -- however the reads cut an input, all that they brought is fed in order
-pub reads-fed : (s : State) (rs : List Read) → AllCounted rs → stepAll s rs .fed ≡ feedAll (s .fed) (bytesIn rs)
-unfolding stepAll AllCounted bytesIn feedAll
+pub reads-fed : (s : State) (rs : List Read) → AllBring rs → stepAll s rs .fed ≡ feedAll (s .fed) (bytesIn rs)
+unfolding stepAll AllBring bytesIn feedAll
 reads-fed s [] c = refl
 reads-fed s (r ∷ rs) c =
     reads-fed (stepOf s r) rs (c .1)

@@ -1,5 +1,5 @@
 -- Laws of one read. Assumes nothing.
-use Prim.Native.Nat.{ℕ, zero, suc, _≤_, min}
+use Prim.Native.Nat.{ℕ, zero, suc, min}
 use mathlib.Core.Path.{_≡_, refl, sym, ap, ap₂, subst, _∙_}
 use mathlib.Core.Bool.{Bool, true, false, cond}
 use mathlib.Core.List.{List, [], _∷_}
@@ -14,7 +14,7 @@ use Rattle.ground.specs.Parts.{up}
 use Rattle.io.specs.Counts.{clamped}
 use Rattle.file_line.specs.Read.{Rooms}
 use Rattle.file_parts.specs.declared.Held.{Held}
-use Rattle.file_parts.specs.File.{Run, going, stopped, Both, both, feedAll}
+use Rattle.file_parts.specs.File.{going, stopped, Both, both, feedAll}
 use Rattle.file_parts.specs.Held.{abs}
 use Rattle.file_reads.specs.declared.Input.{Input}
 use Rattle.file_reads.specs.declared.Input.the-variants.{More, Over, Failed}

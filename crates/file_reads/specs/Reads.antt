@@ -21,8 +21,8 @@ abbrev pub readAs : ℤ → Bool → List ℕ → Read
 readAs count interrupted buffer = record { count = count; interrupted = interrupted; bytes = take (up count) buffer }
 
 -- a read brings as many bytes as it counts, and none where its count is negative
-abbrev pub Counted : Read → Type 0
-Counted r = length (r .bytes) ≡ up (r .count)
+abbrev pub Brings : Read → Type 0
+Brings r = length (r .bytes) ≡ up (r .count)
 
 -- a reading of a case file, and whether there is more to read
 pub record State : Type 0 where
@@ -62,9 +62,9 @@ AllMore s [] = Unit {0}
 AllMore s (r ∷ rs) = (stepOf s r .input ≡ More) × (AllMore (stepOf s r) rs)
 
 -- each of the reads brings as many bytes as it counts
-unfoldable pub AllCounted : List Read → Type 0
-AllCounted [] = Unit {0}
-AllCounted (r ∷ rs) = (Counted r) × (AllCounted rs)
+unfoldable pub AllBring : List Read → Type 0
+AllBring [] = Unit {0}
+AllBring (r ∷ rs) = (Brings r) × (AllBring rs)
 
 -- all that the reads brought, put together
 unfoldable pub bytesIn : List Read → List ℕ
@@ -77,12 +77,12 @@ readLimit = 2 ^ 64 - 1
 
 -- how reads from the state s on end at e: each but the last leaves more, and the last does not; or each of the most
 -- reads leaves more, and that is a failure
-pub data Ended (s : State) (rs : List Read) (e : State) : Type 0 where
-  byLast : (before : List Read) (last : Read) → rs ≡ before ++ (last ∷ []) → AllMore s before → e ≡ stepAll s rs → (e .input ≡ More → ⊥) → Ended s rs e
-  usedUp : length rs ≡ readLimit → AllMore s rs → e ≡ state (stepAll s rs .fed) Failed → Ended s rs e
+pub data InputEnds (s : State) (rs : List Read) (e : State) : Type 0 where
+  byLast : (before : List Read) (last : Read) → rs ≡ before ++ (last ∷ []) → AllMore s before → e ≡ stepAll s rs → (e .input ≡ More → ⊥) → InputEnds s rs e
+  usedUp : length rs ≡ readLimit → AllMore s rs → e ≡ state (stepAll s rs .fed) Failed → InputEnds s rs e
 
 -- an input was read from the state s on, and came to e
 pub record InputRead (s e : State) : Type 0 where
   pub reads : List Read
-  pub counted : AllCounted reads
-  pub ended : Ended s reads e
+  pub brought : AllBring reads
+  pub ended : InputEnds s reads e

@@ -8,7 +8,7 @@ use lib.ListN.{length}
 use lib.IntN.{ℤ, pos, negsuc}
 use Rattle.file_reads.specs.declared.Input.{Input}
 use Rattle.file_reads.specs.declared.Input.the-variants.{More, Over}
-use Rattle.file_reads.specs.Reads.{Read, Counted, AllCounted, AllMore, State, failureOf, stepOf, stepAll, readLimit}
+use Rattle.file_reads.specs.Reads.{Read, Brings, AllBring, AllMore, State, failureOf, stepOf, stepAll, readLimit}
 
 -- after a part, by the refusal's number, 0 for none
 unfoldable pub partBy : ℕ → Input
@@ -23,13 +23,13 @@ inputOf (pos (suc k)) interrupted part = part
 -- one read was made at the state s, and came to e
 pub record OneRead (s e : State) : Type 0 where
   pub read : Read
-  pub counted : Counted read
+  pub brought : Brings read
   pub stepped : e ≡ stepOf s read
 
 -- reads were made from the state s on, and so many are left of the most; each left more, and they came to e
 pub record MoreReads (s : State) (left : ℕ) (e : State) : Type 0 where
   pub reads : List Read
   pub spare : left + length reads ≡ readLimit
-  pub counted : AllCounted reads
+  pub brought : AllBring reads
   pub more : AllMore s reads
   pub stepped : e ≡ stepAll s reads

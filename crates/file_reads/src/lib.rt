@@ -3,7 +3,6 @@
 use file_parts::Held;
 use ground::Weight;
 ghost use mathlib.Core.Path.{_≡_};
-ghost use lib.Dec.{eqb};
 ghost use Rattle.file_line.specs.Read.{rooms};
 ghost use Rattle.file_line.specs.Walk.{Large};
 ghost use Rattle.file_parts.specs.File.{both};

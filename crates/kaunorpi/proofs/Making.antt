@@ -1,11 +1,11 @@
 -- Laws for the program's walk: what one read came to, and what is made at the end. Assumes nothing.
-use Prim.Native.Nat.{ℕ, _≤_, _<_, _^_}
-use mathlib.Core.Path.{_≡_, refl, sym, subst, ap, _∙_}
+use Prim.Native.Nat.{ℕ, _≤_}
+use mathlib.Core.Path.{_≡_, refl, subst, ap, _∙_}
 use mathlib.Core.Bool.{Bool}
 use mathlib.Core.List.{List, [], _∷_}
 use mathlib.Core.Logic.{⊎-elim}
 use native.Mathlib.Omega.{arith}
-use lib.ListN.{length, take}
+use lib.ListN.{length}
 use lib.Seq.{length-take-le}
 use lib.IntN.{ℤ, pos, negsuc}
 use mir.Syntax.{w64}
@@ -13,7 +13,6 @@ use mir.Val.{SFits}
 use types.Run.{OneOf}
 use denote.Enum.Declared.{tagOf}
 use Rattle.libc.specs.Io.{Moved}
-use Rattle.ground.specs.Parts.{up}
 use Rattle.file_line.specs.declared.Reading.{Reading}
 use Rattle.file_line.specs.Read.{Rooms, fresh}
 use Rattle.file_parts.specs.declared.Held.{Held}
@@ -22,11 +21,11 @@ use Rattle.file_parts.specs.Held.{abs}
 use Rattle.file_reads.specs.declared.Input.{Input}
 use Rattle.file_reads.specs.declared.Input.the-variants.{More, Failed}
 use Rattle.file_reads.proofs.Input.{the-type}
-use Rattle.file_reads.specs.Reads.{readAs, Counted, State, state, stepOf, InputRead}
+use Rattle.file_reads.specs.Reads.{readAs, Brings, State, state, stepOf, InputRead}
 use Rattle.file_reads.specs.Walk.{OneRead}
 use Rattle.file_reads.proofs.Inputs.{ends-over}
 use Rattle.verdict_line.specs.Answer.{answerFor}
-use Rattle.kaunorpi.specs.Made.{Shown, nothing, oneLine, first, Made}
+use Rattle.kaunorpi.specs.Made.{Shown, noLine, aLine, unread, Made}
 
 -- what a read answers fits its type
 pub moved-fits : (n : ℕ) (z : ℤ) → n ≤ 65536 → Moved n z → SFits w64 z
@@ -34,16 +33,16 @@ moved-fits n (pos k) h m = record { sfits = omega (arith, h, m) }
 moved-fits n (negsuc k) h m = record { sfits = omega (arith, m) }
 
 -- a read brings as many bytes as it counts
-moved-counted : (n : ℕ) (got : ℤ) (i : Bool) (buf : List ℕ) → n ≤ length buf → Moved n got → Counted (readAs got i buf)
-moved-counted n (pos k) i buf h m = length-take-le k buf (omega (arith, h, m))
-moved-counted n (negsuc k) i buf h m = refl
+moved-brings : (n : ℕ) (got : ℤ) (i : Bool) (buf : List ℕ) → n ≤ length buf → Moved n got → Brings (readAs got i buf)
+moved-brings n (pos k) i buf h m = length-take-le k buf (omega (arith, h, m))
+moved-brings n (negsuc k) i buf h m = refl
 
 -- one read; g is its count as the step was handed it
 pub read-one : (s e : State) (got g : ℤ) (i : Bool) (buf : List ℕ) (n : ℕ) → g ≡ got → n ≤ length buf → Moved n got → e ≡ stepOf s (readAs g i buf) → OneRead s e
 read-one s e got g i buf n eg h m q =
     record {
       read = readAs got i buf;
-      counted = moved-counted n got i buf h m;
+      brought = moved-brings n got i buf h m;
       stepped = q ∙ ap (λ (z : ℤ). stepOf s (readAs z i buf)) eg;
     }
 
@@ -60,11 +59,11 @@ told-no-failure i t e =
 
 -- what was read from the first state on
 module _ (s : Reading) (h : Held) (x : Rooms) (es : s ≡ fresh) (a : abs h ≡ going s []) (e : State) (r : InputRead (state (both (abs h) x) More) e) (out out′ : List ℕ) where
-  from-first : InputRead (first x) e
+  from-first : InputRead (unread x) e
   from-first = subst (λ (z : Run). InputRead (state (both z x) More) e) (a ∙ ap (λ (t : Reading). going t []) es) r
 
   pub made-nothing : e .input ≡ Failed → out′ ≡ out → Made x out out′
-  made-nothing f q = record { end = e; input = from-first; output = nothing f q }
+  made-nothing f q = record { end = e; input = from-first; output = noLine f q }
 
   pub made-line : (e .input ≡ Failed → ⊥) → Shown out (answerFor (caseOf (e .fed .run)) (e .fed .rooms)) out′ → Made x out out′
-  made-line f q = record { end = e; input = from-first; output = oneLine (ends-over _ e r f) q }
+  made-line f q = record { end = e; input = from-first; output = aLine (ends-over _ e r f) q }

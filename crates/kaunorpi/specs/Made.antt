@@ -17,15 +17,15 @@ pub record Shown (out bytes out′ : List ℕ) : Type 0 where
 
 -- what is made of an input that came to the state e: nothing, where it failed; where it is over, the line of what was fed
 pub data Output (e : State) (out out′ : List ℕ) : Type 0 where
-  nothing : e .input ≡ Failed → out′ ≡ out → Output e out out′
-  oneLine : e .input ≡ Over → Shown out (answerFor (caseOf (e .fed .run)) (e .fed .rooms)) out′ → Output e out out′
+  noLine : e .input ≡ Failed → out′ ≡ out → Output e out out′
+  aLine : e .input ≡ Over → Shown out (answerFor (caseOf (e .fed .run)) (e .fed .rooms)) out′ → Output e out out′
 
 -- before the first read
-abbrev pub first : Rooms → State
-first x = state (both (going fresh []) x) More
+abbrev pub unread : Rooms → State
+unread x = state (both (going fresh []) x) More
 
 -- what the program has made: there are reads from the first on, and what was made of their end
 pub record Made (x : Rooms) (out out′ : List ℕ) : Type 0 where
   pub end : State
-  pub input : InputRead (first x) end
+  pub input : InputRead (unread x) end
   pub output : Output end out out′
