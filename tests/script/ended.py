@@ -40,7 +40,7 @@ def processes(session):
     return found
 
 
-def until(test, seconds=5):
+def until(test, seconds=20):
     """Waits until the test holds; whether it does."""
     end = time.time() + seconds
     while not test():
@@ -137,7 +137,7 @@ def terminals(env):
 
 
 def main():
-    signal.alarm(60)
+    signal.alarm(180)
     with tempfile.TemporaryDirectory() as room:
         kept = os.path.join(room, "kept")
         os.mkdir(kept)

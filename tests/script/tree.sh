@@ -28,7 +28,7 @@ READER
 here=$(dirname "$(dirname "$0")")
 echo "rt: ground proved (unchanged since it was last proved)"
 echo "rt: net proved (3 s)"
-for turn in 1 2 3 4 5 6 7 8 9 10 11 12 13 14 15 16 17 18 19 20; do
+for turn in $(seq 50); do
     [ -e "$here/go" ] && break
     sleep 0.2 & wait
 done
