@@ -6,6 +6,7 @@ import fcntl
 import glob
 import os
 import pty
+import select
 import signal
 import subprocess
 import sys
@@ -115,6 +116,9 @@ def at_terminal(typed, env):
     shown = b""
     is_typed = False
     while True:
+        if not select.select([terminal], [], [], 20)[0]:
+            wrong("at a terminal, the script waits for ever after %r" % shown)
+            break
         try:
             shown += os.read(terminal, 4096)
         except OSError:

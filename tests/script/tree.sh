@@ -1,6 +1,7 @@
 # make_tree FOLDER: the script in a tree of its own, FOLDER/tree, with a kit that only pretends (FOLDER/kit, FOLDER/bin/rt),
 # so that the making of the program, and a reader that misbehaves, can be tried in a moment. Sourced, or run with FOLDER.
-# What the pretended reader does with a file is what the file's first line says; rt waits for FOLDER/go before it ends.
+# What the pretended reader does with a file is what the file's first line says. rt waits for FOLDER/go before it ends, and
+# makes the program only where there is none, as the true one may.
 # shellcheck shell=bash
 make_tree() {
     local kit
@@ -34,7 +35,7 @@ for turn in $(seq 50); do
 done
 [ -e "$here/go" ] || { echo "rt: nobody has seen that net is proved"; exit 1; }
 [ ! -e "$here/bad" ] || { echo "rt: kaunorpi NOT PROVED (exit 1, 2 s)"; exit 1; }
-mkdir -p target/bin && : > target/bin/kaunorpi && chmod +x target/bin/kaunorpi
+[ -e target/bin/kaunorpi ] || { mkdir -p target/bin && : > target/bin/kaunorpi && chmod +x target/bin/kaunorpi; }
 echo "rt: kaunorpi proved (1 s)"
 RT
     chmod +x "$1/bin/rt" "$kit/bin/clang" "$kit/lib/ld-linux-x86-64.so.2"
