@@ -1,5 +1,6 @@
 # Sourced by ./kaunorpi: what a verdict line says, in words. It judges nothing. What the line does not carry (which event
 # it was, how much it takes, a capacity, a name) is looked up in the case file that was answered, and in its names file.
+# shellcheck shell=bash
 
 count_words=(no one two three four five six seven eight nine ten eleven twelve)
 
