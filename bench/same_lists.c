@@ -1,4 +1,4 @@
-/* Closed lists and cover lists, as crates/closed and crates/cover do it. */
+/* Closed lists and cover lists, as crates/lists and crates/list_check do it. */
 #include "same.h"
 
 /* Whether the marking is one of the list's, compared from the first place up. */

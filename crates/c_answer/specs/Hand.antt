@@ -1,4 +1,4 @@
--- What C is handed: document 01's numbers of an answer, each in its field, and 0 where the answer has no such number.
+-- To be believed: what C is handed: document 01's numbers of an answer, each in its field, and 0 where the answer has no such number.
 use Prim.Native.Nat.{ℕ}
 use mathlib.Core.Bool.{Bool, _&&_}
 use mathlib.Core.List.{List}

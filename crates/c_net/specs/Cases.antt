@@ -1,4 +1,4 @@
--- A case file for C: the counts of what was read, or a refusal with its line.
+-- To be believed: a case file for C: the counts of what was read, or a refusal with its line.
 use mathlib.Core.Path.{_≡_}
 use mathlib.Core.Bool.{cond}
 use mathlib.Core.List.{List}

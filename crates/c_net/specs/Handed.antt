@@ -1,4 +1,4 @@
--- The complement net's answers for C.
+-- To be believed: the complement net's answers for C.
 use Prim.Native.Nat.{ℕ}
 use mathlib.Core.Path.{_≡_}
 use mathlib.Core.Bool.{cond}

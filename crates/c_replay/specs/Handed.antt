@@ -1,4 +1,4 @@
--- A replay for C: the numbers of its answer, and the room as the entry leaves it.
+-- To be believed: a replay for C: the numbers of its answer, and the room as the entry leaves it.
 use Prim.Native.Nat.{ℕ}
 use mathlib.Core.Path.{_≡_}
 use mathlib.Core.List.{List}

@@ -7,8 +7,7 @@ use mathlib.Core.List.{List}
 use lib.ListN.{length}
 use lib.Dec.{eqb}
 use Rattle.ground.specs.Limits.{countLimit}
-use Rattle.summary.specs.Ask as ask
-use Rattle.summary.specs.Ask.{Reply}
+use Rattle.summary.specs.Ask.{Reply, askedNumbers}
 use Rattle.summary.specs.declared.Summary.{Summary}
 use Rattle.summary.specs.declared.Summed.{Summed}
 use Rattle.summary.specs.declared.Asked.{Asked}
@@ -29,7 +28,7 @@ unique-reply x r r′ m m′ a b = (a .answer ∙ sym (b .answer), a .left ∙ s
 abbrev pub asked-of : Answer → Asked
 asked-of r = cond (eqb (r .kind) 0x82) (reply.Refused (r .number) (r .position)) (cond (eqb (r .number) 0) reply.Yes reply.No)
 
-pub asked-whole : (a : Asked) → asked-of (handed (ask.numbers a)) ≡ a
+pub asked-whole : (a : Asked) → asked-of (handed (askedNumbers a)) ≡ a
 unfolding handed
 asked-whole reply.Yes = refl
 asked-whole reply.No = refl

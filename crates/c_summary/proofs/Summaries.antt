@@ -7,23 +7,24 @@ use lib.ListN.{length}
 use lib.Dec.{eqb}
 use Rattle.ground.proofs.Tests.{never, and-true}
 use Rattle.net.specs.Net.{Net}
-use Rattle.net.specs.Given.{refuse, orElse, outside, netFault, markingFault, firstFault, wordFault, stretch, inside}
+use Rattle.net.specs.Given.{refuse, orElse, outside, countsFault, stretch, inside}
 use Rattle.net.specs.declared.Fault.{Fault}
 use Rattle.net.specs.declared.Fault.the-variants.{Sound, Faulty}
-use Rattle.net.proofs.Refusals.{or-sound, sized-of, unfit-first, unfit-all}
+use Rattle.net.proofs.Chains.{or-sound}
+use Rattle.net.proofs.Refusals.{counts-met, counts-unfit, marked-unfit}
 use Rattle.summary_place.specs.declared.Slot.{Slot}
-use Rattle.summary.specs.Summary.{emptySummary, refusal, summed, Answers, emptyAnswer, summaryOf, partFault, wordAnswer, shapeFault}
+use Rattle.summary.specs.Summary.{emptySummary, refusal, summed, Answers, emptyAnswer, summaryOf, wordAnswer, shapeFault}
 use Rattle.summary.specs.Join.{joinFault, joinSummary, joinAnswer}
-use Rattle.summary.specs.Ask as asked
-use Rattle.summary.specs.Ask.{Reply, askFault, judged, replied, Replied}
+use Rattle.summary.specs.Ask.{Reply, askFault, slotsReply, replied, askedNumbers, Replied}
 use Rattle.summary.specs.declared.Summary.{Summary}
 use Rattle.summary.specs.declared.Summed.{Summed}
 use Rattle.summary.specs.declared.Made.the-variants.{Done, Refused}
 use Rattle.summary.specs.declared.Asked.{Asked}
-use Rattle.summary.proofs.Answers.{answers-is}
+use Rattle.summary.proofs.Answers.{answers-is, unfit-part}
 use Rattle.c_summary_lists.specs.Columns.{Columns, fits, slotsFrom, columnsFrom}
 use Rattle.c_answer.specs.Hand.{handed}
-use Rattle.c_summary.specs.Summaries.{handedSummary, HandedSummary, listFault, emptyFor, lentSummary, joinFor, askFor, HandedReply, unfitAsked}
+use Rattle.c_summary.specs.Summaries.{handedSummary, HandedSummary, listFault, emptyFor, lentSummary, joinFor, askFor, HandedReply}
+use Rattle.c_summary.specs.Walk.{unfitAsked}
 use Rattle.c_answer.specs.declared.Answer.{Answer}
 use Rattle.c_summary.specs.declared.SummaryAnswer.{SummaryAnswer}
 
@@ -98,16 +99,15 @@ module _ (P : ℕ) (lists : Columns) (r : SummaryAnswer) (t : Bool) (e : t ≡ f
       (h ∙ ap (λ b. handedSummary (summed (listFault b false Sound) (emptySummary 0))) (or-self (outside P))))
 
 -- ---- the summary of a word
-unfit-sums : (net : Net) (s s′ : Summary) (lists : Columns) (r : SummaryAnswer) (f : Fault) → netFault net false ≡ f → r ≡ handedSummary (summed f s) → HandedSummary (summed f s′) lists r lists
-unfit-sums net s s′ lists r Sound q h = never (sym (sized-of net false q .1))
+unfit-sums : (net : Net) (s s′ : Summary) (lists : Columns) (r : SummaryAnswer) (f : Fault) → countsFault net false ≡ f → r ≡ handedSummary (summed f s) → HandedSummary (summed f s′) lists r lists
+unfit-sums net s s′ lists r Sound q h = never (sym (counts-met net false q .fitting))
 unfit-sums net s s′ lists r (Faulty n at) q h = record { answer = h; left = refl }
 
 unfit-word : (net : Net) (u w : List ℕ) (lists : Columns) (r : SummaryAnswer) (none : Summed) → Answers (wordAnswer net u false) none → r ≡ handedSummary none → HandedSummary (wordAnswer net w false) lists r lists
-unfolding partFault
 unfit-word net u w lists r none a h =
-    subst (λ f. HandedSummary (summed f (summaryOf net w)) lists r lists) (sym (unfit-first net (wordFault (net .transitions) w)))
-    (unfit-sums net (summaryOf net u) (summaryOf net w) lists r (netFault net false) refl
-    (h ∙ ap handedSummary (answers-is (wordAnswer net u false) none a ∙ ap (λ f. summed f (summaryOf net u)) (unfit-first net (wordFault (net .transitions) u)))))
+    subst (λ f. HandedSummary (summed f (summaryOf net w)) lists r lists) (sym (unfit-part net w))
+    (unfit-sums net (summaryOf net u) (summaryOf net w) lists r (countsFault net false) refl
+    (h ∙ ap handedSummary (answers-is (wordAnswer net u false) none a ∙ ap (λ f. summed f (summaryOf net u)) (unfit-part net u))))
 
 module _ (net : Net) (w : List ℕ) (lists : Columns) (r : SummaryAnswer) (t : Bool) (e : t ≡ fits lists) where
   pub word-handed : (lists′ : Columns) (made : Summed) → t ≡ true → Answers (wordAnswer net w true) made → HandedSummary made lists r lists′ → HandedSummary (wordAnswer net w (fits lists)) lists r lists′
@@ -166,39 +166,36 @@ module _ (P n : ℕ) (A : Columns) (Q k : ℕ) (B lists : Columns) (r : SummaryA
       (unfit-handed (outside P || outside Q) (joinFault x y) (joinSummary x y) lists r h)
 
 -- ---- asked
-first-unfit : (net : Net) (m : List ℕ) → firstFault net m false ≡ netFault net false
-unfolding firstFault
-first-unfit net m = ap (λ t. orElse (netFault net t) (markingFault (net .caps) m)) (and-false (eqb (length m) (net .places))) ∙ unfit-first net (markingFault (net .caps) m)
-
-ask-fault : (net : Net) (m : List ℕ) (s : Summary) → askFault net m s false ≡ orElse (refuse (outside (s .places)) 1 0) (netFault net false)
+ask-fault : (net : Net) (m : List ℕ) (s : Summary) → askFault net m s false ≡ orElse (refuse (outside (s .places)) 1 0) (countsFault net false)
 unfolding askFault
-ask-fault net m s = ap (orElse (refuse (outside (s .places)) 1 0)) (unfit-all net m (shapeFault s) ∙ first-unfit net m)
+ask-fault net m s =
+    ap (orElse (refuse (outside (s .places)) 1 0)) (ap (λ f. orElse f (shapeFault s)) (marked-unfit net m) ∙ counts-unfit net (shapeFault s))
 
-unfit-ask : (net : Net) (b : Bool) (reply : Reply) (room : List ℕ) (r : Answer) (f : Fault) → orElse (refuse b 1 0) (netFault net false) ≡ f → r ≡ handed (asked.numbers (unfitAsked f)) → HandedReply (replied f reply room) r room
-unfit-ask net b reply room r Sound q h = never (sym (sized-of net false (or-sound (refuse b 1 0) (netFault net false) q .1) .1))
+unfit-ask : (net : Net) (b : Bool) (reply : Reply) (room : List ℕ) (r : Answer) (f : Fault) → orElse (refuse b 1 0) (countsFault net false) ≡ f → r ≡ handed (askedNumbers (unfitAsked f)) → HandedReply (replied f reply room) r room
+unfit-ask net b reply room r Sound q h = never (sym (counts-met net false (or-sound (refuse b 1 0) (countsFault net false) q .1) .fitting))
 unfit-ask net b reply room r (Faulty n at) q h = record { answer = h; left = refl }
 
 module _ (net : Net) (m : List ℕ) (P n : ℕ) (lists : Columns) (room : List ℕ) (r : Answer) (t : Bool) (e : t ≡ fits lists) where
-  pub ask-handed : (s : Summary) (a : Asked) (room′ : List ℕ) → t ≡ true → s ≡ lentSummary P n lists → Replied net m s room a room′ → r ≡ handed (asked.numbers a) → HandedReply (askFor net m P n lists room) r room′
+  pub ask-handed : (s : Summary) (a : Asked) (room′ : List ℕ) → t ≡ true → s ≡ lentSummary P n lists → Replied net m s room a room′ → r ≡ handed (askedNumbers a) → HandedReply (askFor net m P n lists room) r room′
   ask-handed s a room′ q i p h =
       let x = lentSummary P n lists in
       let p′ = subst (λ s. Replied net m s room a room′) i p in
       let z = subst (λ y. HandedReply y r room′) in
-      z (sym (ap (λ t. replied (askFault net m x t) (judged (slotsFrom lists) (net .caps) m room) room) (ap (λ t. eqb (length room) (net .places) && t) (sym e ∙ q) ∙ and-yes _)))
+      z (sym (ap (λ t. replied (askFault net m x t) (slotsReply (slotsFrom lists) (net .caps) m room) room) (ap (λ t. eqb (length room) (net .places) && t) (sym e ∙ q) ∙ and-yes _)))
       (record { answer = h ∙ ap handed (p′ .answer); left = p′ .left })
 
-  pub ask-unfit : t ≡ false → r ≡ handed (asked.numbers (unfitAsked (orElse (refuse (outside P) 1 0) (netFault net false)))) → HandedReply (askFor net m P n lists room) r room
+  pub ask-unfit : t ≡ false → r ≡ handed (askedNumbers (unfitAsked (orElse (refuse (outside P) 1 0) (countsFault net false)))) → HandedReply (askFor net m P n lists room) r room
   ask-unfit q h =
       let x = lentSummary P n lists in
-      let j = judged (slotsFrom lists) (net .caps) m room in
+      let j = slotsReply (slotsFrom lists) (net .caps) m room in
       subst (λ f. HandedReply (replied f j room) r room)
       (sym (ap (askFault net m x) (ap (λ t. eqb (length room) (net .places) && t) (sym e ∙ q) ∙ and-false (eqb (length room) (net .places))) ∙ ask-fault net m x))
       (unfit-ask net (outside P) j room r _ refl h)
 
 -- refusals of the lists' lengths, by their case
 module _ (net : Net) (b : ℕ) (r : Answer) (s : Bool) (e : s ≡ outside b) where
-  pub asked-count : s ≡ true → r ≡ handed (asked.numbers (unfitAsked (Faulty 1 0))) → r ≡ handed (asked.numbers (unfitAsked (orElse (refuse (outside b) 1 0) (netFault net false))))
+  pub asked-count : s ≡ true → r ≡ handed (askedNumbers (unfitAsked (Faulty 1 0))) → r ≡ handed (askedNumbers (unfitAsked (orElse (refuse (outside b) 1 0) (countsFault net false))))
   asked-count q h = rw (sym e ∙ q) h
 
-  pub asked-found : (f g : Fault) → s ≡ false → f ≡ netFault net false → f ≡ g → r ≡ handed (asked.numbers (unfitAsked g)) → r ≡ handed (asked.numbers (unfitAsked (orElse (refuse (outside b) 1 0) (netFault net false))))
+  pub asked-found : (f g : Fault) → s ≡ false → f ≡ countsFault net false → f ≡ g → r ≡ handed (askedNumbers (unfitAsked g)) → r ≡ handed (askedNumbers (unfitAsked (orElse (refuse (outside b) 1 0) (countsFault net false))))
   asked-found f g q k i h = rw (sym e ∙ q, sym k ∙ i) h

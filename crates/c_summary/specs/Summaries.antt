@@ -1,4 +1,4 @@
--- Summaries for C: the place count and the letters stand in the answer, the slots in three lists of exactly 64 entries. A list of
+-- To be believed: summaries for C. The place count and the letters stand in the answer, the slots in three lists of exactly 64 entries. A list of
 -- another length is 2: "a lent list's or room's length disagrees with the counts", after 1 and before all others.
 use Prim.Native.Nat.{ℕ}
 use mathlib.Core.Path.{_≡_}
@@ -9,17 +9,14 @@ use lib.Dec.{eqb}
 use Rattle.net.specs.Net.{Net}
 use Rattle.net.specs.Given.{refuse, orElse, outside}
 use Rattle.net.specs.declared.Fault.{Fault}
-use Rattle.net.specs.declared.Fault.the-variants.{Sound, Faulty}
-use Rattle.summary.specs.Summary.{emptySummary, summed, numbers}
+use Rattle.net.specs.declared.Fault.the-variants.{Sound}
+use Rattle.summary.specs.Summary.{emptySummary, summed, madeNumbers}
 use Rattle.summary.specs.Join.{joinFault, joinSummary}
-use Rattle.summary.specs.Ask as asked
-use Rattle.summary.specs.Ask.{Reply, askFault, judged, replied}
+use Rattle.summary.specs.Ask.{Reply, askFault, slotsReply, replied, askedNumbers}
 use Rattle.summary.specs.declared.Summary.{Summary}
 use Rattle.summary.specs.declared.Summed.{Summed}
 use Rattle.summary.specs.declared.Made.{Made}
 use Rattle.summary.specs.declared.Made.the-variants.{Done, Refused}
-use Rattle.summary.specs.declared.Asked.{Asked}
-use Rattle.summary.specs.declared.Asked.the-variants as reply
 use Rattle.c_summary_lists.specs.Columns.{Columns, fits, slotsFrom, columnsFrom}
 use Rattle.c_answer.specs.Hand.{at, handed}
 use Rattle.c_answer.specs.declared.Answer.{Answer}
@@ -29,9 +26,9 @@ use Rattle.c_summary.specs.declared.SummaryAnswer.{SummaryAnswer}
 unfoldable pub handedSummary : Summed → SummaryAnswer
 handedSummary x =
     record {
-      kind = at 0 (numbers (x .answer));
-      number = at 1 (numbers (x .answer));
-      position = at 2 (numbers (x .answer));
+      kind = at 0 (madeNumbers (x .answer));
+      number = at 1 (madeNumbers (x .answer));
+      position = at 2 (madeNumbers (x .answer));
       places = x .summary .places;
       letters = x .summary .letters;
     }
@@ -68,14 +65,9 @@ joinFor P n a Q k b lists =
 abbrev pub askFor : Net → List ℕ → ℕ → ℕ → Columns → List ℕ → Reply
 askFor net m P n lists room =
     replied (askFault net m (lentSummary P n lists) (eqb (length room) (net .places) && fits lists))
-    (judged (slotsFrom lists) (net .caps) m room) room
+    (slotsReply (slotsFrom lists) (net .caps) m room) room
 
 -- such an answer, handed to C as r and in the room
 pub record HandedReply (reply : Reply) (r : Answer) (room′ : List ℕ) : Type 0 where
-  pub answer : r ≡ handed (asked.numbers (reply .answer))
+  pub answer : r ≡ handed (askedNumbers (reply .answer))
   pub left : room′ ≡ reply .left
-
--- a fault of the lists' lengths as an answer; there always is one
-abbrev pub unfitAsked : Fault → Asked
-unfitAsked Sound = reply.No
-unfitAsked (Faulty n at) = reply.Refused n at

@@ -15,13 +15,14 @@ ghost use mathlib.Core.Bool.{false, _&&_, _||_};
 ghost use lib.ListN.{length};
 ghost use Rattle.ground.specs.Limits.{countLimit};
 ghost use Rattle.net.specs.Net.{netOf};
-ghost use Rattle.net.specs.Given.{refuse, orElse, outside, netFault, stretch, inside};
+ghost use Rattle.net.specs.Given.{refuse, orElse, outside, countsFault, stretch, inside};
 ghost use Rattle.net.specs.declared.Fault.the-variants.{Sound};
 ghost use Rattle.summary.specs.Summary.{emptySummary, refusal, summed, wordAnswer};
-ghost use Rattle.summary.specs.Ask as asked;
+ghost use Rattle.summary.specs.Ask.{askedNumbers};
 ghost use Rattle.c_summary_lists.specs.Columns.{columnsOf, lengthsFit, fits};
 ghost use Rattle.c_answer.specs.Hand.{handed};
-ghost use Rattle.c_summary.specs.Summaries.{handedSummary, HandedSummary, listFault, emptyFor, lentSummary, joinFor, unfitAsked, askFor, HandedReply};
+ghost use Rattle.c_summary.specs.Summaries.{handedSummary, HandedSummary, listFault, emptyFor, lentSummary, joinFor, askFor, HandedReply};
+ghost use Rattle.c_summary.specs.Walk.{unfitAsked};
 
 // What a summary's answer says; the slots stand in the three lists.
 #[repr(C)]
@@ -265,7 +266,7 @@ pub extern "C" fn kaunorpi_join_summaries(
 
 // The answer of a summary that was asked, in 01's numbers.
 fn of_asked(answer: Asked) -> Answer
-    ensures { λ r. ⌜ r ≡ handed (asked.numbers answer) ⌝ }
+    ensures { λ r. ⌜ r ≡ handed (askedNumbers answer) ⌝ }
 {
     match answer {
         Asked::Yes => Answer {
@@ -295,7 +296,7 @@ fn refuse_asked(
     post: &[Weight],
     caps: &[u16],
 ) -> Answer
-    ensures { λ r. ⌜ r ≡ handed (asked.numbers (unfitAsked (orElse (refuse (outside count) 1 0) (netFault (netOf places transitions (now (pre .entry)) (now (post .entry)) (now (caps .entry))) false)))) ⌝ }
+    ensures { λ r. ⌜ r ≡ handed (askedNumbers (unfitAsked (orElse (refuse (outside count) 1 0) (countsFault (netOf places transitions (now (pre .entry)) (now (post .entry)) (now (caps .entry))) false)))) ⌝ }
 {
     if net::is_outside(count) {
         return Answer {
@@ -304,7 +305,7 @@ fn refuse_asked(
             position: 0,
         };
     }
-    let found = net::net_fault(places, transitions, pre, post, caps, false);
+    let found = net::counts_fault(places, transitions, pre, post, caps, false);
     match found {
         Fault::Faulty(number, at) => Answer {
             kind: REFUSED,

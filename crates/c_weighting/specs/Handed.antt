@@ -1,4 +1,4 @@
--- A bound for C.
+-- To be believed: a bound for C.
 use Prim.Native.Nat.{ℕ}
 use mathlib.Core.Bool.{cond}
 use mathlib.Core.List.{List}

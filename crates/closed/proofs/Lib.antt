@@ -1,4 +1,3 @@
-pub mod Listings
-pub mod Refusals
-pub mod Answers
+pub mod Deads
 pub mod Meaning
+pub mod Exactly

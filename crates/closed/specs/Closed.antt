@@ -1,4 +1,4 @@
--- Closed lists as published (document 01, "Marking lists").
+-- To be believed: closed lists as published (document 01, "Marking lists").
 use Prim.Native.Nat.{ℕ, _<_}
 use mathlib.Core.Path.{_≡_}
 use mathlib.Core.List.{List}
@@ -21,9 +21,9 @@ pub record IsClosed (net : Net) (initial list : List ℕ) : Type 0 where
   pub starts : Listed (net .places) list initial
   pub holds : (k t : ℕ) (m′ : List ℕ) → k < count (net .places) list → FiringAt net list k t m′ → Listed (net .places) list m′
 
--- every result of t at marking number k is listed
-abbrev pub Holds : Net → List ℕ → ℕ → ℕ → Type 0
-Holds net list k t = (m′ : List ℕ) → FiringAt net list k t m′ → Listed (net .places) list m′
+-- t is not enabled at marking number k, or its result is listed
+abbrev pub EnabledResultListed : Net → List ℕ → ℕ → ℕ → Type 0
+EnabledResultListed net list k t = (m′ : List ℕ) → FiringAt net list k t m′ → Listed (net .places) list m′
 
 -- "the first listed marking, and in it the lowest transition, whose result is absent"
 pub record FirstMissing (net : Net) (list : List ℕ) (k t : ℕ) : Type 0 where
@@ -31,8 +31,8 @@ pub record FirstMissing (net : Net) (list : List ℕ) (k t : ℕ) : Type 0 where
   pub result : List ℕ
   pub fires : FiringAt net list k t result
   pub absent : Listed (net .places) list result → ⊥
-  pub lower : (u : ℕ) → u < t → Holds net list k u
-  pub earlier : (j u : ℕ) → j < k → Holds net list j u
+  pub lower : (u : ℕ) → u < t → EnabledResultListed net list k u
+  pub earlier : (j u : ℕ) → j < k → EnabledResultListed net list j u
 
 -- "every listed marking enables something"
 pub record AllEnable (net : Net) (list : List ℕ) : Type 0 where

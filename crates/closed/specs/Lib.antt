@@ -1,6 +1,3 @@
 pub mod Closed
-pub mod Listing
-pub mod Given
-pub mod Ready
-pub mod Target
+pub mod Dead
 pub mod Stall

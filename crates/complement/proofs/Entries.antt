@@ -9,16 +9,14 @@ use native.Mathlib.Nat.{suc-mul, not-suc-le-zero, le-of-suc-le-suc, eq-or-lt-of-
 use lib.ListN.{length, getD, drop, length-append, length-map, length-take, List·getD-append, List·getD-eq-default}
 use lib.Seq.{getD-append-add}
 use Rattle.ground.specs.Limits.{noCapacity, weightLimit}
-use Rattle.ground.specs.Parts.{up, dn}
 use Rattle.ground.proofs.Fill.{table-at}
-use Rattle.net.specs.Net.{Net, Pre, Post, Change, Capped}
-use Rattle.net.specs.Firing.{Light}
+use Rattle.net.specs.Net.{Net, Pre, Post, rise, Capped}
 use Rattle.net.specs.Letter.{row, Small}
-use Rattle.net.specs.Given.{Sized}
-use Rattle.net.proofs.Rows.{row-end, row-at}
-use Rattle.complement.specs.Complement.{cappedFrom, cappedPlaces, atCapped, complementPlaces, joined, preRow, postRow, complementNet}
-use Rattle.complement.proofs.Written.{part-length}
-use Rattle.complement.proofs.Answers.{change-up, change-dn}
+use Rattle.net.specs.Given.{Light, Sized}
+use Rattle.net.proofs.Rows.{row-end, row-at, row-length}
+use Rattle.complement.specs.Complement.{madePlaces, atMade, complementPlaces, fall, joined, preRow, postRow, complementNet}
+use Rattle.complement.proofs.Choice.{map-at}
+use Rattle.complement.proofs.Written.{row-then}
 
 -- ---- lists one after the other
 module _ (f : ℕ → List ℕ) (wide : ℕ) where
@@ -78,69 +76,54 @@ module _ (b : ℕ) where
   joined-small f zero h = record { at = λ k. zero-le }
   joined-small f (suc n) h = both-small (joined f n) (f n) (joined-small f n h) (h n)
 
--- f of each capped place
-pub at-capped : (f : ℕ → ℕ) (caps : List ℕ) (j : ℕ) → j < length (cappedFrom 0 caps) → getD (atCapped f caps) j 0 ≡ f (getD (cappedFrom 0 caps) j 0)
-at-capped f caps j h = go (cappedFrom 0 caps) j h
-  where
-    go : (l : List ℕ) (j : ℕ) → j < length l → getD (map f l) j 0 ≡ f (getD l j 0)
-    go [] j h = absurd (not-suc-le-zero h)
-    go (x ∷ l) zero h = refl
-    go (x ∷ l) (suc j) h = go l j (le-of-suc-le-suc h)
-
--- ---- rows with the old places' entries and then f of each capped place
+-- ---- rows with the old places' entries and then f of each new place; `chosen` are the places that they stand for
 abbrev longRow : ℕ → List ℕ → List ℕ → (ℕ → ℕ → ℕ) → ℕ → List ℕ
-longRow places kept caps f t = row places t kept ++ atCapped (f t) caps
+longRow places kept chosen f t = row places t kept ++ map (f t) chosen
 
-module _ (places transitions : ℕ) (kept caps : List ℕ) (f : ℕ → ℕ → ℕ) (long : length kept ≡ transitions * places) where
+module _ (places transitions : ℕ) (kept chosen : List ℕ) (f : ℕ → ℕ → ℕ) (long : length kept ≡ transitions * places) where
   kept-long : (t : ℕ) → t < transitions → length (row places t kept) ≡ places
-  kept-long t h = part-length (t * places) places kept (rw long (row-end t transitions places h))
+  kept-long t h = row-length places t kept (rw long (row-end t transitions places h))
 
-  row-long : (t : ℕ) → t < transitions → length (longRow places kept caps f t) ≡ places + length (cappedFrom 0 caps)
-  row-long t h =
-      length-append (row places t kept) (atCapped (f t) caps)
-      ∙ omega (arith, kept-long t h, length-map (cappedFrom 0 caps) (f t))
+  row-long : (t : ℕ) → t < transitions → length (longRow places kept chosen f t) ≡ places + length chosen
+  row-long t h = row-then places t kept chosen (f t) (rw long (row-end t transitions places h))
 
-  rows-long : length (joined (longRow places kept caps f) transitions) ≡ transitions * (places + length (cappedFrom 0 caps))
-  rows-long = joined-length (longRow places kept caps f) (places + length (cappedFrom 0 caps)) transitions row-long
+  rows-long : length (joined (longRow places kept chosen f) transitions) ≡ transitions * (places + length chosen)
+  rows-long = joined-length (longRow places kept chosen f) (places + length chosen) transitions row-long
 
   module _ (t : ℕ) (h : t < transitions) where
-    old-at : (p : ℕ) → p < places → getD (joined (longRow places kept caps f) transitions) (t * (places + length (cappedFrom 0 caps)) + p) 0 ≡ getD kept (t * places + p) 0
+    old-at : (p : ℕ) → p < places → getD (joined (longRow places kept chosen f) transitions) (t * (places + length chosen) + p) 0 ≡ getD kept (t * places + p) 0
     old-at p b =
-        joined-at (longRow places kept caps f) (places + length (cappedFrom 0 caps)) transitions row-long t p h (omega arith)
-        ∙ List·getD-append (row places t kept) (atCapped (f t) caps) 0 p (omega (arith, kept-long t h))
+        joined-at (longRow places kept chosen f) (places + length chosen) transitions row-long t p h (omega arith)
+        ∙ List·getD-append (row places t kept) (map (f t) chosen) 0 p (omega (arith, kept-long t h))
         ∙ row-at places t kept p b
 
-    new-at : (j : ℕ) → j < length (cappedFrom 0 caps) → getD (joined (longRow places kept caps f) transitions) (t * (places + length (cappedFrom 0 caps)) + (places + j)) 0 ≡ f t (getD (cappedFrom 0 caps) j 0)
+    new-at : (j : ℕ) → j < length chosen → getD (joined (longRow places kept chosen f) transitions) (t * (places + length chosen) + (places + j)) 0 ≡ f t (getD chosen j 0)
     new-at j b =
-        joined-at (longRow places kept caps f) (places + length (cappedFrom 0 caps)) transitions row-long t (places + j) h (omega arith)
-        ∙ ap (λ (k : ℕ). getD (longRow places kept caps f t) (k + j) 0) (sym (kept-long t h))
-        ∙ getD-append-add (row places t kept) (atCapped (f t) caps) j 0
-        ∙ at-capped (f t) caps j b
+        joined-at (longRow places kept chosen f) (places + length chosen) transitions row-long t (places + j) h (omega arith)
+        ∙ ap (λ (k : ℕ). getD (longRow places kept chosen f t) (k + j) 0) (sym (kept-long t h))
+        ∙ getD-append-add (row places t kept) (map (f t) chosen) j 0
+        ∙ map-at (f t) chosen j b
 
 -- ---- the complement net
 module _ (net : Net) (sized : Sized net) where
   pub pre-long : length (complementNet net .pre) ≡ net .transitions * complementPlaces net
-  pre-long = rows-long (net .places) (net .transitions) (net .pre) (net .caps) (λ t p. up (Change net p t)) (sized .pres)
+  pre-long = rows-long (net .places) (net .transitions) (net .pre) (madePlaces net) (λ t p. rise net p t) (sized .pres)
 
   pub post-long : length (complementNet net .post) ≡ net .transitions * complementPlaces net
-  post-long = rows-long (net .places) (net .transitions) (net .post) (net .caps) (λ t p. dn (Change net p t)) (sized .posts)
+  post-long = rows-long (net .places) (net .transitions) (net .post) (madePlaces net) (λ t p. fall net p t) (sized .posts)
 
   module _ (t : ℕ) (h : t < net .transitions) where
     pub pre-old : (p : ℕ) → p < net .places → Pre (complementNet net) p t ≡ Pre net p t
-    pre-old p b = old-at (net .places) (net .transitions) (net .pre) (net .caps) (λ t p. up (Change net p t)) (sized .pres) t h p b
+    pre-old p b = old-at (net .places) (net .transitions) (net .pre) (madePlaces net) (λ t p. rise net p t) (sized .pres) t h p b
 
     pub post-old : (p : ℕ) → p < net .places → Post (complementNet net) p t ≡ Post net p t
-    post-old p b = old-at (net .places) (net .transitions) (net .post) (net .caps) (λ t p. dn (Change net p t)) (sized .posts) t h p b
+    post-old p b = old-at (net .places) (net .transitions) (net .post) (madePlaces net) (λ t p. fall net p t) (sized .posts) t h p b
 
-    pub pre-new : (j : ℕ) → j < length (cappedPlaces net) → Pre (complementNet net) (net .places + j) t ≡ Post net (getD (cappedPlaces net) j 0) t - Pre net (getD (cappedPlaces net) j 0) t
-    pre-new j b =
-        new-at (net .places) (net .transitions) (net .pre) (net .caps) (λ t p. up (Change net p t)) (sized .pres) t h j b
-        ∙ change-up net t (getD (cappedPlaces net) j 0)
+    pub pre-new : (j : ℕ) → j < length (madePlaces net) → Pre (complementNet net) (net .places + j) t ≡ rise net (getD (madePlaces net) j 0) t
+    pre-new j b = new-at (net .places) (net .transitions) (net .pre) (madePlaces net) (λ t p. rise net p t) (sized .pres) t h j b
 
-    pub post-new : (j : ℕ) → j < length (cappedPlaces net) → Post (complementNet net) (net .places + j) t ≡ Pre net (getD (cappedPlaces net) j 0) t - Post net (getD (cappedPlaces net) j 0) t
-    post-new j b =
-        new-at (net .places) (net .transitions) (net .post) (net .caps) (λ t p. dn (Change net p t)) (sized .posts) t h j b
-        ∙ change-dn net t (getD (cappedPlaces net) j 0)
+    pub post-new : (j : ℕ) → j < length (madePlaces net) → Post (complementNet net) (net .places + j) t ≡ fall net (getD (madePlaces net) j 0) t
+    post-new j b = new-at (net .places) (net .transitions) (net .post) (madePlaces net) (λ t p. fall net p t) (sized .posts) t h j b
 
 -- "No capacities remain."
 pub never-capped : (net : Net) (p : ℕ) → p < complementPlaces net → Capped (complementNet net) p → ⊥
@@ -157,9 +140,9 @@ light-stays net l =
     pre-row : (t : ℕ) → Small weightLimit (preRow net t)
     pre-row t =
         both-small weightLimit _ _ (row-small weightLimit (net .places) t (net .pre) (record { at = l .pre }))
-        (map-small weightLimit (λ p. up (Change net p t)) (cappedPlaces net) (λ p. omega (arith, change-up net t p, l .post (t * net .places + p))))
+        (map-small weightLimit (λ p. rise net p t) (madePlaces net) (λ p. omega (arith, l .post (t * net .places + p))))
 
     post-row : (t : ℕ) → Small weightLimit (postRow net t)
     post-row t =
         both-small weightLimit _ _ (row-small weightLimit (net .places) t (net .post) (record { at = l .post }))
-        (map-small weightLimit (λ p. dn (Change net p t)) (cappedPlaces net) (λ p. omega (arith, change-dn net t p, l .pre (t * net .places + p))))
+        (map-small weightLimit (λ p. fall net p t) (madePlaces net) (λ p. omega (arith, l .pre (t * net .places + p))))

@@ -1,5 +1,5 @@
+pub mod Choice
 pub mod Written
-pub mod Capped
 pub mod Answers
 pub mod Entries
 pub mod Meaning

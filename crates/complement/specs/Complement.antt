@@ -1,44 +1,56 @@
--- Document 01, "Complement net": from 001, extended to capacity 0.
+-- To be believed: document 01, "Complement net": from 001, extended to capacity 0.
 use Prim.Native.Nat.{ℕ, zero, suc, _+_, _-_, _<_}
 use mathlib.Core.Path.{_≡_}
-use mathlib.Core.Bool.{cond}
+use mathlib.Core.Bool.{Bool, cond}
 use mathlib.Core.List.{List, [], _∷_, _++_, map}
 use lib.ListN.{length, getD}
 use lib.Dec.{ltb}
 use Rattle.ground.specs.Limits.{noCapacity}
 use Rattle.ground.specs.Lists.{table}
-use Rattle.ground.specs.Parts.{up, dn}
-use Rattle.net.specs.Net.{Net, Change, capacity, tokens}
+use Rattle.net.specs.Net.{Net, Pre, Post, riseOf, rise, capacity, tokens}
 use Rattle.net.specs.Letter.{row}
 
--- "each capped place, in order of number": the list's first capacity is that of place p
-unfoldable pub cappedFrom : ℕ → List ℕ → List ℕ
-cappedFrom p [] = []
-cappedFrom p (cap ∷ caps) = cond (ltb cap noCapacity) (p ∷ cappedFrom (suc p) caps) (cappedFrom (suc p) caps)
+-- "Each capped place .. gets a new place": whether place p does. Here and in `is_made` alone stands which places do.
+unfoldable pub made : Net → ℕ → Bool
+made net p = ltb (capacity net p) noCapacity
 
-abbrev pub cappedPlaces : Net → List ℕ
-cappedPlaces net = cappedFrom 0 (net .caps)
+-- of the n numbers from p on, those that pass a test, in order
+unfoldable pub chosenFrom : (ℕ → Bool) → ℕ → ℕ → List ℕ
+chosenFrom f p zero = []
+chosenFrom f p (suc n) = cond (f p) (p ∷ chosenFrom f (suc p) n) (chosenFrom f (suc p) n)
 
--- f of each capped place, in order of number
-abbrev pub atCapped : (ℕ → ℕ) → List ℕ → List ℕ
-atCapped f caps = map f (cappedFrom 0 caps)
+-- the places that get one, "in order of number"
+abbrev pub madePlaces : Net → List ℕ
+madePlaces net = chosenFrom (made net) 0 (net .places)
 
--- "Each capped place .. gets a new place after the old ones"
+-- f of each of them
+abbrev pub atMade : Net → (ℕ → ℕ) → List ℕ
+atMade net f = map f (madePlaces net)
+
+-- the new places stand "after the old ones"
 abbrev pub complementPlaces : Net → ℕ
-complementPlaces net = net .places + length (cappedPlaces net)
+complementPlaces net = net .places + length (madePlaces net)
 
 -- f 0, f 1, .., f (n - 1), one after the other
 unfoldable pub joined : (ℕ → List ℕ) → ℕ → List ℕ
 joined f zero = []
 joined f (suc n) = joined f n ++ f n
 
--- "Change > 0 becomes an arc from it", beside the arcs from the old places
-abbrev pub preRow : Net → ℕ → List ℕ
-preRow net t = row (net .places) t (net .pre) ++ atCapped (λ p. up (Change net p t)) (net .caps)
+-- A new place has as many tokens as the old one has room for: a transition takes from it what the old place rises by, and the two
+-- together keep their sum. So "Change > 0 becomes an arc from it, change < 0 an arc to it" (`arc-from`, `arc-to` in proofs/Meaning.antt).
+abbrev pub fallOf : ℕ → ℕ → ℕ
+fallOf takes puts = riseOf takes puts + takes - puts
 
--- "change < 0 an arc to it", beside the arcs to the old places
+abbrev pub fall : Net → ℕ → ℕ → ℕ
+fall net p t = fallOf (Pre net p t) (Post net p t)
+
+-- what t takes from the old places, then from the new ones
+abbrev pub preRow : Net → ℕ → List ℕ
+preRow net t = row (net .places) t (net .pre) ++ atMade net (λ p. rise net p t)
+
+-- what t puts to the old places, then to the new ones
 abbrev pub postRow : Net → ℕ → List ℕ
-postRow net t = row (net .places) t (net .post) ++ atCapped (λ p. dn (Change net p t)) (net .caps)
+postRow net t = row (net .places) t (net .post) ++ atMade net (λ p. fall net p t)
 
 -- the complement net: "No capacities remain."
 abbrev pub complementNet : Net → Net
@@ -52,21 +64,11 @@ complementNet net =
     }
 
 -- each new place "starting with capacity minus tokens"
-abbrev pub newTokens : List ℕ → List ℕ → List ℕ
-newTokens caps m = m ++ atCapped (λ p. getD caps p 0 - tokens m p) caps
-
 abbrev pub complementMarking : Net → List ℕ → List ℕ
-complementMarking net m = newTokens (net .caps) m
+complementMarking net m = m ++ atMade net (λ p. capacity net p - tokens m p)
 
 -- "old places agree, and each new place holds capacity minus tokens"
 pub record Related (net : Net) (m m′ : List ℕ) : Type 0 where
   pub long : length m′ ≡ complementPlaces net
   pub old : (p : ℕ) → p < net .places → tokens m′ p ≡ tokens m p
-  pub new : (j : ℕ) → j < length (cappedPlaces net) → tokens m′ (net .places + j) + tokens m (getD (cappedPlaces net) j 0) ≡ capacity net (getD (cappedPlaces net) j 0)
-
--- how the rooms are written, row by row: what is kept at the old places, then at each new one what the other row has more
-abbrev pub newRow : List ℕ → List ℕ → List ℕ → List ℕ
-newRow kept other caps = kept ++ atCapped (λ p. getD other p 0 - getD kept p 0) caps
-
-unfoldable pub newRows : ℕ → ℕ → List ℕ → List ℕ → List ℕ → List ℕ
-newRows places transitions kept other caps = joined (λ t. newRow (row places t kept) (row places t other) caps) transitions
+  pub new : (j : ℕ) → j < length (madePlaces net) → tokens m′ (net .places + j) + tokens m (getD (madePlaces net) j 0) ≡ capacity net (getD (madePlaces net) j 0)

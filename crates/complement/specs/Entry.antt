@@ -1,4 +1,4 @@
--- The complement net into lent rooms: refusals 1, 2, 3 and 10 "in number order", else the net and its initial marking.
+-- To be believed: the complement net into lent rooms; refusals 1, 2, 3 and 10 "in number order", else the net and its initial marking.
 use Prim.Native.Nat.{ℕ, _*_, _≤_}
 use mathlib.Core.Path.{_≡_}
 use mathlib.Core.Bool.{Bool, _&&_}
@@ -7,11 +7,12 @@ use lib.ListN.{length}
 use lib.Dec.{eqb}
 use Rattle.ground.specs.Limits.{countLimit}
 use Rattle.net.specs.Net.{Net}
-use Rattle.net.specs.Given.{orElse, firstFault, Sized, Fine}
+use Rattle.net.specs.Given.{orElse, markedFault, Sized, Fine}
+use Rattle.net.specs.First.{MarkedFirst}
 use Rattle.net.specs.declared.Fault.{Fault}
 use Rattle.net.specs.declared.Fault.the-variants.{Sound, Faulty}
 use Rattle.complement.specs.Complement.{complementPlaces, complementNet, complementMarking}
-use Rattle.complement.specs.Told.{limitFault}
+use Rattle.complement.specs.Told.{limitFault, LimitFirst}
 use Rattle.complement.specs.declared.ComplementNet.{ComplementNet}
 use Rattle.complement.specs.declared.ComplementNet.the-variants.{Made, Refused}
 
@@ -37,7 +38,7 @@ roomsFit net rooms = netFits net (length (rooms .pre)) (length (rooms .post)) (l
 
 -- 1, 2 and 3 for the net and its initial marking, then 10
 unfoldable pub complementFault : Net → List ℕ → Bool → Fault
-complementFault net initial fits = orElse (firstFault net initial fits) (limitFault (complementPlaces net))
+complementFault net initial fits = orElse (markedFault net initial fits) (limitFault (complementPlaces net))
 
 -- an answer, and the rooms left
 pub record Wrote : Type 0 where
@@ -45,8 +46,8 @@ pub record Wrote : Type 0 where
   pub left : Rooms
 
 -- the complement net and its initial marking
-abbrev pub made : Net → List ℕ → Rooms
-made net initial = roomsOf (complementNet net .pre) (complementNet net .post) (complementNet net .caps) (complementMarking net initial)
+abbrev pub written : Net → List ℕ → Rooms
+written net initial = roomsOf (complementNet net .pre) (complementNet net .post) (complementNet net .caps) (complementMarking net initial)
 
 -- "A refusal leaves lent memory as found."
 abbrev pub answered : Fault → Rooms → Rooms → Wrote
@@ -54,7 +55,7 @@ answered Sound new rooms = record { answer = Made; left = new }
 answered (Faulty n at) new rooms = record { answer = Refused n at; left = rooms }
 
 abbrev pub complementOf : Net → List ℕ → Rooms → Wrote
-complementOf net initial rooms = answered (complementFault net initial (roomsFit net rooms)) (made net initial) rooms
+complementOf net initial rooms = answered (complementFault net initial (roomsFit net rooms)) (written net initial) rooms
 
 -- numbers for each case: 81 00; 82, a refusal's number and position
 abbrev pub numbers : ComplementNet → List ℕ
@@ -66,13 +67,21 @@ pub record Complemented (net : Net) (initial : List ℕ) (rooms : Rooms) (r : Co
   pub answer : numbers r ≡ numbers (complementOf net initial rooms .answer)
   pub left : rooms′ ≡ complementOf net initial rooms .left
 
--- all that document 01 asks of what is lent: nothing is refused exactly where this holds
-pub record Allowed (net : Net) (initial : List ℕ) (rooms : Rooms) : Type 0 where
-  pub sized : Sized net
-  pub marked : length initial ≡ net .places
+-- each room has the new net's length
+pub record Roomy (net : Net) (rooms : Rooms) : Type 0 where
   pub pres : length (rooms .pre) ≡ net .transitions * complementPlaces net
   pub posts : length (rooms .post) ≡ net .transitions * complementPlaces net
   pub capped : length (rooms .caps) ≡ complementPlaces net
   pub initials : length (rooms .initial) ≡ complementPlaces net
+
+-- all that document 01 asks of what is lent: nothing is refused exactly where this holds
+pub record Allowed (net : Net) (initial : List ℕ) (rooms : Rooms) : Type 0 where
+  pub sized : Sized net
+  pub marked : length initial ≡ net .places
+  pub roomy : Roomy net rooms
   pub fine : Fine (net .caps) initial
   pub few : complementPlaces net ≤ countLimit
+
+-- what refusal n at position at means, demand by demand: 1, 2, 3, 10
+abbrev pub Refusal : Net → List ℕ → Rooms → ℕ → ℕ → Type 0
+Refusal net initial rooms n at = MarkedFirst net initial (Roomy net rooms) n at (LimitFirst net n at)

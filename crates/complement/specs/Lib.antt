@@ -1,3 +1,4 @@
 pub mod Complement
 pub mod Told
 pub mod Entry
+pub mod Walk

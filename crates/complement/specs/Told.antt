@@ -1,4 +1,4 @@
--- The public question beside the complement net: how many places it has.
+-- To be believed: the public question beside the complement net, how many places it has.
 use Prim.Native.Nat.{ℕ, _≤_}
 use mathlib.Core.Path.{_≡_}
 use mathlib.Core.Bool.{true}
@@ -7,6 +7,7 @@ use lib.Dec.{ltb}
 use Rattle.ground.specs.Limits.{countLimit}
 use Rattle.net.specs.Net.{Net}
 use Rattle.net.specs.Given.{refuse, orElse, netFault, Sized}
+use Rattle.net.specs.First.{First, Given, NetFirst}
 use Rattle.net.specs.declared.Fault.{Fault}
 use Rattle.net.specs.declared.Fault.the-variants.{Sound, Faulty}
 use Rattle.complement.specs.Complement.{complementPlaces}
@@ -42,3 +43,11 @@ pub record Told (net : Net) (r : ComplementPlaces) : Type 0 where
 pub record Countable (net : Net) : Type 0 where
   pub sized : Sized net
   pub few : complementPlaces net ≤ countLimit
+
+-- 10 unless old plus complement places are at most 64; the last demand of both entries
+abbrev pub LimitFirst : Net → ℕ → ℕ → Type 0
+LimitFirst net n at = First (complementPlaces net ≤ countLimit) (Given 10 0 n at) ⊥
+
+-- what refusal n at position at means, demand by demand: 1, 2, 10. Nothing beside the net is lent.
+abbrev pub PlacesRefusal : Net → ℕ → ℕ → Type 0
+PlacesRefusal net n at = NetFirst net (Unit {0}) n at (LimitFirst net n at)

@@ -5,17 +5,18 @@ use ground::NO_CAPACITY;
 use ground::Weight;
 use net::Fault;
 ghost use mathlib.Core.Path.{_≡_};
-ghost use Prim.Native.Nat.{_+_, _-_, _*_, _≤_};
-ghost use lib.Dec.{ltb};
-ghost use lib.ListN.{length, getD};
+ghost use Prim.Native.Nat.{_+_, _-_, _*_, _≤_, _<_};
+ghost use mathlib.Core.List.{_++_};
+ghost use lib.ListN.{length, replicate};
 ghost use lib.Seq.{sets};
-ghost use Rattle.ground.specs.Limits.{noCapacity};
+ghost use Rattle.ground.specs.Limits.{countLimit, noCapacity};
 ghost use Rattle.ground.specs.Lists.{table};
 ghost use Rattle.net.specs.Net.{netOf};
-ghost use Rattle.net.specs.Given.{orElse, firstFault, Fine};
-ghost use Rattle.complement.specs.Complement.{cappedFrom, atCapped, newRow, newRows, newTokens};
+ghost use Rattle.net.specs.Given.{orElse, markedFault, Sized, Fine};
+ghost use Rattle.complement.specs.Complement.{made, madePlaces, fallOf, joined};
 ghost use Rattle.complement.specs.Told.{limitFault, Told};
-ghost use Rattle.complement.specs.Entry.{roomsOf, lengthsFit, netFits, complementFault, made, Allowed, Complemented};
+ghost use Rattle.complement.specs.Entry.{roomsOf, lengthsFit, netFits, complementFault, Complemented};
+ghost use Rattle.complement.specs.Walk.{Inside, rises, falls, newPre, newPost, spares};
 
 // How many places the complement net has; or refused, with document 01's number and position.
 pub enum ComplementPlaces {
@@ -29,21 +30,38 @@ pub enum ComplementNet {
     Refused(u8, usize),
 }
 
-// Whether a capacity is one.
-fn is_capped(cap: u16) -> bool
-    ensures { λ r. ⌜ r ≡ ltb cap noCapacity ⌝ }
+// Whether a place gets a complement place: it has a capacity. Here and in `made` alone stands which
+// places do, so it is lent the whole net.
+fn is_made(
+    places: usize,
+    transitions: usize,
+    pre: &[Weight],
+    post: &[Weight],
+    caps: &[u16],
+    p: usize,
+) -> bool
+    requires { ⌜ Sized (netOf places transitions (now pre) (now post) (now caps)) ⌝ }
+    requires { ⌜ p < places ⌝ }
+    ensures { λ r. ⌜ r ≡ made (netOf places transitions (now (pre .entry)) (now (post .entry)) (now (caps .entry))) p ⌝ }
 {
-    cap < NO_CAPACITY
+    caps[p] < NO_CAPACITY
 }
 
-// How many places have a capacity.
-fn count_capped(caps: &[u16]) -> usize
-    ensures { λ r. ⌜ r ≡ length (cappedFrom 0 (now (caps .entry))) ⌝ }
+// How many places get one.
+fn count_made(
+    places: usize,
+    transitions: usize,
+    pre: &[Weight],
+    post: &[Weight],
+    caps: &[u16],
+) -> usize
+    requires { ⌜ Sized (netOf places transitions (now pre) (now post) (now caps)) ⌝ }
+    ensures { λ r. ⌜ r ≡ length (madePlaces (netOf places transitions (now (pre .entry)) (now (post .entry)) (now (caps .entry)))) ⌝ }
 {
     let mut count: usize = 0;
     let mut p = 0;
-    while p < caps.len() {
-        if is_capped(caps[p]) {
+    while p < places {
+        if is_made(places, transitions, pre, post, caps, p) {
             count += 1;
         }
         p += 1;
@@ -51,11 +69,44 @@ fn count_capped(caps: &[u16]) -> usize
     count
 }
 
-// The part of one weight that is above the other.
-fn more(other: Weight, kept: Weight) -> Weight
-    ensures { λ r. ⌜ r ≡ other - kept ⌝ }
+// Room for as many place numbers as there may be places.
+fn blank_places() -> [usize; COUNT_LIMIT]
+    ensures { λ r. ⌜ r ≡ replicate countLimit 0 ⌝ }
 {
-    if other < kept { 0 } else { other - kept }
+    [0; COUNT_LIMIT]
+}
+
+// The places that get one, in order of number, at the front.
+fn made_places(
+    places: usize,
+    transitions: usize,
+    pre: &[Weight],
+    post: &[Weight],
+    caps: &[u16],
+) -> [usize; COUNT_LIMIT]
+    requires { ⌜ Sized (netOf places transitions (now pre) (now post) (now caps)) ⌝ }
+    ensures { λ r. ⌜ r ≡ sets (replicate countLimit 0) 0 (madePlaces (netOf places transitions (now (pre .entry)) (now (post .entry)) (now (caps .entry)))) ⌝ }
+{
+    let mut chosen = blank_places();
+    let mut at: usize = 0;
+    let mut p = 0;
+    while p < places {
+        if is_made(places, transitions, pre, post, caps, p) {
+            chosen[at] = p;
+            at += 1;
+        }
+        p += 1;
+    }
+    chosen
+}
+
+// What a transition puts to a new place: its rise there, and what it takes above what it puts. So
+// subtracted, no sum is above a weight.
+fn fall(takes: Weight, puts: Weight) -> Weight
+    ensures { λ r. ⌜ r ≡ fallOf takes puts ⌝ }
+{
+    let rises = net::rise(takes, puts);
+    takes - (puts - rises)
 }
 
 // The old places' weights of one transition, into the room from `to` on.
@@ -70,35 +121,53 @@ fn copy_row(kept: &[Weight], to: usize, room: &mut [Weight])
     }
 }
 
-// The new places' weights of one transition, into the room from `to` on.
-fn add_row(kept: &[Weight], other: &[Weight], caps: &[u16], to: usize, room: &mut [Weight])
-    requires { ⌜ length (now kept) ≡ length (now caps) ⌝ }
-    requires { ⌜ length (now other) ≡ length (now caps) ⌝ }
-    requires { ⌜ to + length (cappedFrom 0 (now caps)) ≤ length (now room) ⌝ }
-    ensures { λ r. ⌜ now (room .exit) ≡ sets (now (room .entry)) to (atCapped (λ p. getD (now (other .entry)) p 0 - getD (now (kept .entry)) p 0) (now (caps .entry))) ⌝ }
+// The new places' weights of one transition, into the rooms for Pre and Post from `to` on.
+fn add_row(
+    takes: &[Weight],
+    puts: &[Weight],
+    chosen: &[usize],
+    to: usize,
+    pre2: &mut [Weight],
+    post2: &mut [Weight],
+)
+    requires { ⌜ length (now takes) ≡ length (now puts) ⌝ }
+    requires { ⌜ Inside (length (now puts)) (now chosen) ⌝ }
+    requires { ⌜ to + length (now chosen) ≤ length (now pre2) ⌝ }
+    requires { ⌜ to + length (now chosen) ≤ length (now post2) ⌝ }
+    ensures { λ r. ⌜ now (pre2 .exit) ≡ sets (now (pre2 .entry)) to (rises (now (takes .entry)) (now (puts .entry)) (now (chosen .entry))) ⌝ }
+    ensures { λ r. ⌜ now (post2 .exit) ≡ sets (now (post2 .entry)) to (falls (now (takes .entry)) (now (puts .entry)) (now (chosen .entry))) ⌝ }
 {
-    let mut at = to;
-    let mut p = 0;
-    while p < caps.len() {
-        if is_capped(caps[p]) {
-            room[at] = more(other[p], kept[p]);
-            at += 1;
-        }
-        p += 1;
+    let mut j = 0;
+    while j < chosen.len() {
+        let p = chosen[j];
+        let taken = takes[p];
+        let put = puts[p];
+        pre2[to + j] = net::rise(taken, put);
+        post2[to + j] = fall(taken, put);
+        j += 1;
     }
 }
 
-// One transition's weights: what it keeps at the old places, then at each new one what the other
-// row has more.
-fn write_row(kept: &[Weight], other: &[Weight], caps: &[u16], to: usize, room: &mut [Weight])
-    requires { ⌜ length (now kept) ≡ length (now caps) ⌝ }
-    requires { ⌜ length (now other) ≡ length (now caps) ⌝ }
-    requires { ⌜ to + (length (now caps) + length (cappedFrom 0 (now caps))) ≤ length (now room) ⌝ }
-    ensures { λ r. ⌜ now (room .exit) ≡ sets (now (room .entry)) to (newRow (now (kept .entry)) (now (other .entry)) (now (caps .entry))) ⌝ }
+// One transition's weights, the old places' and then the new ones', into both rooms.
+fn write_row(
+    takes: &[Weight],
+    puts: &[Weight],
+    chosen: &[usize],
+    to: usize,
+    pre2: &mut [Weight],
+    post2: &mut [Weight],
+)
+    requires { ⌜ length (now takes) ≡ length (now puts) ⌝ }
+    requires { ⌜ Inside (length (now puts)) (now chosen) ⌝ }
+    requires { ⌜ to + (length (now puts) + length (now chosen)) ≤ length (now pre2) ⌝ }
+    requires { ⌜ to + (length (now puts) + length (now chosen)) ≤ length (now post2) ⌝ }
+    ensures { λ r. ⌜ now (pre2 .exit) ≡ sets (now (pre2 .entry)) to (now (takes .entry) ++ rises (now (takes .entry)) (now (puts .entry)) (now (chosen .entry))) ⌝ }
+    ensures { λ r. ⌜ now (post2 .exit) ≡ sets (now (post2 .entry)) to (now (puts .entry) ++ falls (now (takes .entry)) (now (puts .entry)) (now (chosen .entry))) ⌝ }
 {
-    let next = to + kept.len();
-    copy_row(kept, to, room);
-    add_row(kept, other, caps, next, room);
+    let next = to + puts.len();
+    copy_row(takes, to, pre2);
+    copy_row(puts, to, post2);
+    add_row(takes, puts, chosen, next, pre2, post2);
 }
 
 // All transitions' weights, row by row.
@@ -106,23 +175,26 @@ fn write_rows(
     places: usize,
     transitions: usize,
     wide: usize,
-    kept: &[Weight],
-    other: &[Weight],
-    caps: &[u16],
-    room: &mut [Weight],
+    pre: &[Weight],
+    post: &[Weight],
+    chosen: &[usize],
+    pre2: &mut [Weight],
+    post2: &mut [Weight],
 )
-    requires { ⌜ length (now kept) ≡ transitions * places ⌝ }
-    requires { ⌜ length (now other) ≡ transitions * places ⌝ }
-    requires { ⌜ length (now caps) ≡ places ⌝ }
-    requires { ⌜ wide ≡ places + length (cappedFrom 0 (now caps)) ⌝ }
-    requires { ⌜ length (now room) ≡ transitions * wide ⌝ }
-    ensures { λ r. ⌜ now (room .exit) ≡ newRows places transitions (now (kept .entry)) (now (other .entry)) (now (caps .entry)) ⌝ }
+    requires { ⌜ length (now pre) ≡ transitions * places ⌝ }
+    requires { ⌜ length (now post) ≡ transitions * places ⌝ }
+    requires { ⌜ Inside places (now chosen) ⌝ }
+    requires { ⌜ wide ≡ places + length (now chosen) ⌝ }
+    requires { ⌜ length (now pre2) ≡ transitions * wide ⌝ }
+    requires { ⌜ length (now post2) ≡ transitions * wide ⌝ }
+    ensures { λ r. ⌜ now (pre2 .exit) ≡ joined (newPre places (now (pre .entry)) (now (post .entry)) (now (chosen .entry))) transitions ⌝ }
+    ensures { λ r. ⌜ now (post2 .exit) ≡ joined (newPost places (now (pre .entry)) (now (post .entry)) (now (chosen .entry))) transitions ⌝ }
 {
     let mut t = 0;
     while t < transitions {
         let a = t * places;
         let e = a + places;
-        write_row(&kept[a..e], &other[a..e], caps, t * wide, room);
+        write_row(&pre[a..e], &post[a..e], chosen, t * wide, pre2, post2);
         t += 1;
     }
 }
@@ -159,32 +231,31 @@ fn spare(cap: u16, tokens: u16) -> u16
 }
 
 // The new places' tokens, capacity minus tokens, into the room from `to` on.
-fn add_tokens(caps: &[u16], initial: &[u16], to: usize, room: &mut [u16])
+fn add_tokens(caps: &[u16], initial: &[u16], chosen: &[usize], to: usize, room: &mut [u16])
     requires { ⌜ length (now initial) ≡ length (now caps) ⌝ }
     requires { ⌜ Fine (now caps) (now initial) ⌝ }
-    requires { ⌜ to + length (cappedFrom 0 (now caps)) ≤ length (now room) ⌝ }
-    ensures { λ r. ⌜ now (room .exit) ≡ sets (now (room .entry)) to (atCapped (λ p. getD (now (caps .entry)) p 0 - getD (now (initial .entry)) p 0) (now (caps .entry))) ⌝ }
+    requires { ⌜ Inside (length (now caps)) (now chosen) ⌝ }
+    requires { ⌜ to + length (now chosen) ≤ length (now room) ⌝ }
+    ensures { λ r. ⌜ now (room .exit) ≡ sets (now (room .entry)) to (spares (now (caps .entry)) (now (initial .entry)) (now (chosen .entry))) ⌝ }
 {
-    let mut at = to;
-    let mut p = 0;
-    while p < caps.len() {
-        if is_capped(caps[p]) {
-            room[at] = spare(caps[p], initial[p]);
-            at += 1;
-        }
-        p += 1;
+    let mut j = 0;
+    while j < chosen.len() {
+        let p = chosen[j];
+        room[to + j] = spare(caps[p], initial[p]);
+        j += 1;
     }
 }
 
 // The initial marking: the old places' tokens, then the new places'.
-fn write_tokens(caps: &[u16], initial: &[u16], room: &mut [u16])
+fn write_tokens(caps: &[u16], initial: &[u16], chosen: &[usize], room: &mut [u16])
     requires { ⌜ length (now initial) ≡ length (now caps) ⌝ }
     requires { ⌜ Fine (now caps) (now initial) ⌝ }
-    requires { ⌜ length (now initial) + length (cappedFrom 0 (now caps)) ≡ length (now room) ⌝ }
-    ensures { λ r. ⌜ now (room .exit) ≡ newTokens (now (caps .entry)) (now (initial .entry)) ⌝ }
+    requires { ⌜ Inside (length (now caps)) (now chosen) ⌝ }
+    requires { ⌜ length (now initial) + length (now chosen) ≡ length (now room) ⌝ }
+    ensures { λ r. ⌜ now (room .exit) ≡ now (initial .entry) ++ spares (now (caps .entry)) (now (initial .entry)) (now (chosen .entry)) ⌝ }
 {
     copy_tokens(initial, room);
-    add_tokens(caps, initial, initial.len(), room);
+    add_tokens(caps, initial, chosen, initial.len(), room);
 }
 
 // Whether the rooms have the new net's lengths.
@@ -232,9 +303,9 @@ fn later_fault(
     wide: usize,
     fits: bool,
 ) -> Fault
-    ensures { λ r. ⌜ r ≡ orElse (firstFault (netOf places transitions (now (pre .entry)) (now (post .entry)) (now (caps .entry))) (now (initial .entry)) fits) (limitFault wide) ⌝ }
+    ensures { λ r. ⌜ r ≡ orElse (markedFault (netOf places transitions (now (pre .entry)) (now (post .entry)) (now (caps .entry))) (now (initial .entry)) fits) (limitFault wide) ⌝ }
 {
-    let found = net::first_fault(places, transitions, pre, post, caps, initial, fits);
+    let found = net::marked_fault(places, transitions, pre, post, caps, initial, fits);
     match found {
         Fault::Faulty(number, at) => Fault::Faulty(number, at),
         Fault::Sound => limit_fault(wide),
@@ -242,7 +313,8 @@ fn later_fault(
 }
 
 // Refusals 1, 2, 3 and 10, from the rooms' lengths. It is not lent the rooms, so a refusal cannot
-// touch them; and it counts places only in a net that is not refused, so nothing overflows.
+// touch them. Places are counted only where counts and lengths agree, so nothing overflows; where
+// they do not, 1 or 2 is given whatever the rooms are.
 fn find_fault(
     places: usize,
     transitions: usize,
@@ -257,40 +329,14 @@ fn find_fault(
 ) -> Fault
     ensures { λ r. ⌜ r ≡ complementFault (netOf places transitions (now (pre .entry)) (now (post .entry)) (now (caps .entry))) (now (initial .entry)) (netFits (netOf places transitions (now (pre .entry)) (now (post .entry)) (now (caps .entry))) pres posts capacities initials) ⌝ }
 {
-    let plain = net::net_fault(places, transitions, pre, post, caps, true);
-    match plain {
-        Fault::Faulty(number, at) => Fault::Faulty(number, at),
-        Fault::Sound => {
-            let capped = count_capped(caps);
-            let wide = places + capped;
-            let cells = transitions * wide;
-            let fits = is_fitting(cells, wide, pres, posts, capacities, initials);
-            later_fault(places, transitions, pre, post, caps, initial, wide, fits)
-        }
+    if !net::is_sized(places, transitions, pre, post, caps) {
+        return net::marked_fault(places, transitions, pre, post, caps, initial, false);
     }
-}
-
-// The whole complement net, into rooms of its lengths.
-fn write_net(
-    places: usize,
-    transitions: usize,
-    pre: &[Weight],
-    post: &[Weight],
-    caps: &[u16],
-    initial: &[u16],
-    pre2: &mut [Weight],
-    post2: &mut [Weight],
-    caps2: &mut [u16],
-    initial2: &mut [u16],
-)
-    requires { ⌜ Allowed (netOf places transitions (now pre) (now post) (now caps)) (now initial) (roomsOf (now pre2) (now post2) (now caps2) (now initial2)) ⌝ }
-    ensures { λ r. ⌜ roomsOf (now (pre2 .exit)) (now (post2 .exit)) (now (caps2 .exit)) (now (initial2 .exit)) ≡ made (netOf places transitions (now (pre .entry)) (now (post .entry)) (now (caps .entry))) (now (initial .entry)) ⌝ }
-{
-    let wide = caps2.len();
-    write_rows(places, transitions, wide, pre, post, caps, pre2);
-    write_rows(places, transitions, wide, post, pre, caps, post2);
-    write_caps(caps2);
-    write_tokens(caps, initial, initial2);
+    let count = count_made(places, transitions, pre, post, caps);
+    let wide = places + count;
+    let cells = transitions * wide;
+    let fits = is_fitting(cells, wide, pres, posts, capacities, initials);
+    later_fault(places, transitions, pre, post, caps, initial, wide, fits)
 }
 
 // How many places the complement net of a net has.
@@ -307,8 +353,8 @@ pub fn complement_places(
     match found {
         Fault::Faulty(number, at) => ComplementPlaces::Refused(number, at),
         Fault::Sound => {
-            let capped = count_capped(caps);
-            let wide = places + capped;
+            let count = count_made(places, transitions, pre, post, caps);
+            let wide = places + count;
             let limit = limit_fault(wide);
             match limit {
                 Fault::Faulty(number, at) => ComplementPlaces::Refused(number, at),
@@ -349,18 +395,21 @@ pub fn complement_net(
     match found {
         Fault::Faulty(number, at) => ComplementNet::Refused(number, at),
         Fault::Sound => {
-            write_net(
+            let wide = caps2.len();
+            let count = wide - places;
+            let chosen = made_places(places, transitions, pre, post, caps);
+            write_rows(
                 places,
                 transitions,
+                wide,
                 pre,
                 post,
-                caps,
-                initial,
+                &chosen[..count],
                 pre2,
                 post2,
-                caps2,
-                initial2,
             );
+            write_caps(caps2);
+            write_tokens(caps, initial, &chosen[..count], initial2);
             ComplementNet::Made
         }
     }

@@ -1,4 +1,2 @@
-pub mod Looks
-pub mod Refusals
-pub mod Answers
 pub mod Meaning
+pub mod Exactly

@@ -1,2 +1,4 @@
 pub mod Frames
 pub mod Round
+pub mod Bytes
+pub mod Puts

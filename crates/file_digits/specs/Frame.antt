@@ -1,8 +1,10 @@
--- A line's digits and the bytes that they spell ("Case file lines").
+-- To be believed: a line's digits and the bytes and numbers that they spell, read and written ("Case file lines").
 use Prim.Native.Nat.{ℕ, zero, suc, _+_, _-_, _*_, _/_, _%_}
+use mathlib.Core.Path.{_≡_}
 use mathlib.Core.Bool.{Bool, true, false, cond}
 use mathlib.Core.List.{List, [], _∷_, _++_}
-use lib.ListN.{getD}
+use lib.ListN.{length, getD}
+use lib.Seq.{sets}
 use lib.Dec.{leb}
 
 -- "an even number, 2 to 260, of digits"
@@ -58,3 +60,29 @@ bytesFrom d i (suc n) = byteAt d i ∷ bytesFrom d (i + 1) n
 unfoldable pub wordsFrom : List ℕ → ℕ → ℕ → List ℕ
 wordsFrom d i zero = []
 wordsFrom d i (suc n) = wordAt d i ∷ wordsFrom d (i + 2) n
+
+-- the same written: the bytes of a number of two bytes, and of one of four
+unfoldable pub two : ℕ → List ℕ
+two n = n / 256 ∷ n % 256 ∷ []
+
+unfoldable pub four : ℕ → List ℕ
+four n = n / 16777216 % 256 ∷ n / 65536 % 256 ∷ n / 256 % 256 ∷ n % 256 ∷ []
+
+-- and of a list of them
+unfoldable pub twos : List ℕ → List ℕ
+twos [] = []
+twos (n ∷ ns) = n / 256 ∷ n % 256 ∷ twos ns
+
+unfoldable pub fours : List ℕ → List ℕ
+fours [] = []
+fours (n ∷ ns) = four n ++ fours ns
+
+-- bytes were put into the room at number at, as digits; r is the number after them
+pub record Put (room : List ℕ) (at : ℕ) (bytes : List ℕ) (r : ℕ) (room′ : List ℕ) : Type 0 where
+  pub made : room′ ≡ sets room at (digitsOf bytes)
+  pub next : r ≡ at + 2 * length bytes
+
+-- the line of these bytes was put there
+pub record PutLine (room : List ℕ) (at : ℕ) (bytes : List ℕ) (r : ℕ) (room′ : List ℕ) : Type 0 where
+  pub made : room′ ≡ sets room at (lineText bytes)
+  pub next : r ≡ at + length (lineText bytes)

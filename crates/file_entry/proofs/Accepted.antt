@@ -5,7 +5,8 @@ use mathlib.Core.List.{List}
 use mathlib.Core.Logic.{_↔_}
 use lib.ListN.{length, take}
 use Rattle.net.specs.Net.{Net, netOf}
-use Rattle.file_line.specs.Read.{Rooms, Large}
+use Rattle.file_line.specs.Read.{Rooms}
+use Rattle.file_line.specs.Walk.{Large}
 use Rattle.file_parts.specs.declared.Case.{Case}
 use Rattle.file_parts.specs.File.{readOf, caseOf}
 use Rattle.file_text.specs.Text.{fileOf, Limited, Written, markingIn, wordIn, endOf, filled}

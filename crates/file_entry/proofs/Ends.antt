@@ -1,73 +1,42 @@
 -- The end of a file, and what the whole file comes to. Assumes nothing.
 use mathlib.Core.Path.{_≡_, refl, sym, _∙_, ap}
 use mathlib.Core.Bool.{Bool, true, false, cond}
-use mathlib.Core.List.{List, [], _∷_, append-nil}
-use Prim.Native.Nat.{ℕ, _+_, _-_}
+use mathlib.Core.List.{List, [], _∷_}
+use Prim.Native.Nat.{ℕ, _+_}
 use native.Mathlib.Omega.{arith}
-use lib.ListN.{length, drop, length-drop, length-replicate}
+use lib.ListN.{length, length-replicate}
 use lib.Dec.{leb}
-use borrow.Author.Tests.{eq-eqb, ne-eqb}
 use Rattle.ground.specs.Limits.{countLimit, wordLimit}
 use Rattle.file_digits.specs.Frame.{lineLimit}
 use Rattle.file_line.specs.declared.Reading.{Reading}
-use Rattle.file_line.specs.Read.{cellLimit, fresh, Good, Rooms, Large}
+use Rattle.file_line.specs.Read.{cellLimit, fresh, Rooms}
+use Rattle.file_line.specs.Walk.{Good, Large}
 use Rattle.file_parts.specs.declared.Case.{Case}
 use Rattle.file_parts.specs.declared.Case.the-variants as case
-use Rattle.file_parts.specs.declared.Lines.{Lines}
-use Rattle.file_parts.specs.declared.Lines.the-variants.{Rest, Broken}
-use Rattle.file_parts.specs.File.{going, stopped, Both, both, feedAll, finishOf, caseOf, GoodCase, holdOf, Went}
-use Rattle.file_parts.proofs.Line.{holds}
-use Rattle.file_parts.proofs.Buffer.{went-rest, went-broken}
+use Rattle.file_parts.specs.declared.Held.{Held}
+use Rattle.file_parts.specs.File.{Run, going, stopped, Both, both, feedAll, caseOf}
+use Rattle.file_parts.specs.Held.{GoodCase, holdOf, abs}
 use Rattle.file_entry.specs.declared.CaseFile.{CaseFile}
 use Rattle.file_entry.specs.declared.CaseFile.the-variants.{Read, Refused}
-use Rattle.file_entry.specs.Entry.{Came, came, Comes, endOf, blank, laid, answered, largest, filledOf, numbers, CaseRead}
-
--- the two ends after whole lines
-module _ (s : Reading) (left : ℕ) where
-  pub end-cut : (left ≡ 0 → ⊥) → case.Refused 11 (s .line + 1) ≡ endOf s left
-  unfolding endOf
-  end-cut n = simp (ne-eqb _ _ n)
-
-  pub end-whole : (c : Case) → left ≡ 0 → c ≡ finishOf s → c ≡ endOf s left
-  unfolding endOf
-  end-whole c e q = q ∙ simp (eq-eqb _ _ e)
-
-pub ruleset ends = (end-cut, end-whole)
+use Rattle.file_entry.specs.Entry.{Came, came, blank, laid, answered, largest, filledOf, numbers, CaseRead}
+use Rattle.file_entry.specs.Walk.{Comes}
 
 -- the bytes after the last line feed, held or too many, are a line that lacks its own
-hold-is : (t : Reading) (d : List ℕ) → holdOf t [] d ≡ cond (leb (length {A = ℕ} [] + length d) lineLimit) (going t d) (stopped 11 (t .line + 1))
-unfolding holdOf
-hold-is t d = refl
-
-pub left-over : (t : Reading) (d : List ℕ) → caseOf (holdOf t [] d) ≡ endOf t (length d)
-unfolding caseOf endOf
-left-over t [] = ap caseOf (hold-is t [])
-left-over t (b ∷ d) = ap caseOf (hold-is t (b ∷ d)) ∙ go (leb (length {A = ℕ} [] + length (b ∷ d)) lineLimit) ∙ end-cut t (length (b ∷ d)) (λ e. omega arith)
+pub left-over : (t : Reading) (b : ℕ) (d : List ℕ) → caseOf (holdOf t [] (b ∷ d)) ≡ case.Refused 11 (t .line + 1)
+unfolding caseOf holdOf
+left-over t b d = go (leb (length {A = ℕ} [] + length (b ∷ d)) lineLimit)
   where
     go : (a : Bool) → caseOf (cond a (going t (b ∷ d)) (stopped 11 (t .line + 1))) ≡ case.Refused 11 (t .line + 1)
     go true = refl
     go false = refl
 
--- what the whole lines of the file came to, and its end
-module _ (f : List ℕ) (s : Reading) (x : Rooms) (r : Lines) (y : Rooms) (n : s ≡ fresh) (w : Went f (both (going s []) x) 0 r y) where
-  from-fresh : (z : Both) → feedAll (both (going s []) x) (drop 0 f) ≡ z → feedAll (both (going fresh []) x) f ≡ z
-  from-fresh z e = rw n at e
-
-  pub file-rest : (t : Reading) (e : ℕ) (c : Case) → r ≡ Rest t e → c ≡ endOf t (length f - e) → Comes (feedAll (both (going fresh []) x) f) c y
-  unfolding feedAll
-  file-rest t e c q k =
-      let g = went-rest f (both (going s []) x) 0 r y w t e q in
-      let o = holds t y (drop e f) [] [] (omega arith) (g .2) in
-      let z : feedAll (both (going fresh []) x) f ≡ both (holdOf t [] (drop e f)) y =
-      from-fresh _ (g .3 ∙ ap (feedAll (both (going t []) y)) (sym (append-nil (drop e f))) ∙ o) in
-      let l : length f - e ≡ length (drop e f) = sym (length-drop e f) in
-      record { answer = k ∙ ap (endOf t) l ∙ sym (left-over t (drop e f)) ∙ ap (λ (b : Both). caseOf (b .run)) (sym z); left = ap (λ (b : Both). b .rooms) (sym z) }
-
-  pub file-broken : (n l : ℕ) → r ≡ Broken n l → Comes (feedAll (both (going fresh []) x) f) (case.Refused n l) y
-  unfolding caseOf
-  file-broken n l q =
-      let z = from-fresh _ (went-broken f (both (going s []) x) 0 r y w n l q .1) in
-      record { answer = ap (λ (b : Both). caseOf (b .run)) (sym z); left = ap (λ (b : Both). b .rooms) (sym z) }
+-- what the whole file came to, as one part and its end
+pub file-comes : (f : List ℕ) (s : Reading) (h r : Held) (x y : Rooms) (c : Case) → s ≡ fresh → abs h ≡ going s [] → both (abs r) y ≡ feedAll (both (abs h) x) f → c ≡ caseOf (abs r)
+    → Comes (feedAll (both (going fresh []) x) f) c y
+file-comes f s h r x y c n a e q =
+    let b : abs h ≡ going fresh [] = a ∙ ap (λ (t : Reading). going t []) n in
+    let z : both (abs r) y ≡ feedAll (both (going fresh []) x) f = e ∙ ap (λ (t : Run). feedAll (both t x) f) b in
+    record { answer = q ∙ ap (λ (w : Both). caseOf (w .run)) z; left = ap (λ (w : Both). w .rooms) z }
 
 -- the answer, by what the file came to
 module _ (k : Case) where

@@ -7,11 +7,13 @@ use native.Mathlib.Omega.{arith}
 use lib.ListN.{length}
 use lib.Seq.{length-sets}
 use lib.Dec.{eqb, ltb}
-use borrow.Author.Tests.{eqb-true}
+use Rattle.net.specs.declared.Fault.{Fault}
+use Rattle.net.specs.declared.Fault.the-variants.{Sound, Faulty}
 use Rattle.file_digits.specs.Frame.{lineLimit, lineFeed, byteAt, bytesFrom, wordsFrom}
 use Rattle.file_line.specs.declared.Reading.{Reading}
-use Rattle.file_line.specs.declared.Took.the-variants as took
-use Rattle.file_line.specs.Read.{fresh, Good, Rooms, lineOf, roomsOf, judgeOf, advanced, advancedKind, stored, storedKind, lettersIn}
+use Rattle.file_line.specs.Read.{fresh, Rooms, lineOf, roomsOf, judgeOf, advancedKind, storedKind, lettersIn}
+use Rattle.file_line.specs.Walk.{Good}
+use Rattle.file_line.proofs.Meaning.{judged-number, taken-line, refused-line}
 use Rattle.file_line.proofs.Accept.{accepted, good-advanced}
 use Rattle.file_parts.specs.File.{Run, going, stopped, Both, both, ended, fedTo, feedOf, feedAll}
 use Rattle.file_parts.proofs.Line.{Same}
@@ -62,15 +64,17 @@ stored-same s d x k =
     go false false false false t u v w p q r m = same-own x
 
 -- a line
-line-fed : (s : Reading) (d : List ℕ) (y : Rooms) → Good s → Fed y (s .line + 1) (both (ended (lineOf s d (y .caps))) (roomsOf s d y))
-unfolding lineOf roomsOf
-line-fed s d y g = go (eqb (judgeOf s d (y .caps)) 0) refl
+line-fed : (s : Reading) (d : List ℕ) (y : Rooms) → Good s → Fed y (s .line + 1) (both (ended (lineOf s d y)) (roomsOf s d y))
+line-fed s d y g = go (judgeOf s d y) refl
   where
-    go : (a : Bool) → eqb (judgeOf s d (y .caps)) 0 ≡ a
-        → Fed y (s .line + 1) (both (ended (cond a (took.Next (advanced s d)) (took.Refused (judgeOf s d (y .caps)) (s .line + 1)))) (cond a (stored s d y) y))
-    go true e =
-        record { same = stored-same s d y (byteAt d 0); counted = (good-advanced s d g (accepted s d (y .caps) (eqb-true _ _ e)), advanced-line s d (byteAt d 0)) }
-    go false e = record { same = same-own y; counted = (omega arith, omega arith) }
+    go : (f : Fault) → judgeOf s d y ≡ f → Fed y (s .line + 1) (both (ended (lineOf s d y)) (roomsOf s d y))
+    go Sound j =
+        let l = taken-line s d y j in
+        rw (l .0, l .1) (record { same = stored-same s d y (byteAt d 0); counted = (good-advanced s d g (accepted s d y j), advanced-line s d (byteAt d 0)) })
+    go (Faulty n at) j =
+        let l = refused-line s d y n at j in
+        let z = judged-number s d y n at j .2 in
+        rw (l .0, l .1) (record { same = same-own y; counted = (omega (arith, z), omega (arith, z)) })
 
 -- a byte
 fed-run : (k : ℕ) (r : Run) (y : Rooms) → Counted k r → (b : ℕ) → Fed y (k + cond (eqb b lineFeed) 1 0) (fedTo r y b)
@@ -80,7 +84,7 @@ fed-run k (going s d) y h b = go (eqb b lineFeed) (ltb (length d) lineLimit)
   where
     go : (a c : Bool)
         → Fed y (k + cond a 1 0)
-        (cond a (both (ended (lineOf s d (y .caps))) (roomsOf s d y)) (cond c (both (going s (d ++ (b ∷ []))) y) (both (stopped 11 (s .line + 1)) y)))
+        (cond a (both (ended (lineOf s d y)) (roomsOf s d y)) (cond c (both (going s (d ++ (b ∷ []))) y) (both (stopped 11 (s .line + 1)) y)))
     go true c = let e : k + 1 ≡ s .line + 1 = omega (arith, h .1) in rw e (line-fed s d y (h .0))
     go false true = record { same = same-own y; counted = (h .0, omega (arith, h .1)) }
     go false false = record { same = same-own y; counted = (omega arith, omega (arith, h .1)) }

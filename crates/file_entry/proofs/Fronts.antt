@@ -10,7 +10,8 @@ use lib.Dec.{eqb}
 use borrow.Author.Tests.{eq-eqb, ne-eqb, eqb-true}
 use Rattle.ground.specs.Limits.{countLimit, wordLimit}
 use Rattle.ground.proofs.Tests.{and-true}
-use Rattle.file_line.specs.Read.{cellLimit, Rooms, rooms, Large}
+use Rattle.file_line.specs.Read.{cellLimit, Rooms, rooms}
+use Rattle.file_line.specs.Walk.{Large}
 use Rattle.file_parts.proofs.Buffer.{Filling, filling-start, filling-next, filling-end}
 use Rattle.file_entry.specs.Entry.{largestOf, largest, Largest}
 

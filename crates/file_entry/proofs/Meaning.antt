@@ -12,9 +12,11 @@ use borrow.Author.Tests.{ne-eqb, eqb-true}
 use Rattle.ground.specs.Limits.{countLimit, wordLimit}
 use Rattle.file_digits.specs.Frame.{lineFeed}
 use Rattle.file_line.specs.declared.Reading.{Reading}
-use Rattle.file_line.specs.declared.Took.the-variants as took
-use Rattle.file_line.specs.Read.{cellLimit, fresh, Good, Rooms, lineOf, judgeOf, Large}
-use Rattle.file_line.proofs.Meaning.{refused-here}
+use Rattle.net.specs.declared.Fault.the-variants.{Faulty}
+use Rattle.file_line.specs.Read.{cellLimit, fresh, Rooms, judgeOf}
+use Rattle.file_line.specs.Walk.{Good, Large}
+use Rattle.file_line.proofs.Meaning.{judged-number}
+use Rattle.file_line.proofs.Meaning as line-meaning
 use Rattle.file_parts.specs.declared.Case.{Case}
 use Rattle.file_parts.specs.declared.Case.the-variants as case
 use Rattle.file_parts.specs.File.{Run, going, stopped, Both, both, feedAll, together, feedParts, finishOf, caseOf, NoFeed}
@@ -25,7 +27,7 @@ use Rattle.file_entry.specs.declared.CaseFile.the-variants.{Read, Refuse
 use Rattle.file_entry.specs.Entry.{Came, came, largest, Largest, blank, readAll, laid, answered, filledOf, caseFileOf, numbers, CaseRead}
 use Rattle.file_entry.specs.Cut.{feeds, Front}
 use Rattle.file_entry.proofs.Fronts.{largest-of, of-largest}
-use Rattle.file_entry.proofs.Ends.{blank-large, end-cut, left-over}
+use Rattle.file_entry.proofs.Ends.{blank-large, left-over}
 use Rattle.file_entry.proofs.Fold.{Counted, fed-file}
 
 -- `numbers` tells any two answers apart
@@ -78,9 +80,6 @@ refused-line-is (going t []) k n l c e = go (eqb (t .phase) 5) e
     go false f = let i : t .line + 1 ≡ l = cc in (omega arith, omega (arith, c .1))
 refused-line-is (going t (b ∷ d)) k n l c e = let i : t .line + 1 ≡ l = cc in (omega arith, omega (arith, c .1))
 refused-line-is (stopped m j) k n l c e = let i : j ≡ l = cc in (omega (arith, c .0), omega (arith, c .1))
-
-judged-refused : (s : Reading) (d caps : List ℕ) (n : ℕ) → judgeOf s d caps ≡ n → (n ≡ 0 → ⊥) → took.Refused n (s .line + 1) ≡ lineOf s d caps
-judged-refused s d caps n e m = ap (λ (k : ℕ). took.Refused k (s .line + 1)) (sym e) ∙ sym (refused-here s d caps (λ z. m (sym e ∙ z)))
 
 module _ (file : List ℕ) (x : Rooms) (r : CaseFile) (x′ : Rooms) (p : CaseRead file x r x′) where
   answer-is : r ≡ caseFileOf file x .answer
@@ -200,22 +199,22 @@ module _ (file : List ℕ) (x : Rooms) (r : CaseFile) (x′ : Rooms) (p : CaseRe
     refused-with n e = ap (λ (z : Came). z .answer) (of-case l (case.Refused n (s .line + 1)) e) ∙ ap (λ (j : ℕ). Refused n (j + 1)) line-number
 
     -- "In a file the earliest faulty line decides", whatever stands after it
-    pub earliest-line : (n : ℕ) (line rest : List ℕ) → file ≡ lines ++ (line ++ lineFeed ∷ rest) → NoFeed line → judgeOf s line (readAll lines .rooms .caps) ≡ n → (n ≡ 0 → ⊥) → r ≡ Refused n (feeds lines + 1)
+    pub earliest-line : (n at : ℕ) (line rest : List ℕ) → file ≡ lines ++ (line ++ lineFeed ∷ rest) → NoFeed line → judgeOf s line (readAll lines .rooms) ≡ Faulty n at → r ≡ Refused n (feeds lines + 1)
     unfolding caseOf
-    earliest-line n line rest e h q m =
+    earliest-line n at line rest e h j =
+        let q : at ≡ s .line + 1 = judged-number s line (readAll lines .rooms) n at j .2 in
         refused-with n
-        (ap (λ (b : Both). caseOf (b .run)) (then-reads (line ++ lineFeed ∷ rest) e ∙ refused-line s (readAll lines .rooms) line rest h n (s .line + 1) (judged-refused s line (readAll lines .rooms .caps) n q m)))
+        (ap (λ (b : Both). caseOf (b .run)) (then-reads (line ++ lineFeed ∷ rest) e ∙ refused-line s (readAll lines .rooms) line rest h n at (sym (line-meaning.refused-line s line (readAll lines .rooms) n at j .0)))
+        ∙ ap (case.Refused n) q)
 
     -- "a line .. lacks its line feed": 11 on the last line, whatever it holds
     pub last-line-cut : (line : List ℕ) → file ≡ lines ++ line → NoFeed line → (line ≡ [] → ⊥) → r ≡ Refused 11 (feeds lines + 1)
     unfolding feedAll
-    last-line-cut line e h n =
+    last-line-cut [] e h n = absurd (n refl)
+    last-line-cut (b ∷ d) e h n =
+        let line : List ℕ = b ∷ d in
         let z = then-reads line e ∙ ap (feedAll (both (going s []) (readAll lines .rooms))) (sym (append-nil line)) ∙ holds s (readAll lines .rooms) line [] [] (omega arith) h in
-        refused-with 11 (ap (λ (b : Both). caseOf (b .run)) z ∙ left-over s line ∙ sym (end-cut s (length line) (some line n)))
-      where
-        some : (line : List ℕ) → (line ≡ [] → ⊥) → length line ≡ 0 → ⊥
-        some [] n q = n refl
-        some (b ∷ d) n q = omega arith
+        refused-with 11 (ap (λ (w : Both). caseOf (w .run)) z ∙ left-over s b d)
 
     -- "frames missing at the end": 12 on the line after the last
     pub missing-frames : file ≡ lines → (s .phase ≡ 5 → ⊥) → r ≡ Refused 12 (feeds lines + 1)

@@ -1,4 +1,4 @@
--- What the theorems on a case file speak of: its lines by number, and the fronts of rooms.
+-- To be believed: what the theorems on a case file speak of: its lines by number, and the fronts of rooms.
 use Prim.Native.Nat.{ℕ, _+_}
 use mathlib.Core.Path.{_≡_}
 use mathlib.Core.Bool.{cond}

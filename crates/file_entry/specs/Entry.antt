@@ -1,5 +1,5 @@
--- A whole case file into lent rooms of the largest sizes ("Case file lines"; "Refusal numbers").
-use Prim.Native.Nat.{ℕ, _+_, _*_}
+-- To be believed: a whole case file into lent rooms of the largest sizes ("Case file lines"; "Refusal numbers").
+use Prim.Native.Nat.{ℕ, _*_}
 use mathlib.Core.Path.{_≡_}
 use mathlib.Core.Bool.{Bool, cond, _&&_}
 use mathlib.Core.List.{List, [], _∷_}
@@ -11,7 +11,7 @@ use Rattle.file_line.specs.declared.Reading.{Reading}
 use Rattle.file_line.specs.Read.{cellLimit, Rooms, rooms}
 use Rattle.file_parts.specs.declared.Case.{Case}
 use Rattle.file_parts.specs.declared.Case.the-variants as case
-use Rattle.file_parts.specs.File.{Both, readOf, finishOf, caseOf}
+use Rattle.file_parts.specs.File.{Both, readOf, caseOf}
 use Rattle.file_entry.specs.declared.CaseFile.{CaseFile}
 use Rattle.file_entry.specs.declared.CaseFile.the-variants.{Read, Refused}
 
@@ -78,12 +78,3 @@ numbers (Refused n at) = 0x82 ∷ n ∷ at ∷ []
 pub record CaseRead (file : List ℕ) (x : Rooms) (r : CaseFile) (x′ : Rooms) : Type 0 where
   pub answer : numbers r ≡ numbers (caseFileOf file x .answer)
   pub left : x′ ≡ caseFileOf file x .left
-
--- what the fold z comes to at the end of the file: a case, and the rooms y
-pub record Comes (z : Both) (r : Case) (y : Rooms) : Type 0 where
-  pub answer : r ≡ caseOf (z .run)
-  pub left : y ≡ z .rooms
-
--- the end of a file after whole lines, where so many bytes are left
-unfoldable pub endOf : Reading → ℕ → Case
-endOf s left = cond (eqb left 0) (finishOf s) (case.Refused 11 (s .line + 1))

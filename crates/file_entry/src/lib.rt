@@ -3,7 +3,6 @@
 use file_line::CELL_LIMIT;
 use file_line::Reading;
 use file_parts::Case;
-use file_parts::Lines;
 use ground::COUNT_LIMIT;
 use ground::WORD_LIMIT;
 use ground::Weight;
@@ -13,9 +12,12 @@ ghost use Prim.Native.Nat.{_≤_};
 ghost use lib.ListN.{length, replicate};
 ghost use lib.Seq.{sets};
 ghost use Rattle.ground.specs.Limits.{countLimit, wordLimit};
-ghost use Rattle.file_line.specs.Read.{cellLimit, fresh, Good, Large, rooms};
-ghost use Rattle.file_parts.specs.File.{going, both, feedAll, GoodCase};
-ghost use Rattle.file_entry.specs.Entry.{came, Comes, endOf, largestOf, laid, answered, filledOf, CaseRead};
+ghost use Rattle.file_line.specs.Read.{cellLimit, fresh, rooms};
+ghost use Rattle.file_line.specs.Walk.{Good, Large};
+ghost use Rattle.file_parts.specs.File.{going, both, feedAll};
+ghost use Rattle.file_parts.specs.Held.{GoodCase};
+ghost use Rattle.file_entry.specs.Entry.{came, largestOf, laid, answered, filledOf, CaseRead};
+ghost use Rattle.file_entry.specs.Walk.{Comes};
 
 // The answer to a case file: read, with its places, transitions and letters; or refused, with
 // document 01's number and the line (position 0 where a room has another length).
@@ -64,19 +66,7 @@ fn is_largest(caps: usize, initial: usize, pre: usize, post: usize, word: usize)
     word == WORD_LIMIT
 }
 
-// The end of a file: bytes that are left after its last line feed lack their own.
-fn end_of(s: Reading, left: usize) -> Case
-    requires { ⌜ Good s ⌝ }
-    ensures value { λ r. ⌜ r ≡ endOf s left ⌝ }
-    ensures good { λ r. ⌜ GoodCase r ⌝ }
-{
-    if left != 0 {
-        return Case::Refused(11, s.line + 1);
-    }
-    file_parts::finish(s)
-}
-
-// What a file comes to, read into rooms that are large enough for any.
+// What a file comes to, read into rooms that are large enough for any: it is one part.
 fn read_file(
     file: &[u8],
     caps: &mut [u16],
@@ -91,11 +81,9 @@ fn read_file(
     ensures good { λ r. ⌜ GoodCase r ⌝ }
 {
     let s = Reading::new();
-    let lines = file_parts::read_lines(s, file, 0, caps, initial, pre, post, word);
-    match lines {
-        Lines::Rest(t, at) => end_of(t, file.len() - at),
-        Lines::Broken(number, line) => Case::Refused(number, line),
-    }
+    let h = file_parts::cleared(s);
+    let r = file_parts::read_part(h, file, caps, initial, pre, post, word);
+    file_parts::finish_held(r)
 }
 
 // A list to the front of a room.

@@ -1,27 +1,19 @@
--- What an accepted line has, and that a good state stays good. Assumes nothing.
+-- What the walk needs of a line that is taken, from document 01's demands, and that a good state stays good. Assumes nothing.
 use mathlib.Core.Path.{_≡_, refl, sym, subst}
 use mathlib.Core.Bool.{Bool, true, false, cond}
 use mathlib.Core.List.{List}
-use Prim.Native.Nat.{ℕ, zero, suc, _+_, _*_, _≤_, _<_, _%_}
+use Prim.Native.Nat.{ℕ, zero, suc, _+_, _*_, _≤_, _<_}
 use native.Mathlib.Omega.{arith}
 use native.Mathlib.Nat.{not-suc-le-zero, suc-mul, mul-le-mul}
-use lib.Dec.{leb, ltb, eqb, lit<}
-use lib.ListN.{length}
-use borrow.Author.Tests.{ne-eqb, ltb-false, eqb-false, eqb-true, leb-true, leb-false}
-use Rattle.ground.specs.Limits.{countLimit, wordLimit}
-use Rattle.file_digits.specs.Frame.{block, byteAt}
+use lib.Dec.{eqb}
+use borrow.Author.Tests.{ne-eqb, eqb-false}
+use Rattle.ground.specs.Limits.{countLimit}
+use Rattle.net.specs.declared.Fault.the-variants.{Sound}
+use Rattle.file_digits.specs.Frame.{byteAt}
 use Rattle.file_line.specs.declared.Reading.{Reading}
-use Rattle.file_line.specs.Read.{cellLimit, ruleOf, judgeOf, judgeKind, countsOf, capsOf, tokensOf, rowOf, lettersOf, lettersIn, Good, Accepted, advanced, advancedKind, Rooms, storedKind}
-use Rattle.file_line.proofs.Turns.{rule-says, judge-rest}
-
--- a test that does not refuse
-pub cond-then : (b : Bool) (x y : ℕ) → 0 < y → cond b x y ≡ 0 → (b ≡ true) × (x ≡ 0)
-cond-then true x y h e = (refl, e)
-cond-then false x y h e = absurd (omega arith)
-
-pub cond-else : (b : Bool) (x y : ℕ) → 0 < x → cond b x y ≡ 0 → (b ≡ false) × (y ≡ 0)
-cond-else true x y h e = absurd (omega arith)
-cond-else false x y h e = (refl, e)
+use Rattle.file_line.specs.Read.{cellLimit, Rooms, kindOf, phaseAfter, lettersIn, judgeOf, advanced, advancedKind, storedKind}
+use Rattle.file_line.specs.Walk.{Good, Accepted}
+use Rattle.file_line.proofs.Order.{formed-kind, formed-01, formed-02, formed-03, formed-04, formed-05, taken-of}
 
 pub row-fits : (t p n : ℕ) → t < n → n ≤ countLimit → p ≤ countLimit → t * p + p ≤ cellLimit
 row-fits t p n h k l =
@@ -29,74 +21,21 @@ row-fits t p n h k l =
     omega (arith, suc-mul t p, mul-le-mul z l)
 
 module _ (s : Reading) (d : List ℕ) where
-  pub counts-says : countsOf s d ≡ 0 → (s .phase ≡ 1) × (length d ≡ 6) × (byteAt d 1 ≤ countLimit) × (1 ≤ byteAt d 2) × (byteAt d 2 ≤ countLimit) × (1 ≤ byteAt d 1)
-  unfolding countsOf
-  counts-says h =
-      let a = cond-then (eqb (s .phase) 1) _ 12 (lit< tt) h in
-      let b = cond-then (eqb (length d) 6) _ 12 (lit< tt) (a .1) in
-      let e = cond-else (ltb (byteAt d 1) 1) 1 _ (lit< tt) (b .1) in
-      let f = cond-else (ltb countLimit (byteAt d 1)) 1 _ (lit< tt) (e .1) in
-      let g = cond-else (ltb (byteAt d 2) 1) 1 _ (lit< tt) (f .1) in
-      let i = cond-else (ltb countLimit (byteAt d 2)) 1 _ (lit< tt) (g .1) in
-      (eqb-true _ _ (a .0), eqb-true _ _ (b .0), ltb-false _ _ (f .0), ltb-false _ _ (g .0), ltb-false _ _ (i .0), ltb-false _ _ (e .0))
-
-  pub caps-says : capsOf s d ≡ 0 → (s .phase ≡ 2) × (length d ≡ 2 + 4 * s .places)
-  unfolding capsOf
-  caps-says h =
-      let a = cond-then (eqb (s .phase) 2) _ 12 (lit< tt) h in
-      let b = cond-then (eqb (length d) (2 + 4 * s .places)) _ 12 (lit< tt) (a .1) in
-      (eqb-true _ _ (a .0), eqb-true _ _ (b .0))
-
-  pub tokens-says : (caps : List ℕ) → tokensOf s d caps ≡ 0 → (s .phase ≡ 3) × (length d ≡ 2 + 4 * s .places)
-  unfolding tokensOf
-  tokens-says caps h =
-      let a = cond-then (eqb (s .phase) 3) _ 12 (lit< tt) h in
-      let b = cond-then (eqb (length d) (2 + 4 * s .places)) _ 12 (lit< tt) (a .1) in
-      (eqb-true _ _ (a .0), eqb-true _ _ (b .0))
-
-  pub row-says : rowOf s d ≡ 0 → (s .phase ≡ 4) × (length d ≡ 4 + 4 * s .places)
-  unfolding rowOf
-  row-says h =
-      let a = cond-then (eqb (s .phase) 4) _ 12 (lit< tt) h in
-      let b = cond-then (eqb (length d) (4 + 4 * s .places)) _ 12 (lit< tt) (a .1) in
-      (eqb-true _ _ (a .0), eqb-true _ _ (b .0))
-
-  pub letters-says : lettersOf s d ≡ 0 → (s .phase ≡ 5) × (4 ≤ length d) × (length d ≤ 2 + 2 * block) × (s .letters + lettersIn d ≤ wordLimit)
-  unfolding lettersOf
-  letters-says h =
-      let a = cond-then (eqb (s .phase) 5) _ 12 (lit< tt) h in
-      let b = cond-then (eqb (s .letters % block) 0) _ 12 (lit< tt) (a .1) in
-      let e = cond-else (ltb (length d) 4) 12 _ (lit< tt) (b .1) in
-      let f = cond-else (ltb (2 + 2 * block) (length d)) 12 _ (lit< tt) (e .1) in
-      let g = cond-else (ltb wordLimit (s .letters + lettersIn d)) 4 _ (lit< tt) (f .1) in
-      (eqb-true _ _ (a .0), ltb-false _ _ (e .0), ltb-false _ _ (f .0), ltb-false _ _ (g .0))
-
-  pub kind-says : (caps : List ℕ) (k : ℕ) → judgeKind k s d caps ≡ 0 → (1 ≤ k) × (k ≤ 5)
-  unfolding judgeKind
-  kind-says caps k h = (least k h, most (leb k 5) refl) where
-    least : (k : ℕ) → judgeKind k s d caps ≡ 0 → 1 ≤ k
-    least zero h = absurd (omega arith)
-    least (suc k) h = omega arith
-
-    most : (b : Bool) → leb k 5 ≡ b → k ≤ 5
-    most true e = leb-true _ _ e
-    most false e =
-        let l : 5 < k = leb-false _ _ e in
-        let z = judge-rest s d caps k (λ q. omega arith) (λ q. omega arith) (λ q. omega arith) (λ q. omega arith) (λ q. omega arith) in
-        absurd (omega (arith, z))
-
-  pub accepted : (caps : List ℕ) → judgeOf s d caps ≡ 0 → Accepted s d
-  unfolding judgeOf judgeKind
-  accepted caps h =
-      let r = cond-then (ruleOf d) (judgeKind (byteAt d 0) s d caps) 11 (lit< tt) h in
-      let k = kind-says caps (byteAt d 0) (r .1) in
+  pub accepted : (x : Rooms) → judgeOf s d x ≡ Sound → Accepted s d
+  accepted x e =
+      let t = taken-of s d x e in
+      let k = formed-kind s d (t .formed) in
       record {
-        least = rule-says d (r .0) .0;
-        counts = λ e. counts-says (rw e at (r .1));
-        caps = λ e. caps-says (rw e at (r .1));
-        tokens = λ e. tokens-says caps (rw e at (r .1));
-        row = λ e. row-says (rw e at (r .1));
-        letters = λ e. letters-says (rw e at (r .1));
+        least = t .ruled .least;
+        counts = λ q.
+            let f = formed-01 s d (t .formed) q in
+            let p = t .counts .places q in
+            let r = t .counts .transitions q in
+            (f .0, f .1, p .1, r .0, r .1, p .0);
+        caps = λ q. formed-02 s d (t .formed) q;
+        tokens = λ q. formed-03 s d (t .formed) q;
+        row = λ q. let f = formed-04 s d (t .formed) q in (f .0, f .1);
+        letters = λ q. let f = formed-05 s d (t .formed) q in (f .0, f .2, f .3, t .word .few q);
         kind = k .1;
         kind-least = k .0;
       }
@@ -211,10 +150,26 @@ module _ (s : Reading) (d : List ℕ) where
   pub both : (r : Reading) → Good s → Accepted s d → r ≡ advanced s d → (r ≡ advanced s d) × Good r
   both r g a e = (e, subst Good (sym e) (good-advanced g a))
 
-  pub advanced-rest : (k : ℕ) → (k ≡ 1 → ⊥) → (k ≡ 4 → ⊥) → (k ≡ 5 → ⊥)
-      → advancedKind k s d ≡ record { phase = k + 1; places = s .places; transitions = s .transitions; next = 0; letters = 0; line = s .line + 1 }
-  unfolding advancedKind
-  advanced-rest k a b g = simp (ne-eqb k 1 a, ne-eqb k 4 b, ne-eqb k 5 g)
+  -- the state after a line, as the code makes it: k is its kind, f the kind that must come next
+  module _ (k f : ℕ) (e : k ≡ kindOf d) (p : f ≡ phaseAfter k s) where
+    pub advanced-01 : (P u T v : ℕ) → k ≡ 1 → u ≡ byteAt d 1 → P ≡ u → v ≡ byteAt d 2 → T ≡ v
+        → record { phase = f; places = P; transitions = T; next = 0; letters = 0; line = s .line + 1 } ≡ advanced s d
+    unfolding advancedKind
+    advanced-01 P u T v q a b g h = rw (← e, p, q, b, a, h, g)
+
+    pub advanced-04 : k ≡ 4 → record { phase = f; places = s .places; transitions = s .transitions; next = s .next + 1; letters = 0; line = s .line + 1 } ≡ advanced s d
+    unfolding advancedKind
+    advanced-04 q = rw (← e, p, q)
+
+    pub advanced-05 : k ≡ 5
+        → record { phase = f; places = s .places; transitions = s .transitions; next = s .next; letters = s .letters + lettersIn d; line = s .line + 1 } ≡ advanced s d
+    unfolding advancedKind
+    advanced-05 q = rw (← e, p, q)
+
+    pub advanced-rest : (k ≡ 1 → ⊥) → (k ≡ 4 → ⊥) → (k ≡ 5 → ⊥)
+        → record { phase = f; places = s .places; transitions = s .transitions; next = 0; letters = 0; line = s .line + 1 } ≡ advanced s d
+    unfolding advancedKind
+    advanced-rest a b g = rw (← e, p, ne-eqb k 1 a, ne-eqb k 4 b, ne-eqb k 5 g)
 
 pub stored-rest : (s : Reading) (d : List ℕ) (x : Rooms) (k : ℕ) → (k ≡ 2 → ⊥) → (k ≡ 3 → ⊥) → (k ≡ 4 → ⊥) → (k ≡ 5 → ⊥) → storedKind k s d x ≡ x
 unfolding storedKind

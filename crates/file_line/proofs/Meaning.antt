@@ -3,118 +3,136 @@ use mathlib.Core.Path.{_≡_, refl}
 use mathlib.Core.Bool.{Bool, true, false}
 use mathlib.Core.Logic.{_↔_}
 use mathlib.Core.List.{List, []}
-use Prim.Native.Nat.{ℕ, _+_, _<_, _%_}
+use Prim.Native.Nat.{ℕ, _+_, _≤_, _<_, _%_}
 use native.Mathlib.Omega.{arith}
 use lib.Dec.{eqb}
 use lib.ListN.{length, getD}
-use borrow.Author.Tests.{eqb-true, eqb-false, ne-eqb}
+use borrow.Author.Tests.{eqb-true, eqb-false}
 use Rattle.ground.specs.Limits.{wordLimit}
-use Rattle.file_digits.specs.Frame.{lineLimit, block, byteAt}
+use Rattle.net.specs.First.{First, fails, holds, Given}
+use Rattle.net.specs.declared.Fault.the-variants.{Sound, Faulty}
+use Rattle.file_digits.specs.Frame.{lineLimit, block}
 use Rattle.file_line.specs.declared.Reading.{Reading}
-use Rattle.file_line.specs.declared.Took.the-variants.{Refused}
-use Rattle.file_line.specs.Read.{judgeOf, lettersIn, advanced, advancedKind, lineOf}
-use Rattle.file_line.specs.Line.{Digit, Ruled, Formed, Counted, Marked, Short, Named, First, fails, holds, Judged}
-use Rattle.file_line.proofs.Order.{past, no-counts, no-tokens, no-long, no-letters, formed-01, formed-03, formed-05, judged-one, judged}
+use Rattle.file_line.specs.declared.Took.the-variants.{Next, Refused}
+use Rattle.file_line.specs.Read.{Rooms, kindOf, expected, lettersIn, lineHere, judgeOf, advanced, advancedKind, stored, lineOf, roomsOf}
+use Rattle.file_line.specs.Line.{Digit, Ruled, Formed, Taken, Judged}
+use Rattle.file_line.proofs.Order.{no-counts, no-tokens, no-long, no-letters, formed-01, formed-03, formed-05, judged-chain, taken-of, of-taken}
 
-module _ (s : Reading) (d capacities : List ℕ) where
-  -- the number that a line is refused with, or 0, is that of the first demand of document 01 that it breaks
-  pub judged-exactly : (n : ℕ) → (judgeOf s d capacities ≡ n) ↔ Judged s d capacities n
-  judged-exactly n = (λ e. rw e at (judged s d capacities), λ j. judged-one s d capacities _ _ (judged s d capacities) j)
+-- another number was given, so the demand holds
+past : {Demand Next : Type 0} {k p n at : ℕ} → First Demand (Given k p n at) Next → (n ≡ k → ⊥) → Demand × Next
+past (fails h e) n = absurd (n (e .number))
+past (holds p a) n = (p, a)
+
+module _ (s : Reading) (d : List ℕ) (x : Rooms) where
+  -- a line is refused, with this number and line, exactly where the first demand of document 01 that it breaks gives them
+  pub judged-exactly : (n at : ℕ) → (judgeOf s d x ≡ Faulty n at) ↔ Judged s d x n at
+  judged-exactly n at = judged-chain s d x .exactly n at
+
+  -- a line is taken exactly where it breaks nothing
+  pub taken-exactly : (judgeOf s d x ≡ Sound) ↔ Taken s d x
+  taken-exactly = (taken-of s d x, of-taken s d x)
+
+  given : (k : ℕ) → Given k (lineHere s) k (lineHere s)
+  given k = record { number = refl; position = refl }
+
+  -- a refusal has one of these numbers, and the line's own number, counted from 1
+  pub judged-number : (n at : ℕ) → judgeOf s d x ≡ Faulty n at → (1 ≤ n) × (n ≤ 12) × (at ≡ lineHere s)
+  judged-number n at e = one (judged-exactly n at .0 e)
+    where
+      one : Judged s d x n at → (1 ≤ n) × (n ≤ 12) × (at ≡ lineHere s)
+      one (fails h g) = (omega (arith, g .number), omega (arith, g .number), g .position)
+      one (holds a (fails h g)) = (omega (arith, g .number), omega (arith, g .number), g .position)
+      one (holds a (holds b (fails h g))) = (omega (arith, g .number), omega (arith, g .number), g .position)
+      one (holds a (holds b (holds c (fails h g)))) = (omega (arith, g .number), omega (arith, g .number), g .position)
+      one (holds a (holds b (holds c (holds f (fails h g))))) = (omega (arith, g .number), omega (arith, g .number), g .position)
+      one (holds a (holds b (holds c (holds f (holds i (fails h g)))))) = (omega (arith, g .number), omega (arith, g .number), g .position)
+      one (holds a (holds b (holds c (holds f (holds i (holds j z)))))) = absurd z
 
   -- a line that breaks the digit rules is 11, whatever else it breaks
-  pub digits-first : (Ruled d → ⊥) → judgeOf s d capacities ≡ 11
-  digits-first h = judged-exactly 11 .1 (fails h refl)
+  pub digits-first : (Ruled d → ⊥) → judgeOf s d x ≡ Faulty 11 (lineHere s)
+  digits-first h = judged-exactly 11 (lineHere s) .1 (fails h (given 11))
 
   -- a blank, a carriage return, a lower-case digit: any byte that is no digit
-  pub digits-only : (k : ℕ) → k < length d → (Digit (getD d k 0) → ⊥) → judgeOf s d capacities ≡ 11
+  pub digits-only : (k : ℕ) → k < length d → (Digit (getD d k 0) → ⊥) → judgeOf s d x ≡ Faulty 11 (lineHere s)
   digits-only k h n = digits-first (λ r. n (r .digits k h))
 
-  pub digits-most : lineLimit < length d → judgeOf s d capacities ≡ 11
+  pub digits-most : lineLimit < length d → judgeOf s d x ≡ Faulty 11 (lineHere s)
   digits-most h = digits-first (λ r. let z = r .most in omega arith)
 
   -- then a frame of another kind, length or index is 12, whatever its numbers are
-  pub form-second : Ruled d → (Formed s d → ⊥) → judgeOf s d capacities ≡ 12
-  form-second r h = judged-exactly 12 .1 (holds r (fails h refl))
+  pub form-second : Ruled d → (Formed s d → ⊥) → judgeOf s d x ≡ Faulty 12 (lineHere s)
+  form-second r h = judged-exactly 12 (lineHere s) .1 (holds r (fails h (given 12)))
 
   -- letter 65,536 is 4, before a wrong letter of the same line
-  pub over-before-letter : Ruled d → Formed s d → byteAt d 0 ≡ 5 → wordLimit < s .letters + lettersIn d → judgeOf s d capacities ≡ 4
+  pub over-before-letter : Ruled d → Formed s d → kindOf d ≡ 5 → wordLimit < s .letters + lettersIn d → judgeOf s d x ≡ Faulty 4 (lineHere s)
   over-before-letter r f e h =
-      judged-exactly 4 .1
-      (holds r (holds f (holds (no-counts s d capacities (λ k. omega arith)) (holds (no-tokens s d capacities (λ k. omega arith)) (fails (λ m. let z = m .short e in omega arith) refl)))))
+      judged-exactly 4 (lineHere s) .1
+      (holds r (holds f (holds (no-counts s d x (λ k. omega arith)) (holds (no-tokens s d x (λ k. omega arith)) (fails (λ m. let z = m .few e in omega arith) (given 4))))))
 
-  -- a line is taken exactly where it breaks nothing
-  pub taken-exactly : (judgeOf s d capacities ≡ 0) ↔ (Ruled d × Formed s d × Counted d × Marked s d capacities × Short s d × Named s d)
-  taken-exactly = (
-    λ e.
-        let a = past (judged-exactly 0 .0 e) (λ q. omega arith) in
+  -- a refusal of a frame's numbers falls on a frame of its kind, at its place: 1 on 01, 3 on 03, 4 and 5 on 05
+  on-kind : {Demand Next : Type 0} {n p k at : ℕ} (j : ℕ) → ((kindOf d ≡ j → ⊥) → Demand) → (Next → ⊥) → First Demand (Given n p k at) Next → kindOf d ≡ j
+  on-kind j free no-more (holds p a) = absurd (no-more a)
+  on-kind j free no-more (fails h e) = go (eqb (kindOf d) j) refl
+    where
+      go : (b : Bool) → eqb (kindOf d) j ≡ b → kindOf d ≡ j
+      go true q = eqb-true _ _ q
+      go false q = absurd (h (free (eqb-false _ _ q)))
+
+  module _ (at : ℕ) where
+    pub one-on-01 : judgeOf s d x ≡ Faulty 1 at → (expected s ≡ 1) × (kindOf d ≡ 1)
+    one-on-01 e =
+        let a = past (judged-exactly 1 at .0 e) (λ q. omega arith) in
+        let b = past (a .1) (λ q. omega arith) in
+        let k = on-kind 1 (no-counts s d x) (λ f. past (past (past f (λ q. omega arith) .1) (λ q. omega arith) .1) (λ q. omega arith) .1) (b .1) in
+        (formed-01 s d (b .0) k .0, k)
+
+    pub three-on-03 : judgeOf s d x ≡ Faulty 3 at → (expected s ≡ 3) × (kindOf d ≡ 3)
+    three-on-03 e =
+        let a = past (judged-exactly 3 at .0 e) (λ q. omega arith) in
+        let b = past (a .1) (λ q. omega arith) in
+        let c = past (b .1) (λ q. omega arith) in
+        let k = on-kind 3 (no-tokens s d x) (λ f. past (past f (λ q. omega arith) .1) (λ q. omega arith) .1) (c .1) in
+        (formed-03 s d (b .0) k .0, k)
+
+    pub four-on-05 : judgeOf s d x ≡ Faulty 4 at → (expected s ≡ 5) × (kindOf d ≡ 5)
+    four-on-05 e =
+        let a = past (judged-exactly 4 at .0 e) (λ q. omega arith) in
+        let b = past (a .1) (λ q. omega arith) in
+        let c = past (b .1) (λ q. omega arith) in
+        let f = past (c .1) (λ q. omega arith) in
+        let k = on-kind 5 (no-long s d x) (λ f. past f (λ q. omega arith) .1) (f .1) in
+        (formed-05 s d (b .0) k .0, k)
+
+    pub five-on-05 : judgeOf s d x ≡ Faulty 5 at → (expected s ≡ 5) × (kindOf d ≡ 5)
+    five-on-05 e =
+        let a = past (judged-exactly 5 at .0 e) (λ q. omega arith) in
         let b = past (a .1) (λ q. omega arith) in
         let c = past (b .1) (λ q. omega arith) in
         let f = past (c .1) (λ q. omega arith) in
         let g = past (f .1) (λ q. omega arith) in
-        let h = past (g .1) (λ q. omega arith) in
-        (a .0, b .0, c .0, f .0, g .0, h .0),
-    λ t. judged-exactly 0 .1 (holds (t .0) (holds (t .1) (holds (t .2) (holds (t .3) (holds (t .4) (holds (t .5) refl)))))),
-  )
+        let k = on-kind 5 (no-letters s d x) (λ z. z) (g .1) in
+        (formed-05 s d (b .0) k .0, k)
 
-  -- a refusal of a frame's numbers falls on a frame of its kind, at its place: 1 on 01, 3 on 03, 4 and 5 on 05
-  on-kind : {Demand Next : Type 0} {n : ℕ} (j : ℕ) → ((byteAt d 0 ≡ j → ⊥) → Demand) → (Next → ⊥) → First Demand n n Next → byteAt d 0 ≡ j
-  on-kind j free no-more (holds p a) = absurd (no-more a)
-  on-kind j free no-more (fails h e) = go (eqb (byteAt d 0) j) refl
-    where
-      go : (b : Bool) → eqb (byteAt d 0) j ≡ b → byteAt d 0 ≡ j
-      go true q = eqb-true _ _ q
-      go false q = absurd (h (free (eqb-false _ _ q)))
+  -- what the line comes to, by its fault
+  pub taken-line : judgeOf s d x ≡ Sound → (lineOf s d x ≡ Next (advanced s d)) × (roomsOf s d x ≡ stored s d x)
+  unfolding lineOf roomsOf
+  taken-line e = (rw e, rw e)
 
-  pub one-on-01 : judgeOf s d capacities ≡ 1 → (s .phase ≡ 1) × (byteAt d 0 ≡ 1)
-  one-on-01 e =
-      let a = past (judged-exactly 1 .0 e) (λ q. omega arith) in
-      let b = past (a .1) (λ q. omega arith) in
-      let k = on-kind 1 (no-counts s d capacities) (λ f. let z = past (past (past f (λ q. omega arith) .1) (λ q. omega arith) .1) (λ q. omega arith) .1 in omega arith) (b .1) in
-      (formed-01 s d capacities (b .0) k .0, k)
-
-  pub three-on-03 : judgeOf s d capacities ≡ 3 → (s .phase ≡ 3) × (byteAt d 0 ≡ 3)
-  three-on-03 e =
-      let a = past (judged-exactly 3 .0 e) (λ q. omega arith) in
-      let b = past (a .1) (λ q. omega arith) in
-      let c = past (b .1) (λ q. omega arith) in
-      let k = on-kind 3 (no-tokens s d capacities) (λ f. let z = past (past f (λ q. omega arith) .1) (λ q. omega arith) .1 in omega arith) (c .1) in
-      (formed-03 s d capacities (b .0) k .0, k)
-
-  pub four-on-05 : judgeOf s d capacities ≡ 4 → (s .phase ≡ 5) × (byteAt d 0 ≡ 5)
-  four-on-05 e =
-      let a = past (judged-exactly 4 .0 e) (λ q. omega arith) in
-      let b = past (a .1) (λ q. omega arith) in
-      let c = past (b .1) (λ q. omega arith) in
-      let f = past (c .1) (λ q. omega arith) in
-      let k = on-kind 5 (no-long s d capacities) (λ f. let z = past f (λ q. omega arith) .1 in omega arith) (f .1) in
-      (formed-05 s d capacities (b .0) k .0, k)
-
-  pub five-on-05 : judgeOf s d capacities ≡ 5 → (s .phase ≡ 5) × (byteAt d 0 ≡ 5)
-  five-on-05 e =
-      let a = past (judged-exactly 5 .0 e) (λ q. omega arith) in
-      let b = past (a .1) (λ q. omega arith) in
-      let c = past (b .1) (λ q. omega arith) in
-      let f = past (c .1) (λ q. omega arith) in
-      let g = past (f .1) (λ q. omega arith) in
-      let k = on-kind 5 (no-letters s d capacities) (λ z. omega arith) (g .1) in
-      (formed-05 s d capacities (b .0) k .0, k)
-
-  -- a refusal is given with the line's own number, counted from 1
-  pub refused-here : (judgeOf s d capacities ≡ 0 → ⊥) → lineOf s d capacities ≡ Refused (judgeOf s d capacities) (s .line + 1)
-  unfolding lineOf
-  refused-here n = simp (ne-eqb (judgeOf s d capacities) 0 n)
+  pub refused-line : (n at : ℕ) → judgeOf s d x ≡ Faulty n at → (lineOf s d x ≡ Refused n at) × (roomsOf s d x ≡ x)
+  unfolding lineOf roomsOf
+  refused-line n at e = (rw e, rw e)
 
 -- an empty line is 11
-pub empty-line : (s : Reading) (capacities : List ℕ) → judgeOf s [] capacities ≡ 11
-empty-line s capacities = digits-first s [] capacities (λ r. let z = r .least in omega arith)
+pub empty-line : (s : Reading) (x : Rooms) → judgeOf s [] x ≡ Faulty 11 (lineHere s)
+empty-line s x = digits-first s [] x (λ r. let z = r .least in omega arith)
 
 -- a 05 after one of fewer than 64 letters is 12
-pub short-then-more : (s : Reading) (d e capacities : List ℕ) → judgeOf s d capacities ≡ 0 → byteAt d 0 ≡ 5 → lettersIn d < block → Ruled e → byteAt e 0 ≡ 5
-    → judgeOf (advanced s d) e capacities ≡ 12
+pub short-then-more : (s : Reading) (d e : List ℕ) (x : Rooms) → judgeOf s d x ≡ Sound → kindOf d ≡ 5 → lettersIn d < block → Ruled e → kindOf e ≡ 5
+    → judgeOf (advanced s d) e x ≡ Faulty 12 (lineHere (advanced s d))
 unfolding advancedKind
-short-then-more s d e capacities j k h r l =
-    let t = taken-exactly s d capacities .0 j in
-    let f = formed-05 s d capacities (t .1) k in
-    let even : length d % 2 ≡ 0 = t .0 .even in
+short-then-more s d e x j k h r l =
+    let t = taken-exactly s d x .0 j in
+    let f = formed-05 s d (t .formed) k in
+    let even : length d % 2 ≡ 0 = t .ruled .even in
     let m : advanced s d .letters ≡ s .letters + lettersIn d = rw k in
-    form-second (advanced s d) e capacities r (λ g. let z = formed-05 (advanced s d) e capacities g l .1 in omega (arith, f .1, f .2))
+    form-second (advanced s d) e x r (λ g. let z = formed-05 (advanced s d) e g l .1 in omega (arith, f .1, f .2))

@@ -1,272 +1,217 @@
--- Each kind's tests are document 01's demands, in the order of the numbers. Assumes nothing.
+-- The tests of a line are document 01's demands, in the order of the numbers. Assumes nothing.
 use mathlib.Core.Path.{_≡_, refl, sym, _∙_}
-use mathlib.Core.Bool.{Bool, true, false, cond, false≢true}
+use mathlib.Core.Bool.{Bool, true, false, not, _&&_}
 use mathlib.Core.List.{List}
 use Prim.Native.Nat.{ℕ, zero, suc, _+_, _*_, _≤_, _<_, _%_}
 use native.Mathlib.Omega.{arith}
-use native.Mathlib.Nat.{not-suc-le-zero}
-use lib.Dec.{leb, ltb, eqb}
+use lib.Dec.{leb, eqb}
 use lib.ListN.{length, getD}
-use borrow.Author.Tests.{eqb-true, eqb-false, le-ltb, ltb-true, ltb-false, lt-leb, leb-false}
-use Rattle.ground.specs.Limits.{countLimit, tokenLimit, wordLimit}
-use Rattle.file_digits.specs.Frame.{block, byteAt, wordAt}
+use borrow.Author.Tests.{eq-eqb, ne-eqb, eqb-true, le-ltb, ltb-false, le-leb, lt-leb, leb-true, leb-false, not-false}
+use Rattle.ground.proofs.Tests.{never, or-false, both-false, and-true}
+use Rattle.ground.proofs.Scan.{first-none, first-below}
+use Rattle.net.specs.Given.{refuse, outside, markingFault, badLetter, Letters}
+use Rattle.net.specs.declared.Fault.the-variants.{Sound}
+use Rattle.net.proofs.Chains.{refuse-sound, sound-refuse, or-sound, sound-or}
+use Rattle.net.proofs.Refusals.{inside-of, inside-is, fine-of, fine-is}
+use Rattle.net.proofs.Exactly.{Chain, tells-test, reads-test, reads-both, reads-all}
+use Rattle.file_digits.specs.Frame.{block, byteAt}
 use Rattle.file_line.specs.declared.Reading.{Reading}
-use Rattle.file_line.specs.Read.{ruleOf, judgeOf, judgeKind, countsOf, capsOf, tokensOf, rowOf, lettersOf, lettersIn, fitTokens, fitLetters}
-use Rattle.file_line.specs.Line.{Ruled, Formed, frame01, frame02, frame03, frame04, frame05, Counted, Marked, Short, Named, First, fails, holds, Judged}
-use Rattle.file_line.proofs.Turns.{judge-kind, judge-rest, judge-rule}
+use Rattle.file_line.specs.Read.{Rooms, kindOf, expected, tokensIn, wordPart, lineHere, ruleOf, formedKind, formedOf, countsBad, tokensBad, wordOver, lettersBad, judgeOf}
+use Rattle.file_line.specs.Line.{Ruled, Formed, frame01, frame02, frame03, frame04, frame05, CountsInRange, TokensAllowed, WordNotOver, LettersNamed, Taken, Judged}
 use Rattle.file_line.proofs.Digits.{rule-exactly}
 
--- the tokens and the letters of a line, one by one
-pub tokens-fit : (d caps : List ℕ) (i j n : ℕ)
-    → ((k : ℕ) → k < n → (wordAt d (j + 2 * k) ≤ tokenLimit) × (wordAt d (j + 2 * k) ≤ getD caps (i + k) 0)) → fitTokens d caps i j n ≡ true
-unfolding fitTokens
-tokens-fit d caps i j zero h = refl
-tokens-fit d caps i j (suc n) h =
-    let p : i + 0 ≡ i = omega arith in
-    let q : j + 2 * 0 ≡ j = omega arith in
-    let u : (wordAt d j ≤ tokenLimit) × (wordAt d j ≤ getD caps i 0) = rw (p, q) at (h 0 (omega arith)) in
-    simp (le-ltb tokenLimit (wordAt d j) (u .0), le-ltb (getD caps i 0) (wordAt d j) (u .1))
-    (tokens-fit d caps (i + 1) (j + 2) n (λ k b.
-    let v : i + suc k ≡ i + 1 + k = omega arith in
-    let w : j + 2 * suc k ≡ j + 2 + 2 * k = omega arith in
-    rw (v, w) at (h (suc k) (omega arith))))
+-- a test that is asked of one kind only
+module _ (k j : ℕ) (b : Bool) where
+  asked-of : (eqb k j && b) ≡ false → k ≡ j → b ≡ false
+  asked-of e h = rw (eq-eqb k j h) at e
 
-pub fit-tokens : (d caps : List ℕ) (i j n k : ℕ) → fitTokens d caps i j n ≡ true → k < n
-    → (wordAt d (j + 2 * k) ≤ tokenLimit) × (wordAt d (j + 2 * k) ≤ getD caps (i + k) 0)
-unfolding fitTokens
-fit-tokens d caps i j zero k t h = absurd (not-suc-le-zero h)
-fit-tokens d caps i j (suc n) k t h = go k h (ltb tokenLimit (wordAt d j)) refl (ltb (getD caps i 0) (wordAt d j)) refl t (λ k u b. fit-tokens d caps (i + 1) (j + 2) n k u b)
-  where
-    go : (k : ℕ) → k < suc n → (a : Bool) → ltb tokenLimit (wordAt d j) ≡ a → (b : Bool) → ltb (getD caps i 0) (wordAt d j) ≡ b
-        → cond a false (cond b false (fitTokens d caps (i + 1) (j + 2) n)) ≡ true
-        → ((k : ℕ) → fitTokens d caps (i + 1) (j + 2) n ≡ true → k < n → (wordAt d (j + 2 + 2 * k) ≤ tokenLimit) × (wordAt d (j + 2 + 2 * k) ≤ getD caps (i + 1 + k) 0))
-        → (wordAt d (j + 2 * k) ≤ tokenLimit) × (wordAt d (j + 2 * k) ≤ getD caps (i + k) 0)
-    go k h true p b q u r = absurd (false≢true u)
-    go k h false p true q u r = absurd (false≢true u)
-    go zero h false p false q u r =
-        let v : i + 0 ≡ i = omega arith in
-        let w : j + 2 * 0 ≡ j = omega arith in
-        rw (v, w) (ltb-false _ _ p, ltb-false _ _ q)
-    go (suc k) h false p false q u r =
-        let v : i + suc k ≡ i + 1 + k = omega arith in
-        let w : j + 2 * suc k ≡ j + 2 + 2 * k = omega arith in
-        rw (v, w) (r k u (omega arith))
+  of-asked : (k ≡ j → b ≡ false) → (eqb k j && b) ≡ false
+  of-asked f = go (eqb k j) refl
+    where
+      go : (a : Bool) → eqb k j ≡ a → (a && b) ≡ false
+      go true q = f (eqb-true _ _ q)
+      go false q = refl
 
-pub letters-fit : (d : List ℕ) (j n t : ℕ) → ((k : ℕ) → k < n → byteAt d (j + k) < t) → fitLetters d j n t ≡ true
-unfolding fitLetters
-letters-fit d j zero t h = refl
-letters-fit d j (suc n) t h =
-    let p : j + 0 ≡ j = omega arith in
-    let u : byteAt d j < t = rw p at (h 0 (omega arith)) in
-    simp (lt-leb t (byteAt d j) u) (letters-fit d (j + 1) n t (λ k b. let v : j + suc k ≡ j + 1 + k = omega arith in rw v at (h (suc k) (omega arith))))
+-- no other kind is known
+pub formed-rest : (s : Reading) (d : List ℕ) (k : ℕ) → (k ≡ 1 → ⊥) → (k ≡ 2 → ⊥) → (k ≡ 3 → ⊥) → (k ≡ 4 → ⊥) → (k ≡ 5 → ⊥) → formedKind k s d ≡ false
+unfolding formedKind
+formed-rest s d k a b e f g = simp (ne-eqb k 1 a, ne-eqb k 2 b, ne-eqb k 3 e, ne-eqb k 4 f, ne-eqb k 5 g)
 
-pub fit-letters : (d : List ℕ) (j n t k : ℕ) → fitLetters d j n t ≡ true → k < n → byteAt d (j + k) < t
-unfolding fitLetters
-fit-letters d j zero t k e h = absurd (not-suc-le-zero h)
-fit-letters d j (suc n) t k e h = go k h (leb t (byteAt d j)) refl e (λ k u b. fit-letters d (j + 1) n t k u b)
-  where
-    go : (k : ℕ) → k < suc n → (a : Bool) → leb t (byteAt d j) ≡ a → cond a false (fitLetters d (j + 1) n t) ≡ true
-        → ((k : ℕ) → fitLetters d (j + 1) n t ≡ true → k < n → byteAt d (j + 1 + k) < t) → byteAt d (j + k) < t
-    go k h true p u r = absurd (false≢true u)
-    go zero h false p u r = let v : j + 0 ≡ j = omega arith in rw v (leb-false _ _ p)
-    go (suc k) h false p u r = let v : j + suc k ≡ j + 1 + k = omega arith in rw v (r k u (omega arith))
+-- a frame that is formedOf, by its kind
+module _ (s : Reading) (d : List ℕ) where
+  pub formed-kind : Formed s d → (1 ≤ kindOf d) × (kindOf d ≤ 5) × (kindOf d ≡ expected s)
+  formed-kind (frame01 p k l) = (omega arith, omega arith, k ∙ sym p)
+  formed-kind (frame02 p k l) = (omega arith, omega arith, k ∙ sym p)
+  formed-kind (frame03 p k l) = (omega arith, omega arith, k ∙ sym p)
+  formed-kind (frame04 p k l i) = (omega arith, omega arith, k ∙ sym p)
+  formed-kind (frame05 p k q l m) = (omega arith, omega arith, k ∙ sym p)
 
--- the first demand that fails is one
-first-one : {Demand A B : Type 0} {k n m : ℕ} → (A → B → n ≡ m) → First Demand k n A → First Demand k m B → n ≡ m
-first-one same (fails h e) (fails g f) = e ∙ sym f
-first-one same (fails h e) (holds p b) = absurd (h p)
-first-one same (holds p a) (fails g f) = absurd (g p)
-first-one same (holds p a) (holds q b) = same a b
-
--- another number was given, so the demand holds
-pub past : {Demand Next : Type 0} {k n : ℕ} → First Demand k n Next → (n ≡ k → ⊥) → Demand × Next
-past (fails h e) n = absurd (n e)
-past (holds p a) n = (p, a)
-
-module _ (s : Reading) (d capacities : List ℕ) where
-  pub judged-one : (n m : ℕ) → Judged s d capacities n → Judged s d capacities m → n ≡ m
-  judged-one n m = first-one (first-one (first-one (first-one (first-one (first-one (λ p q. p ∙ sym q))))))
-
-  -- a line is asked only what its kind is asked
-  pub no-counts : (byteAt d 0 ≡ 1 → ⊥) → Counted d
-  no-counts n = record { places = λ e. absurd (n e); transitions = λ e. absurd (n e) }
-
-  pub no-tokens : (byteAt d 0 ≡ 3 → ⊥) → Marked s d capacities
-  no-tokens n = record { few = λ e. absurd (n e); within = λ e. absurd (n e) }
-
-  pub no-long : (byteAt d 0 ≡ 5 → ⊥) → Short s d
-  no-long n = record { short = λ e. absurd (n e) }
-
-  pub no-letters : (byteAt d 0 ≡ 5 → ⊥) → Named s d
-  no-letters n = record { named = λ e. absurd (n e) }
-
-  -- a frame that is formed, by its kind
-  formed-kind : Formed s d → (1 ≤ byteAt d 0) × (byteAt d 0 ≤ 5)
-  formed-kind (frame01 p k l) = (omega arith, omega arith)
-  formed-kind (frame02 p k l) = (omega arith, omega arith)
-  formed-kind (frame03 p k l) = (omega arith, omega arith)
-  formed-kind (frame04 p k l i) = (omega arith, omega arith)
-  formed-kind (frame05 p k q l m) = (omega arith, omega arith)
-
-  pub formed-01 : Formed s d → byteAt d 0 ≡ 1 → (s .phase ≡ 1) × (length d ≡ 6)
+  pub formed-01 : Formed s d → kindOf d ≡ 1 → (expected s ≡ 1) × (length d ≡ 6)
   formed-01 (frame01 p k l) e = (p, l)
   formed-01 (frame02 p k l) e = absurd (omega arith)
   formed-01 (frame03 p k l) e = absurd (omega arith)
   formed-01 (frame04 p k l i) e = absurd (omega arith)
   formed-01 (frame05 p k q l m) e = absurd (omega arith)
 
-  pub formed-02 : Formed s d → byteAt d 0 ≡ 2 → (s .phase ≡ 2) × (length d ≡ 2 + 4 * s .places)
+  pub formed-02 : Formed s d → kindOf d ≡ 2 → (expected s ≡ 2) × (length d ≡ 2 + 4 * s .places)
   formed-02 (frame01 p k l) e = absurd (omega arith)
   formed-02 (frame02 p k l) e = (p, l)
   formed-02 (frame03 p k l) e = absurd (omega arith)
   formed-02 (frame04 p k l i) e = absurd (omega arith)
   formed-02 (frame05 p k q l m) e = absurd (omega arith)
 
-  pub formed-03 : Formed s d → byteAt d 0 ≡ 3 → (s .phase ≡ 3) × (length d ≡ 2 + 4 * s .places)
+  pub formed-03 : Formed s d → kindOf d ≡ 3 → (expected s ≡ 3) × (length d ≡ 2 + 4 * s .places)
   formed-03 (frame01 p k l) e = absurd (omega arith)
   formed-03 (frame02 p k l) e = absurd (omega arith)
   formed-03 (frame03 p k l) e = (p, l)
   formed-03 (frame04 p k l i) e = absurd (omega arith)
   formed-03 (frame05 p k q l m) e = absurd (omega arith)
 
-  pub formed-04 : Formed s d → byteAt d 0 ≡ 4 → (s .phase ≡ 4) × (length d ≡ 4 + 4 * s .places) × (byteAt d 1 ≡ s .next)
+  pub formed-04 : Formed s d → kindOf d ≡ 4 → (expected s ≡ 4) × (length d ≡ 4 + 4 * s .places) × (byteAt d 1 ≡ s .next)
   formed-04 (frame01 p k l) e = absurd (omega arith)
   formed-04 (frame02 p k l) e = absurd (omega arith)
   formed-04 (frame03 p k l) e = absurd (omega arith)
   formed-04 (frame04 p k l i) e = (p, l, i)
   formed-04 (frame05 p k q l m) e = absurd (omega arith)
 
-  pub formed-05 : Formed s d → byteAt d 0 ≡ 5 → (s .phase ≡ 5) × (s .letters % block ≡ 0) × (4 ≤ length d) × (length d ≤ 2 + 2 * block)
+  pub formed-05 : Formed s d → kindOf d ≡ 5 → (expected s ≡ 5) × (s .letters % block ≡ 0) × (4 ≤ length d) × (length d ≤ 2 + 2 * block)
   formed-05 (frame01 p k l) e = absurd (omega arith)
   formed-05 (frame02 p k l) e = absurd (omega arith)
   formed-05 (frame03 p k l) e = absurd (omega arith)
   formed-05 (frame04 p k l i) e = absurd (omega arith)
   formed-05 (frame05 p k q l m) e = (p, q, l, m)
 
-  -- each kind's tests, in the order of the numbers
-  module _ (r : Ruled d) where
-    judged-01 : byteAt d 0 ≡ 1 → Judged s d capacities (countsOf s d)
-    unfolding countsOf
-    judged-01 e =
-        go (eqb (s .phase) 1) refl (eqb (length d) 6) refl (ltb (byteAt d 1) 1) refl (ltb countLimit (byteAt d 1)) refl (ltb (byteAt d 2) 1) refl (ltb countLimit (byteAt d 2)) refl
-      where
-        go : (a : Bool) → eqb (s .phase) 1 ≡ a → (b : Bool) → eqb (length d) 6 ≡ b → (f : Bool) → ltb (byteAt d 1) 1 ≡ f → (g : Bool) → ltb countLimit (byteAt d 1) ≡ g
-            → (h : Bool) → ltb (byteAt d 2) 1 ≡ h → (i : Bool) → ltb countLimit (byteAt d 2) ≡ i
-            → Judged s d capacities (cond a (cond b (cond f 1 (cond g 1 (cond h 1 (cond i 1 0)))) 12) 12)
-        go false p b q f u g v h w i z = holds r (fails (λ k. eqb-false _ _ p (formed-01 k e .0)) refl)
-        go true p false q f u g v h w i z = holds r (fails (λ k. eqb-false _ _ q (formed-01 k e .1)) refl)
-        go true p true q true u g v h w i z =
-            let k : byteAt d 1 < 1 = ltb-true _ _ u in
-            holds r (holds (frame01 (eqb-true _ _ p) e (eqb-true _ _ q)) (fails (λ c. let x = c .places e in omega arith) refl))
-        go true p true q false u true v h w i z =
-            let k : countLimit < byteAt d 1 = ltb-true _ _ v in
-            holds r (holds (frame01 (eqb-true _ _ p) e (eqb-true _ _ q)) (fails (λ c. let x = c .places e in omega arith) refl))
-        go true p true q false u false v true w i z =
-            let k : byteAt d 2 < 1 = ltb-true _ _ w in
-            holds r (holds (frame01 (eqb-true _ _ p) e (eqb-true _ _ q)) (fails (λ c. let x = c .transitions e in omega arith) refl))
-        go true p true q false u false v false w true z =
-            let k : countLimit < byteAt d 2 = ltb-true _ _ z in
-            holds r (holds (frame01 (eqb-true _ _ p) e (eqb-true _ _ q)) (fails (λ c. let x = c .transitions e in omega arith) refl))
-        go true p true q false u false v false w false z =
-            holds r
-            (holds (frame01 (eqb-true _ _ p) e (eqb-true _ _ q))
-            (holds (record { places = λ _. (ltb-false _ _ u, ltb-false _ _ v); transitions = λ _. (ltb-false _ _ w, ltb-false _ _ z) })
-            (holds (no-tokens (λ k. omega arith)) (holds (no-long (λ k. omega arith)) (holds (no-letters (λ k. omega arith)) refl)))))
-
-    judged-02 : byteAt d 0 ≡ 2 → Judged s d capacities (capsOf s d)
-    unfolding capsOf
-    judged-02 e = go (eqb (s .phase) 2) refl (eqb (length d) (2 + 4 * s .places)) refl
-      where
-        go : (a : Bool) → eqb (s .phase) 2 ≡ a → (b : Bool) → eqb (length d) (2 + 4 * s .places) ≡ b → Judged s d capacities (cond a (cond b 0 12) 12)
-        go false p b q = holds r (fails (λ k. eqb-false _ _ p (formed-02 k e .0)) refl)
-        go true p false q = holds r (fails (λ k. eqb-false _ _ q (formed-02 k e .1)) refl)
-        go true p true q =
-            holds r
-            (holds (frame02 (eqb-true _ _ p) e (eqb-true _ _ q))
-            (holds (no-counts (λ k. omega arith)) (holds (no-tokens (λ k. omega arith)) (holds (no-long (λ k. omega arith)) (holds (no-letters (λ k. omega arith)) refl)))))
-
-    judged-03 : byteAt d 0 ≡ 3 → Judged s d capacities (tokensOf s d capacities)
-    unfolding tokensOf
-    judged-03 e = go (eqb (s .phase) 3) refl (eqb (length d) (2 + 4 * s .places)) refl (fitTokens d capacities 0 1 (s .places)) refl
-      where
-        at : (k : ℕ) → 0 + k ≡ k
-        at k = omega arith
-
-        go : (a : Bool) → eqb (s .phase) 3 ≡ a → (b : Bool) → eqb (length d) (2 + 4 * s .places) ≡ b → (f : Bool) → fitTokens d capacities 0 1 (s .places) ≡ f
-            → Judged s d capacities (cond a (cond b (cond f 0 3) 12) 12)
-        go false p b q f u = holds r (fails (λ k. eqb-false _ _ p (formed-03 k e .0)) refl)
-        go true p false q f u = holds r (fails (λ k. eqb-false _ _ q (formed-03 k e .1)) refl)
-        go true p true q false u =
-            holds r
-            (holds (frame03 (eqb-true _ _ p) e (eqb-true _ _ q))
-            (holds (no-counts (λ k. omega arith))
-            (fails (λ m. false≢true (sym u ∙ tokens-fit d capacities 0 1 (s .places) (λ k b. rw (at k) (m .few e k b, m .within e k b)))) refl)))
-        go true p true q true u =
-            holds r
-            (holds (frame03 (eqb-true _ _ p) e (eqb-true _ _ q))
-            (holds (no-counts (λ k. omega arith))
-            (holds (record { few = λ _ k b. fit-tokens d capacities 0 1 (s .places) k u b .0; within = λ _ k b. rw (at k) at (fit-tokens d capacities 0 1 (s .places) k u b .1) })
-            (holds (no-long (λ k. omega arith)) (holds (no-letters (λ k. omega arith)) refl)))))
-
-    judged-04 : byteAt d 0 ≡ 4 → Judged s d capacities (rowOf s d)
-    unfolding rowOf
-    judged-04 e = go (eqb (s .phase) 4) refl (eqb (length d) (4 + 4 * s .places)) refl (eqb (byteAt d 1) (s .next)) refl
-      where
-        go : (a : Bool) → eqb (s .phase) 4 ≡ a → (b : Bool) → eqb (length d) (4 + 4 * s .places) ≡ b → (f : Bool) → eqb (byteAt d 1) (s .next) ≡ f
-            → Judged s d capacities (cond a (cond b (cond f 0 12) 12) 12)
-        go false p b q f u = holds r (fails (λ k. eqb-false _ _ p (formed-04 k e .0)) refl)
-        go true p false q f u = holds r (fails (λ k. eqb-false _ _ q (formed-04 k e .1)) refl)
-        go true p true q false u = holds r (fails (λ k. eqb-false _ _ u (formed-04 k e .2)) refl)
-        go true p true q true u =
-            holds r
-            (holds (frame04 (eqb-true _ _ p) e (eqb-true _ _ q) (eqb-true _ _ u))
-            (holds (no-counts (λ k. omega arith)) (holds (no-tokens (λ k. omega arith)) (holds (no-long (λ k. omega arith)) (holds (no-letters (λ k. omega arith)) refl)))))
-
-    judged-05 : byteAt d 0 ≡ 5 → Judged s d capacities (lettersOf s d)
-    unfolding lettersOf
-    judged-05 e =
-        go (eqb (s .phase) 5) refl (eqb (s .letters % block) 0) refl (ltb (length d) 4) refl (ltb (2 + 2 * block) (length d)) refl (ltb wordLimit (s .letters + lettersIn d)) refl
-        (fitLetters d 1 (lettersIn d) (s .transitions)) refl
-      where
-        go : (a : Bool) → eqb (s .phase) 5 ≡ a → (b : Bool) → eqb (s .letters % block) 0 ≡ b → (f : Bool) → ltb (length d) 4 ≡ f → (g : Bool) → ltb (2 + 2 * block) (length d) ≡ g
-            → (h : Bool) → ltb wordLimit (s .letters + lettersIn d) ≡ h → (i : Bool) → fitLetters d 1 (lettersIn d) (s .transitions) ≡ i
-            → Judged s d capacities (cond a (cond b (cond f 12 (cond g 12 (cond h 4 (cond i 0 5)))) 12) 12)
-        go false p b q f u g v h w i z = holds r (fails (λ k. eqb-false _ _ p (formed-05 k e .0)) refl)
-        go true p false q f u g v h w i z = holds r (fails (λ k. eqb-false _ _ q (formed-05 k e .1)) refl)
-        go true p true q true u g v h w i z =
-            let x : length d < 4 = ltb-true _ _ u in
-            holds r (fails (λ k. let y = formed-05 k e .2 in omega arith) refl)
-        go true p true q false u true v h w i z =
-            let x : 2 + 2 * block < length d = ltb-true _ _ v in
-            holds r (fails (λ k. let y = formed-05 k e .3 in omega arith) refl)
-        go true p true q false u false v h w i z =
-            holds r
-            (holds (frame05 (eqb-true _ _ p) e (eqb-true _ _ q) (ltb-false _ _ u) (ltb-false _ _ v))
-            (holds (no-counts (λ k. omega arith)) (holds (no-tokens (λ k. omega arith)) (word h w i z))))
-          where
-            word : (h : Bool) → ltb wordLimit (s .letters + lettersIn d) ≡ h → (i : Bool) → fitLetters d 1 (lettersIn d) (s .transitions) ≡ i
-                → First (Short s d) 4 (cond h 4 (cond i 0 5)) (First (Named s d) 5 (cond h 4 (cond i 0 5)) (_≡_ {A = ℕ} (cond h 4 (cond i 0 5)) 0))
-            word true w i z =
-                let x : wordLimit < s .letters + lettersIn d = ltb-true _ _ w in
-                fails (λ k. let y = k .short e in omega arith) refl
-            word false w false z =
-                holds (record { short = λ _. ltb-false _ _ w }) (fails (λ k. false≢true (sym z ∙ letters-fit d 1 (lettersIn d) (s .transitions) (λ j b. k .named e j b))) refl)
-            word false w true z =
-                holds (record { short = λ _. ltb-false _ _ w }) (holds (record { named = λ _ k b. fit-letters d 1 (lettersIn d) (s .transitions) k z b }) refl)
-
-    judged-kind : (k : ℕ) → byteAt d 0 ≡ k → Judged s d capacities (judgeKind k s d capacities)
-    unfolding judgeKind
-    judged-kind zero e = holds r (fails (λ f. let m = formed-kind f in omega arith) refl)
-    judged-kind (suc zero) e = judged-01 e
-    judged-kind (suc (suc zero)) e = judged-02 e
-    judged-kind (suc (suc (suc zero))) e = judged-03 e
-    judged-kind (suc (suc (suc (suc zero)))) e = judged-04 e
-    judged-kind (suc (suc (suc (suc (suc zero))))) e = judged-05 e
-    judged-kind (suc (suc (suc (suc (suc (suc k)))))) e = holds r (fails (λ f. let m = formed-kind f in omega arith) (judge-rest s d capacities (suc (suc (suc (suc (suc (suc k)))))) (λ q. omega arith) (λ q. omega arith) (λ q. omega arith) (λ q. omega arith) (λ q. omega arith)))
-
-  pub judged : Judged s d capacities (judgeOf s d capacities)
-  judged = go (ruleOf d) refl
+  -- its test says so
+  pub formed-of : formedOf s d ≡ true → Formed s d
+  unfolding formedOf formedKind
+  formed-of e =
+      let a = and-true (eqb (kindOf d) (expected s)) _ e in
+      let p = eqb-true _ _ (a .0) in
+      go (kindOf d) refl p (a .1)
     where
-      go : (b : Bool) → ruleOf d ≡ b → Judged s d capacities (judgeOf s d capacities)
-      go true q = rw (judge-kind s d capacities (byteAt d 0) q refl) (judged-kind (rule-exactly d .0 q) (byteAt d 0) refl)
-      go false q = fails (λ r. false≢true (sym q ∙ rule-exactly d .1 r)) (judge-rule s d capacities q)
+      go : (k : ℕ) → kindOf d ≡ k → kindOf d ≡ expected s → formedKind k s d ≡ true → Formed s d
+      go zero q p h = never (sym h)
+      go (suc zero) q p h = frame01 (sym p ∙ q) q (eqb-true _ _ h)
+      go (suc (suc zero)) q p h = frame02 (sym p ∙ q) q (eqb-true _ _ h)
+      go (suc (suc (suc zero))) q p h = frame03 (sym p ∙ q) q (eqb-true _ _ h)
+      go (suc (suc (suc (suc zero)))) q p h =
+          let z = and-true (eqb (length d) (4 + 4 * s .places)) _ h in
+          frame04 (sym p ∙ q) q (eqb-true _ _ (z .0)) (eqb-true _ _ (z .1))
+      go (suc (suc (suc (suc (suc zero))))) q p h =
+          let z = and-true (eqb (s .letters % block) 0) _ h in
+          let y = and-true (leb 4 (length d)) _ (z .1) in
+          frame05 (sym p ∙ q) q (eqb-true _ _ (z .0)) (leb-true _ _ (y .0)) (leb-true _ _ (y .1))
+      go (suc (suc (suc (suc (suc (suc k)))))) q p h = never (sym h ∙ formed-rest s d (suc (suc (suc (suc (suc (suc k)))))) (λ q. omega arith) (λ q. omega arith) (λ q. omega arith) (λ q. omega arith) (λ q. omega arith))
+
+  pub formed-is : Formed s d → formedOf s d ≡ true
+  unfolding formedOf formedKind
+  formed-is (frame01 p k l) = rw (k, p, l)
+  formed-is (frame02 p k l) = rw (k, p) (eq-eqb _ _ l)
+  formed-is (frame03 p k l) = rw (k, p) (eq-eqb _ _ l)
+  formed-is (frame04 p k l i) = rw (k, p, eq-eqb (length d) (4 + 4 * s .places) l) (eq-eqb _ _ i)
+  formed-is (frame05 p k q l m) = rw (k, p, eq-eqb (s .letters % block) 0 q, le-leb 4 (length d) l) (le-leb _ _ m)
+
+-- each test and its demand
+module _ (s : Reading) (d : List ℕ) (x : Rooms) where
+  ruled-of : not (ruleOf d) ≡ false → Ruled d
+  ruled-of e = rule-exactly d .0 (not-false _ e)
+
+  of-ruled : Ruled d → not (ruleOf d) ≡ false
+  of-ruled r = rw (rule-exactly d .1 r)
+
+  form-of : not (formedOf s d) ≡ false → Formed s d
+  form-of e = formed-of s d (not-false _ e)
+
+  of-form : Formed s d → not (formedOf s d) ≡ false
+  of-form f = rw (formed-is s d f)
+
+  counts-of : countsBad d ≡ false → CountsInRange d
+  counts-of e = record { places = λ h. inside-of (byteAt d 1) (two h .0); transitions = λ h. inside-of (byteAt d 2) (two h .1) }
+    where
+      two : kindOf d ≡ 1 → (outside (byteAt d 1) ≡ false) × (outside (byteAt d 2) ≡ false)
+      two h = or-false (outside (byteAt d 1)) (outside (byteAt d 2)) (asked-of (kindOf d) 1 _ e h)
+
+  of-counts : CountsInRange d → countsBad d ≡ false
+  of-counts c =
+      of-asked (kindOf d) 1 _ (λ h. both-false _ _ (inside-is (byteAt d 1) (c .places h .0) (c .places h .1)) (inside-is (byteAt d 2) (c .transitions h .0) (c .transitions h .1)))
+
+  tokens-of : tokensBad s d x ≡ false → TokensAllowed s d x
+  unfolding markingFault
+  tokens-of e = record { fine = λ h. fine-of (x .caps) (tokensIn s d) (sound-refuse _ 3 _ (asked-of (kindOf d) 3 _ e h)) }
+
+  of-tokens : TokensAllowed s d x → tokensBad s d x ≡ false
+  unfolding markingFault
+  of-tokens t = of-asked (kindOf d) 3 _ (λ h. refuse-sound _ 3 _ (fine-is (x .caps) (tokensIn s d) (t .fine h)))
+
+  word-of : wordOver s d ≡ false → WordNotOver s d
+  word-of e = record { few = λ h. ltb-false _ _ (asked-of (kindOf d) 5 _ e h) }
+
+  of-word : WordNotOver s d → wordOver s d ≡ false
+  of-word w = of-asked (kindOf d) 5 _ (λ h. le-ltb _ _ (w .few h))
+
+  letters-of : lettersBad s d ≡ false → LettersNamed s d
+  letters-of e = record { named = λ h. record { at = λ k b. named (ltb-false _ _ (asked-of (kindOf d) 5 _ e h)) k b } }
+    where
+      named : length (wordPart d) ≤ badLetter (s .transitions) (wordPart d) → (k : ℕ) → k < length (wordPart d) → getD (wordPart d) k 0 < s .transitions
+      named l k b = leb-false _ _ (first-below (λ k. leb (s .transitions) (getD (wordPart d) k 0)) (length (wordPart d)) k (omega arith))
+
+  of-letters : LettersNamed s d → lettersBad s d ≡ false
+  of-letters l = of-asked (kindOf d) 5 _ (λ h. le-ltb _ _ (none (l .named h)))
+    where
+      none : Letters (s .transitions) (wordPart d) → length (wordPart d) ≤ badLetter (s .transitions) (wordPart d)
+      none m =
+          let e = first-none (λ k. leb (s .transitions) (getD (wordPart d) k 0)) (length (wordPart d)) (λ k b. lt-leb _ _ (m .at k b)) in
+          omega (arith, e)
+
+  -- the chain, read demand by demand
+  pub judged-chain : Chain (judgeOf s d x) (Judged s d x)
+  unfolding judgeOf
+  judged-chain =
+      reads-all
+      (reads-both (reads-test (tells-test (not (ruleOf d)) 11 (lineHere s) ruled-of of-ruled))
+      (reads-both (reads-test (tells-test (not (formedOf s d)) 12 (lineHere s) form-of of-form))
+      (reads-both (reads-test (tells-test (countsBad d) 1 (lineHere s) counts-of of-counts))
+      (reads-both (reads-test (tells-test (tokensBad s d x) 3 (lineHere s) tokens-of of-tokens))
+      (reads-both (reads-test (tells-test (wordOver s d) 4 (lineHere s) word-of of-word))
+      (reads-test (tells-test (lettersBad s d) 5 (lineHere s) letters-of of-letters)))))))
+
+  -- nothing is refused exactly where all of it holds
+  pub taken-of : judgeOf s d x ≡ Sound → Taken s d x
+  unfolding judgeOf
+  taken-of e =
+      let a = or-sound (refuse (not (ruleOf d)) 11 (lineHere s)) _ e in
+      let b = or-sound (refuse (not (formedOf s d)) 12 (lineHere s)) _ (a .1) in
+      let c = or-sound (refuse (countsBad d) 1 (lineHere s)) _ (b .1) in
+      let f = or-sound (refuse (tokensBad s d x) 3 (lineHere s)) _ (c .1) in
+      let g = or-sound (refuse (wordOver s d) 4 (lineHere s)) _ (f .1) in
+      record {
+        ruled = ruled-of (refuse-sound _ 11 (lineHere s) (a .0));
+        formed = form-of (refuse-sound _ 12 (lineHere s) (b .0));
+        counts = counts-of (refuse-sound _ 1 (lineHere s) (c .0));
+        tokens = tokens-of (refuse-sound _ 3 (lineHere s) (f .0));
+        word = word-of (refuse-sound _ 4 (lineHere s) (g .0));
+        letters = letters-of (refuse-sound _ 5 (lineHere s) (g .1));
+      }
+
+  pub of-taken : Taken s d x → judgeOf s d x ≡ Sound
+  unfolding judgeOf
+  of-taken t =
+      sound-or _ _ (sound-refuse _ 11 (lineHere s) (of-ruled (t .ruled)))
+      (sound-or _ _ (sound-refuse _ 12 (lineHere s) (of-form (t .formed)))
+      (sound-or _ _ (sound-refuse _ 1 (lineHere s) (of-counts (t .counts)))
+      (sound-or _ _ (sound-refuse _ 3 (lineHere s) (of-tokens (t .tokens)))
+      (sound-or _ _ (sound-refuse _ 4 (lineHere s) (of-word (t .word))) (sound-refuse _ 5 (lineHere s) (of-letters (t .letters)))))))
+
+-- a line is asked only what its kind is asked
+module _ (s : Reading) (d : List ℕ) (x : Rooms) where
+  pub no-counts : (kindOf d ≡ 1 → ⊥) → CountsInRange d
+  no-counts n = record { places = λ e. absurd (n e); transitions = λ e. absurd (n e) }
+
+  pub no-tokens : (kindOf d ≡ 3 → ⊥) → TokensAllowed s d x
+  no-tokens n = record { fine = λ e. absurd (n e) }
+
+  pub no-long : (kindOf d ≡ 5 → ⊥) → WordNotOver s d
+  no-long n = record { few = λ e. absurd (n e) }
+
+  pub no-letters : (kindOf d ≡ 5 → ⊥) → LettersNamed s d
+  no-letters n = record { named = λ e. absurd (n e) }

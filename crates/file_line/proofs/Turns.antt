@@ -1,40 +1,42 @@
 -- Turns of the reader's loops, and what a good line's rule says. Assumes nothing.
-use mathlib.Core.Path.{_≡_, refl}
-use mathlib.Core.Bool.{Bool, true, false, cond, false≢true, _&&_}
+use mathlib.Core.Path.{_≡_, refl, sym, _∙_, ap}
+use mathlib.Core.Bool.{Bool, true, false, cond, false≢true, not, _&&_}
 use mathlib.Core.List.{List}
 use Prim.Native.Nat.{ℕ, zero, suc, _+_, _-_, _*_, _≤_, _<_, _%_}
 use native.Mathlib.Omega.{arith}
 use native.Mathlib.Nat.{not-suc-le-zero}
-use lib.Dec.{ltb, eqb}
+use lib.Dec.{leb, ltb, eqb}
 use lib.ListN.{length, getD}
-use borrow.Author.Tests.{eq-eqb, lt-ltb, le-ltb, le-leb, lt-leb, ne-eqb, ltb-false, ltb-true, eqb-false}
-use Rattle.ground.specs.Limits.{countLimit, tokenLimit, wordLimit}
-use Rattle.file_digits.specs.Frame.{lineLimit, block, wordAt, byteAt, allDigits}
-use Rattle.file_line.specs.declared.Reading.{Reading}
-use Rattle.file_line.specs.Read.{countsOf, lettersOf, lettersIn, fitTokens, fitLetters, ruleOf, judgeOf, judgeKind}
+use borrow.Author.Tests.{le-ltb, le-leb, lt-leb, ltb-false, ltb-true, eqb-false, leb-false}
+use Rattle.ground.proofs.Scan.{Below, first-none, first-below, scan-start, scan-hit, scan-next, scan-end}
+use Rattle.net.specs.Given.{tokenBad, badToken, badLetter}
+use Rattle.file_digits.specs.Frame.{lineLimit, wordAt, byteAt, wordsFrom, allDigits}
+use Rattle.file_digits.proofs.Bytes.{bytes-long, bytes-at, words-long, words-at}
+use Rattle.file_line.specs.Read.{lettersIn, wordPart, ruleOf}
+use Rattle.file_line.specs.Walk.{fitLetters}
 
-module _ (d caps : List ℕ) (i j m : ℕ) (e : m ≡ wordAt d j) where
-  pub tokens-most : (left : ℕ) → 0 < left → tokenLimit < m → fitTokens d caps i j left ≡ false
-  unfolding fitTokens
-  tokens-most zero h t = absurd (not-suc-le-zero h)
-  tokens-most (suc left) h t = simp (← e, lt-ltb _ _ t)
+-- the tokens of a line, looked at up to place i
+pub record Looking (d caps : List ℕ) (n i : ℕ) : Type 0 where
+  pub below : Below (λ p. tokenBad (getD caps p 0) (getD (wordsFrom d 1 n) p 0)) i
 
-  pub tokens-over : (left : ℕ) → 0 < left → m ≤ tokenLimit → getD caps i 0 < m → fitTokens d caps i j left ≡ false
-  unfolding fitTokens
-  tokens-over zero h t u = absurd (not-suc-le-zero h)
-  tokens-over (suc left) h t u = simp (← e, le-ltb _ _ t, lt-ltb _ _ u)
+pub looking-start : (d caps : List ℕ) (n : ℕ) → Looking d caps n 0
+looking-start d caps n = record { below = scan-start _ }
 
-  pub tokens-turn : (left : ℕ) → 0 < left → m ≤ tokenLimit → m ≤ getD caps i 0 → fitTokens d caps (i + 1) (j + 2) (left - 1) ≡ fitTokens d caps i j left
-  unfolding fitTokens
-  tokens-turn zero h t u = absurd (not-suc-le-zero h)
-  tokens-turn (suc left) h t u =
-      let z : suc left - 1 ≡ left = omega arith in
-      simp (z, ← e, le-ltb _ _ t, le-ltb _ _ u)
+module _ (d caps : List ℕ) (n i : ℕ) (l : Looking d caps n i) where
+  module _ (m : ℕ) (r : Bool) (h : i < n) (e : m ≡ wordAt d (1 + 2 * i)) (f : r ≡ tokenBad (getD caps i 0) m) where
+    looked : r ≡ tokenBad (getD caps i 0) (getD (wordsFrom d 1 n) i 0)
+    looked = f ∙ ap (tokenBad (getD caps i 0)) (e ∙ sym (words-at d 1 n i h))
 
-pub tokens-none : (d caps : List ℕ) (i j left : ℕ) → left ≤ 0 → fitTokens d caps i j left ≡ true
-unfolding fitTokens
-tokens-none d caps i j zero h = refl
-tokens-none d caps i j (suc n) h = absurd (not-suc-le-zero h)
+    pub looking-hit : r ≡ true → i ≡ badToken caps (wordsFrom d 1 n)
+    looking-hit q = rw (words-long d 1 n) (scan-hit _ n i r (l .below) looked q h)
+
+    pub looking-next : r ≡ false → Looking d caps n (i + 1)
+    looking-next q = record { below = scan-next _ i r (l .below) looked q }
+
+  pub looking-end : i ≤ n → n ≤ i → i ≡ badToken caps (wordsFrom d 1 n)
+  looking-end h k = rw (words-long d 1 n) (scan-end _ n i (l .below) h k)
+
+pub ruleset lookings = (looking-start, looking-hit, looking-next, looking-end)
 
 module _ (d : List ℕ) (j t b : ℕ) (e : b ≡ byteAt d j) where
   letters-over : (left : ℕ) → 0 < left → t ≤ b → fitLetters d j left t ≡ false
@@ -73,84 +75,43 @@ rule-says d h = go (ltb (length d) 2) refl (ltb lineLimit (length d)) refl (eqb 
   go false p false q true r t = absurd (false≢true t)
   go false p false q false r t = (ltb-false _ _ p, ltb-false _ _ q, eqb-false _ _ r)
 
--- a line that keeps the rule is judged by its kind
-pub judge-kind : (s : Reading) (d caps : List ℕ) (k : ℕ) → ruleOf d ≡ true → byteAt d 0 ≡ k → judgeOf s d caps ≡ judgeKind k s d caps
-unfolding judgeOf
-judge-kind s d caps k r e = simp (r, e)
+letters-fit : (d : List ℕ) (j n t : ℕ) → ((k : ℕ) → k < n → byteAt d (j + k) < t) → fitLetters d j n t ≡ true
+unfolding fitLetters
+letters-fit d j zero t h = refl
+letters-fit d j (suc n) t h =
+    let p : j + 0 ≡ j = omega arith in
+    let u : byteAt d j < t = rw p at (h 0 (omega arith)) in
+    simp (lt-leb t (byteAt d j) u) (letters-fit d (j + 1) n t (λ k b. let v : j + suc k ≡ j + 1 + k = omega arith in rw v at (h (suc k) (omega arith))))
 
-pub judge-rest : (s : Reading) (d caps : List ℕ) (k : ℕ) → (k ≡ 1 → ⊥) → (k ≡ 2 → ⊥) → (k ≡ 3 → ⊥) → (k ≡ 4 → ⊥) → (k ≡ 5 → ⊥) → judgeKind k s d caps ≡ 12
-unfolding judgeKind
-judge-rest s d caps k a b g h i = simp (ne-eqb k 1 a, ne-eqb k 2 b, ne-eqb k 3 g, ne-eqb k 4 h, ne-eqb k 5 i)
+fit-letters : (d : List ℕ) (j n t k : ℕ) → fitLetters d j n t ≡ true → k < n → byteAt d (j + k) < t
+unfolding fitLetters
+fit-letters d j zero t k e h = absurd (not-suc-le-zero h)
+fit-letters d j (suc n) t k e h = go k h (leb t (byteAt d j)) refl e (λ k u b. fit-letters d (j + 1) n t k u b)
+  where
+    go : (k : ℕ) → k < suc n → (a : Bool) → leb t (byteAt d j) ≡ a → cond a false (fitLetters d (j + 1) n t) ≡ true
+        → ((k : ℕ) → fitLetters d (j + 1) n t ≡ true → k < n → byteAt d (j + 1 + k) < t) → byteAt d (j + k) < t
+    go k h true p u r = absurd (false≢true u)
+    go zero h false p u r = let v : j + 0 ≡ j = omega arith in rw v (leb-false _ _ p)
+    go (suc k) h false p u r = let v : j + suc k ≡ j + 1 + k = omega arith in rw v (r k u (omega arith))
 
-pub judge-rule : (s : Reading) (d caps : List ℕ) → ruleOf d ≡ false → judgeOf s d caps ≡ 11
-unfolding judgeOf
-judge-rule s d caps r = simp r
+-- the pass over a line's letters is net's test: it fails exactly where a letter names no transition
+pub letters-pass : (d : List ℕ) (t : ℕ) (r : Bool) → r ≡ fitLetters d 1 (lettersIn d) t → not r ≡ ltb (badLetter t (wordPart d)) (length (wordPart d))
+letters-pass d t r e = rw e (go (fitLetters d 1 (lettersIn d) t) refl)
+  where
+    f : ℕ → Bool
+    f k = leb t (getD (wordPart d) k 0)
 
--- the frame 01, by the tests of its counts
-module _ (s : Reading) (d : List ℕ) where
-  pub counts-late : (s .phase ≡ 1 → ⊥) → 12 ≡ countsOf s d
-  unfolding countsOf
-  counts-late h = simp (ne-eqb _ _ h)
+    n : length (wordPart d) ≡ lettersIn d
+    n = bytes-long d 1 (lettersIn d)
 
-  pub counts-long : s .phase ≡ 1 → (length d ≡ 6 → ⊥) → 12 ≡ countsOf s d
-  unfolding countsOf
-  counts-long h l = simp (eq-eqb _ _ h, ne-eqb _ _ l)
-
-  module _ (q p : ℕ) (e : p ≡ q) (f : q ≡ byteAt d 1) (h : s .phase ≡ 1) (l : length d ≡ 6) where
-    pub counts-no-place : p < 1 → 1 ≡ countsOf s d
-    unfolding countsOf
-    counts-no-place a = simp (eq-eqb _ _ h, eq-eqb _ _ l, ← f, ← e, lt-ltb _ _ a)
-
-    pub counts-places : 1 ≤ p → countLimit < p → 1 ≡ countsOf s d
-    unfolding countsOf
-    counts-places a b = simp (eq-eqb _ _ h, eq-eqb _ _ l, ← f, ← e, le-ltb _ _ a, lt-ltb _ _ b)
-
-    module _ (r t : ℕ) (i : t ≡ r) (j : r ≡ byteAt d 2) (a : 1 ≤ p) (b : p ≤ countLimit) where
-      pub counts-no-transition : t < 1 → 1 ≡ countsOf s d
-      unfolding countsOf
-      counts-no-transition c = simp (eq-eqb _ _ h, eq-eqb _ _ l, ← f, ← e, ← j, ← i, le-ltb _ _ a, le-ltb _ _ b, lt-ltb _ _ c)
-
-      pub counts-transitions : 1 ≤ t → countLimit < t → 1 ≡ countsOf s d
-      unfolding countsOf
-      counts-transitions c k = simp (eq-eqb _ _ h, eq-eqb _ _ l, ← f, ← e, ← j, ← i, le-ltb _ _ a, le-ltb _ _ b, le-ltb _ _ c, lt-ltb _ _ k)
-
-      pub counts-fine : 1 ≤ t → t ≤ countLimit → 0 ≡ countsOf s d
-      unfolding countsOf
-      counts-fine c k = simp (eq-eqb _ _ h, eq-eqb _ _ l, ← f, ← e, ← j, ← i, le-ltb _ _ a, le-ltb _ _ b, le-ltb _ _ c, le-ltb _ _ k)
-
-pub ruleset counted = (counts-late, counts-long, counts-no-place, counts-places, counts-no-transition, counts-transitions, counts-fine)
-
--- the frame 05, by the tests of its order and length
-module _ (s : Reading) (d : List ℕ) where
-  pub letters-early : (s .phase ≡ 5 → ⊥) → 12 ≡ lettersOf s d
-  unfolding lettersOf
-  letters-early h = simp (ne-eqb _ _ h)
-
-  pub letters-ended : s .phase ≡ 5 → (s .letters % block ≡ 0 → ⊥) → 12 ≡ lettersOf s d
-  unfolding lettersOf
-  letters-ended h l = simp (eq-eqb _ _ h, ne-eqb _ _ l)
-
-  module _ (h : s .phase ≡ 5) (l : s .letters % block ≡ 0) where
-    pub letters-missing : length d < 4 → 12 ≡ lettersOf s d
-    unfolding lettersOf
-    letters-missing a = simp (eq-eqb _ _ h, eq-eqb _ _ l, lt-ltb _ _ a)
-
-    pub letters-long : 4 ≤ length d → 2 + 2 * block < length d → 12 ≡ lettersOf s d
-    unfolding lettersOf
-    letters-long a b = simp (eq-eqb _ _ h, eq-eqb _ _ l, le-ltb _ _ a, lt-ltb _ _ b)
-
-    module _ (a : 4 ≤ length d) (b : length d ≤ 2 + 2 * block) where
-      pub letters-many : wordLimit < s .letters + lettersIn d → 4 ≡ lettersOf s d
-      unfolding lettersOf
-      letters-many c = simp (eq-eqb _ _ h, eq-eqb _ _ l, le-ltb _ _ a, le-ltb _ _ b, lt-ltb _ _ c)
-
-      module _ (c : s .letters + lettersIn d ≤ wordLimit) (f : Bool) (g : f ≡ fitLetters d 1 (lettersIn d) (s .transitions)) where
-        pub letters-fine : f ≡ true → 0 ≡ lettersOf s d
-        unfolding lettersOf
-        letters-fine e = simp (eq-eqb _ _ h, eq-eqb _ _ l, le-ltb _ _ a, le-ltb _ _ b, le-ltb _ _ c, ← g, e)
-
-        pub letters-wrong : f ≡ false → 5 ≡ lettersOf s d
-        unfolding lettersOf
-        letters-wrong e = simp (eq-eqb _ _ h, eq-eqb _ _ l, le-ltb _ _ a, le-ltb _ _ b, le-ltb _ _ c, ← g, e)
-
-pub ruleset lettered = (letters-early, letters-ended, letters-missing, letters-long, letters-many, letters-fine, letters-wrong)
+    go : (b : Bool) → fitLetters d 1 (lettersIn d) t ≡ b → not b ≡ ltb (badLetter t (wordPart d)) (length (wordPart d))
+    go true q =
+        let w = first-none f (length (wordPart d)) (λ k h. lt-leb t (getD (wordPart d) k 0) (rw (bytes-at d 1 (lettersIn d) k (omega (arith, n))) (fit-letters d 1 (lettersIn d) t k q (omega (arith, n))))) in
+        sym (le-ltb (badLetter t (wordPart d)) (length (wordPart d)) (omega (arith, w)))
+    go false q = bad (ltb (badLetter t (wordPart d)) (length (wordPart d))) refl
+      where
+        bad : (c : Bool) → ltb (badLetter t (wordPart d)) (length (wordPart d)) ≡ c → true ≡ ltb (badLetter t (wordPart d)) (length (wordPart d))
+        bad true p = sym p
+        bad false p =
+            let l = ltb-false (badLetter t (wordPart d)) (length (wordPart d)) p in
+            absurd (false≢true (sym q ∙ letters-fit d 1 (lettersIn d) t (λ k h. rw (bytes-at d 1 (lettersIn d) k h) at (leb-false t (getD (wordPart d) k 0) (first-below f (length (wordPart d)) k (omega (arith, n, l)))))))

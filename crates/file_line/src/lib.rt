@@ -2,19 +2,21 @@
 use file_digits::BLOCK;
 use file_digits::LINE_LIMIT;
 use ground::COUNT_LIMIT;
-use ground::TOKEN_LIMIT;
 use ground::WORD_LIMIT;
 use ground::Weight;
+use net::Fault;
 ghost use mathlib.Core.Path.{_≡_};
-ghost use mathlib.Core.Bool.{true, cond, _&&_};
-ghost use lib.Dec.{eqb, ltb};
-ghost use Prim.Native.Nat.{_+_, _*_, _<_, _≤_};
+ghost use mathlib.Core.Bool.{true, cond, _&&_, _||_};
+ghost use mathlib.Core.List.{[]};
+ghost use lib.Dec.{eqb, leb, ltb};
+ghost use Prim.Native.Nat.{_+_, _*_, _%_, _<_, _≤_};
 ghost use lib.ListN.{length};
 ghost use lib.Seq.{sets};
 ghost use Rattle.ground.specs.Limits.{countLimit, wordLimit};
-ghost use Rattle.file_digits.specs.Frame.{bytesFrom};
-ghost use Rattle.file_line.specs.Read.{cellLimit, Good, ruleOf, countsOf, capsOf, tokensOf, rowOf, lettersOf, fitTokens, fitLetters, judgeOf};
-ghost use Rattle.file_line.specs.Read.{rooms, stored, advanced, lineOf, roomsOf, Accepted, Large, GoodTook, fresh};
+ghost use Rattle.net.specs.Given.{refuse, orElse, outside, badToken, badLetter};
+ghost use Rattle.file_digits.specs.Frame.{block, byteAt, bytesFrom, wordsFrom};
+ghost use Rattle.file_line.specs.Read.{cellLimit, rooms, fresh, phaseAfter, tokensIn, lettersIn, wordPart, ruleOf, formedOf, judgeOf, stored, advanced, lineOf, roomsOf};
+ghost use Rattle.file_line.specs.Walk.{Good, Large, fitLetters, Accepted, GoodTook};
 
 // The most entries of Pre, and of Post.
 pub const CELL_LIMIT: usize = COUNT_LIMIT * COUNT_LIMIT;
@@ -71,108 +73,99 @@ fn rule(d: &[u8]) -> bool
     file_digits::all_digits(d)
 }
 
-// 01 P T: its refusal, or 0.
-fn counts(s: Reading, d: &[u8]) -> u8
-    requires { ⌜ ruleOf (now d) ≡ true ⌝ }
-    ensures { λ r. ⌜ r ≡ countsOf s (now (d .entry)) ⌝ }
-{
-    if s.phase != 1 {
-        return 12;
-    }
-    if d.len() != 6 {
-        return 12;
-    }
-    let p = wide(file_digits::byte_at(d, 1));
-    let t = wide(file_digits::byte_at(d, 2));
-    if p < 1 {
-        return 1;
-    }
-    if COUNT_LIMIT < p {
-        return 1;
-    }
-    if t < 1 {
-        return 1;
-    }
-    if COUNT_LIMIT < t {
-        return 1;
-    }
-    0
-}
-
-// 02 with P capacities.
-fn caps_line(s: Reading, d: &[u8]) -> u8
-    requires { ⌜ s .places ≤ countLimit ⌝ }
-    ensures { λ r. ⌜ r ≡ capsOf s (now (d .entry)) ⌝ }
-{
-    if s.phase != 2 {
-        return 12;
-    }
-    if d.len() != 2 + 4 * s.places {
-        return 12;
-    }
-    0
-}
-
-// Whether no token count is 65,535 or above its capacity.
-fn fit_tokens(d: &[u8], caps: &[u16], places: usize) -> bool
-    requires { ⌜ (2 + 4 * places ≤ length (now d)) × (places ≤ length (now caps)) ⌝ }
-    ensures { λ r. ⌜ r ≡ fitTokens (now (d .entry)) (now (caps .entry)) 0 1 places ⌝ }
-{
-    let mut j: usize = 1;
-    let mut i: usize = 0;
-    let mut left = places;
-    while 0 < left {
-        let m = file_digits::word_at(d, j);
-        if TOKEN_LIMIT < m {
-            return false;
-        }
-        if caps[i] < m {
-            return false;
-        }
-        i = i + 1;
-        j = j + 2;
-        left = left - 1;
-    }
-    true
-}
-
-// 03 with P tokens.
-fn tokens_line(s: Reading, d: &[u8], caps: &[u16]) -> u8
-    requires { ⌜ (s .places ≤ countLimit) × (countLimit ≤ length (now caps)) ⌝ }
-    ensures { λ r. ⌜ r ≡ tokensOf s (now (d .entry)) (now (caps .entry)) ⌝ }
-{
-    if s.phase != 3 {
-        return 12;
-    }
-    if d.len() != 2 + 4 * s.places {
-        return 12;
-    }
-    let p = s.places;
-    if fit_tokens(d, caps, p) { 0 } else { 3 }
-}
-
-// 04 t, P Pre bytes, P Post bytes.
-fn row_line(s: Reading, d: &[u8]) -> u8
-    requires { ⌜ s .places ≤ countLimit ⌝ }
-    ensures { λ r. ⌜ r ≡ rowOf s (now (d .entry)) ⌝ }
-{
-    if s.phase != 4 {
-        return 12;
-    }
-    if d.len() != 4 + 4 * s.places {
-        return 12;
-    }
-    if wide(file_digits::byte_at(d, 1)) != s.next {
-        return 12;
-    }
-    0
-}
-
 // A byte as a count.
 fn wide(b: u8) -> usize
     ensures { λ r. ⌜ r ≡ b ⌝ }
 {
     b as usize
+}
+
+// A frame 04 has its length, and the index of the next transition.
+fn is_row(s: Reading, d: &[u8]) -> bool
+    requires { ⌜ s .places ≤ countLimit ⌝ }
+    ensures { λ r. ⌜ r ≡ (eqb (length (now (d .entry))) (4 + 4 * s .places) && eqb (byteAt (now (d .entry)) 1) (s .next)) ⌝ }
+{
+    if d.len() != 4 + 4 * s.places {
+        return false;
+    }
+    wide(file_digits::byte_at(d, 1)) == s.next
+}
+
+// A frame 05 comes after full ones only, and has 1 to 64 letters.
+fn is_block(letters: usize, len: usize) -> bool
+    ensures { λ r. ⌜ r ≡ (eqb (letters % block) 0 && (leb 4 len && leb len (2 + 2 * block))) ⌝ }
+{
+    if letters % BLOCK != 0 {
+        return false;
+    }
+    if len < 4 {
+        return false;
+    }
+    len <= 2 + 2 * BLOCK
+}
+
+// Whether a line is a frame of the kind that must come next, of its length and with its index.
+fn is_formed(s: Reading, d: &[u8]) -> bool
+    requires { ⌜ (Good s) × (2 ≤ length (now d)) ⌝ }
+    ensures { λ r. ⌜ r ≡ formedOf s (now (d .entry)) ⌝ }
+{
+    let kind = file_digits::byte_at(d, 0);
+    if kind != s.phase {
+        return false;
+    }
+    let len = d.len();
+    match kind {
+        1 => len == 6,
+        2 => len == 2 + 4 * s.places,
+        3 => len == 2 + 4 * s.places,
+        4 => is_row(s, d),
+        5 => is_block(s.letters, len),
+        _ => false,
+    }
+}
+
+// The counts of a frame 01 are in range.
+fn counts_fault(d: &[u8], here: usize) -> Fault
+    requires { ⌜ length (now d) ≡ 6 ⌝ }
+    ensures { λ r. ⌜ r ≡ refuse (outside (byteAt (now (d .entry)) 1) || outside (byteAt (now (d .entry)) 2)) 1 here ⌝ }
+{
+    let p = wide(file_digits::byte_at(d, 1));
+    let t = wide(file_digits::byte_at(d, 2));
+    if net::is_outside(p) {
+        return Fault::Faulty(1, here);
+    }
+    if net::is_outside(t) {
+        return Fault::Faulty(1, here);
+    }
+    Fault::Sound
+}
+
+// The lowest place to which a frame 03 gives more tokens than allowed, or the number of places.
+fn bad_token(d: &[u8], caps: &[u16], places: usize) -> usize
+    requires { ⌜ (2 + 4 * places ≤ length (now d)) × (places ≤ length (now caps)) ⌝ }
+    ensures { λ r. ⌜ r ≡ badToken (now (caps .entry)) (wordsFrom (now (d .entry)) 1 places) ⌝ }
+{
+    let mut p: usize = 0;
+    while p < places {
+        let m = file_digits::word_at(d, 1 + 2 * p);
+        if net::is_bad_token(caps[p], m) {
+            return p;
+        }
+        p = p + 1;
+    }
+    p
+}
+
+// The tokens of a frame 03 are allowed.
+fn tokens_fault(s: Reading, d: &[u8], caps: &[u16], here: usize) -> Fault
+    requires { ⌜ (s .places ≤ countLimit) × (length (now d) ≡ 2 + 4 * s .places) × (countLimit ≤ length (now caps)) ⌝ }
+    ensures { λ r. ⌜ r ≡ refuse (ltb (badToken (now (caps .entry)) (tokensIn s (now (d .entry)))) (length (tokensIn s (now (d .entry))))) 3 here ⌝ }
+{
+    let p = s.places;
+    if bad_token(d, caps, p) < p {
+        return Fault::Faulty(3, here);
+    }
+    Fault::Sound
 }
 
 // One letter more: whether those before it name transitions, and it does too.
@@ -202,48 +195,42 @@ fn fit_letters(d: &[u8], count: usize, transitions: usize) -> bool
     fine
 }
 
-// 05 with 1 to 64 letters.
-fn letters_line(s: Reading, d: &[u8]) -> u8
-    requires { ⌜ (s .letters ≤ wordLimit) × (ruleOf (now d) ≡ true) ⌝ }
-    ensures { λ r. ⌜ r ≡ lettersOf s (now (d .entry)) ⌝ }
+// The word with the letters of a frame 05 is not too long, and each letter names a transition.
+fn letters_fault(s: Reading, d: &[u8], here: usize) -> Fault
+    requires { ⌜ (s .letters ≤ wordLimit) × (2 ≤ length (now d)) ⌝ }
+    ensures { λ r. ⌜ r ≡ orElse (refuse (ltb wordLimit (s .letters + lettersIn (now (d .entry)))) 4 here)
+        (refuse (ltb (badLetter (s .transitions) (wordPart (now (d .entry)))) (length (wordPart (now (d .entry))))) 5 here) ⌝ }
 {
-    if s.phase != 5 {
-        return 12;
-    }
-    if s.letters % BLOCK != 0 {
-        return 12;
-    }
-    let len = d.len();
-    if len < 4 {
-        return 12;
-    }
-    if 2 + 2 * BLOCK < len {
-        return 12;
-    }
-    let n = len / 2 - 1;
+    let n = d.len() / 2 - 1;
     if WORD_LIMIT < s.letters + n {
-        return 4;
+        return Fault::Faulty(4, here);
     }
     let t = s.transitions;
-    if fit_letters(d, n, t) { 0 } else { 5 }
+    if fit_letters(d, n, t) {
+        Fault::Sound
+    } else {
+        Fault::Faulty(5, here)
+    }
 }
 
-// The refusal of a line, or 0.
-fn judge(s: Reading, d: &[u8], caps: &[u16]) -> u8
+// The refusal of a line, or none. Of the rooms read so far only the capacities are looked at.
+fn judge(s: Reading, d: &[u8], caps: &[u16]) -> Fault
     requires { ⌜ (Good s) × (countLimit ≤ length (now caps)) ⌝ }
-    ensures { λ r. ⌜ r ≡ judgeOf s (now (d .entry)) (now (caps .entry)) ⌝ }
+    ensures { λ r. ⌜ r ≡ judgeOf s (now (d .entry)) (rooms (now (caps .entry)) [] [] [] []) ⌝ }
 {
+    let here = s.line + 1;
     if !rule(d) {
-        return 11;
+        return Fault::Faulty(11, here);
+    }
+    if !is_formed(s, d) {
+        return Fault::Faulty(12, here);
     }
     let kind = file_digits::byte_at(d, 0);
     match kind {
-        1 => counts(s, d),
-        2 => caps_line(s, d),
-        3 => tokens_line(s, d, caps),
-        4 => row_line(s, d),
-        5 => letters_line(s, d),
-        _ => 12,
+        1 => counts_fault(d, here),
+        3 => tokens_fault(s, d, caps, here),
+        5 => letters_fault(s, d, here),
+        _ => Fault::Sound,
     }
 }
 
@@ -289,10 +276,22 @@ fn store(
 }
 
 // After the last row come letters.
-fn phase_after(next: usize, transitions: usize) -> u8
+fn last_row(next: usize, transitions: usize) -> u8
     ensures { λ r. ⌜ r ≡ cond (eqb next transitions) 5 4 ⌝ }
 {
     if next == transitions { 5 } else { 4 }
+}
+
+// The kind that must come after a line of this kind.
+fn phase_after(kind: u8, s: Reading) -> u8
+    requires { ⌜ (kind ≤ 5) × (s .next ≤ countLimit) ⌝ }
+    ensures { λ r. ⌜ r ≡ phaseAfter kind s ⌝ }
+{
+    match kind {
+        4 => last_row(s.next + 1, s.transitions),
+        5 => 5,
+        _ => kind + 1,
+    }
 }
 
 // The state after an accepted line.
@@ -302,29 +301,26 @@ fn advance(s: Reading, d: &[u8]) -> Reading
     ensures good { λ r. ⌜ Good r ⌝ }
 {
     let kind = file_digits::byte_at(d, 0);
+    let phase = phase_after(kind, s);
     match kind {
         1 => Reading {
-            phase: 2,
+            phase: phase,
             places: wide(file_digits::byte_at(d, 1)),
             transitions: wide(file_digits::byte_at(d, 2)),
             next: 0,
             letters: 0,
             line: s.line + 1,
         },
-        4 => {
-            let next = s.next + 1;
-            let phase = phase_after(next, s.transitions);
-            Reading {
-                phase: phase,
-                places: s.places,
-                transitions: s.transitions,
-                next: next,
-                letters: 0,
-                line: s.line + 1,
-            }
-        }
+        4 => Reading {
+            phase: phase,
+            places: s.places,
+            transitions: s.transitions,
+            next: s.next + 1,
+            letters: 0,
+            line: s.line + 1,
+        },
         5 => Reading {
-            phase: 5,
+            phase: phase,
             places: s.places,
             transitions: s.transitions,
             next: s.next,
@@ -332,7 +328,7 @@ fn advance(s: Reading, d: &[u8]) -> Reading
             line: s.line + 1,
         },
         _ => Reading {
-            phase: kind + 1,
+            phase: phase,
             places: s.places,
             transitions: s.transitions,
             next: 0,
@@ -353,19 +349,20 @@ pub fn read_line(
     word: &mut [u8],
 ) -> Took
     requires { ⌜ (Good s) × (Large (rooms (now caps) (now initial) (now pre) (now post) (now word))) ⌝ }
-    ensures value { λ r. ⌜ r ≡ lineOf s (now (d .entry)) (now (caps .entry)) ⌝ }
+    ensures value { λ r. ⌜ r ≡ lineOf s (now (d .entry)) (rooms (now (caps .entry)) (now (initial .entry)) (now (pre .entry)) (now (post .entry)) (now (word .entry))) ⌝ }
     ensures lent { λ _. ⌜ rooms (now (caps .exit)) (now (initial .exit)) (now (pre .exit)) (now (post .exit)) (now (word .exit))
         ≡ roomsOf s (now (d .entry)) (rooms (now (caps .entry)) (now (initial .entry)) (now (pre .entry)) (now (post .entry)) (now (word .entry))) ⌝ }
     ensures good { λ r. ⌜ GoodTook r ⌝ }
 {
-    let n = judge(s, d, caps);
-    if n != 0 {
-        let here = s.line + 1;
-        return Took::Refused {
-            number: n,
-            line: here,
-        };
+    let fault = judge(s, d, caps);
+    match fault {
+        Fault::Faulty(number, line) => Took::Refused {
+            number: number,
+            line: line,
+        },
+        Fault::Sound => {
+            store(s, d, caps, initial, pre, post, word);
+            Took::Next(advance(s, d))
+        }
     }
-    store(s, d, caps, initial, pre, post, word);
-    Took::Next(advance(s, d))
 }

@@ -1,25 +1,25 @@
--- Laws of the buffer for a cut-off line. Assumes nothing.
+-- Laws of the line buffer, and of a part read line by line through it. Assumes nothing.
 use mathlib.Core.Path.{_≡_, refl, sym, _∙_, ap}
 use mathlib.Core.List.{List, [], _∷_, _++_, append-nil}
 use Prim.Native.Nat.{ℕ, zero, suc, _+_, _-_, _≤_, _<_}
 use native.Mathlib.Omega.{arith}
 use native.Mathlib.Numerals.{add-one}
 use native.Mathlib.Nat.{not-suc-le-zero}
-use lib.ListN.{length-drop, length, take, drop, getD, set, length-set, length-append}
-use lib.Seq.{take-all, drop-cons, sets, sets-eq, take-at, length-sets, length-take-le}
+use lib.ListN.{length, take, drop, getD, set, length-set, length-append}
+use lib.Seq.{drop-cons, sets, sets-eq, take-at, length-sets, length-take-le}
 use borrow.Author.Tests.{eq-eqb, ne-eqb, le-leb, lt-leb}
 use Rattle.file_digits.specs.Frame.{lineLimit, lineFeed}
 use Rattle.file_line.specs.declared.Reading.{Reading}
 use Rattle.file_line.specs.declared.Took.{Took}
 use Rattle.file_line.specs.declared.Took.the-variants as took
-use Rattle.file_line.specs.Read.{GoodTook, Good, Rooms, lineOf, roomsOf}
+use Rattle.file_line.specs.Read.{Rooms, lineOf, roomsOf}
+use Rattle.file_line.specs.Walk.{GoodTook, Good}
 use Rattle.file_parts.specs.declared.Held.{Held}
 use Rattle.file_parts.specs.declared.Case.{Case}
 use Rattle.file_parts.specs.declared.Case.the-variants.{Refused}
-use Rattle.file_parts.specs.declared.Lines.{Lines}
-use Rattle.file_parts.specs.declared.Lines.the-variants.{Rest, Broken}
-use Rattle.file_parts.specs.File.{Run, going, stopped, Both, both, ended, fedTo, feedOf, feedAll, finishOf, caseOf, abs, Sound, lineLen, NoFeed, holdOf, Went, GoodLines, heldRest}
-use Rattle.file_parts.proofs.Line.{stays, holds, len-most, len-take, len-split}
+use Rattle.file_parts.specs.File.{Run, going, stopped, Both, both, ended, fedTo, feedOf, feedAll, finishOf, caseOf, lineLen, NoFeed}
+use Rattle.file_parts.specs.Held.{abs, Sound, holdOf}
+use Rattle.file_parts.proofs.Line.{stays, holds, bounds, part, clear, split, cut, Same}
 
 -- a piece of a line is stored up to entry i
 pub record Filling (line₀ : List ℕ) (at : ℕ) (piece : List ℕ) (i : ℕ) (line : List ℕ) : Type 0 where
@@ -86,55 +86,25 @@ module _ (h : Held) (piece : List ℕ) (s : Sound h) where
     hold-sound = rw (e, length-sets) (s .line)
 
 -- the held line, read at its line feed
-pub ended-line : (h : Held) (x y : Rooms) (k : Took) (a : Run) → h .refusal ≡ 0 → k ≡ lineOf (h .reading) (take (h .len) (h .line)) (x .caps)
+pub ended-line : (h : Held) (x y : Rooms) (k : Took) (a : Run) → h .refusal ≡ 0 → k ≡ lineOf (h .reading) (take (h .len) (h .line)) x
     → y ≡ roomsOf (h .reading) (take (h .len) (h .line)) x → a ≡ ended k → both a y ≡ feedOf (both (abs h) x) lineFeed
 unfolding fedTo
 ended-line h x y k a r e f g = rw (g, e, f) (simp (eq-eqb _ _ r))
 
--- what the line came to is good
-module _ (k : Took) where
-  pub after-good : (t : Reading) → k ≡ took.Next t → GoodTook k → Good t
-  after-good t e g = rw e at g
+-- the state after a line, by what the line came to
+module _ (k : Took) (g : GoodTook k) where
+  pub next-good : (t : Reading) → k ≡ took.Next t → Good t
+  next-good t e = rw e at g
 
-  pub after-some : (n l : ℕ) → k ≡ took.Refused n l → GoodTook k → 1 ≤ n
-  after-some n l e g = rw e at g
+  pub refused-some : (n l : ℕ) → k ≡ took.Refused n l → 1 ≤ n
+  refused-some n l e = rw e at g
 
--- what a part comes to
-module _ (f : List ℕ) (z : Both) (at : ℕ) (r : Lines) (y : Rooms) (w : Went f z at r y) where
-  pub went-rest : (t : Reading) (e : ℕ) → r ≡ Rest t e → (Good t) × (e ≤ length f) × (NoFeed (drop e f)) × (feedAll z (drop at f) ≡ feedAll (both (going t []) y) (drop e f))
-  went-rest t e q = rw q at w
+module _ (k : Took) (a : Run) where
+  pub next-ended : (t : Reading) → k ≡ took.Next t → a ≡ going t [] → a ≡ ended k
+  next-ended t e q = q ∙ rw e
 
-  pub went-broken : (n l : ℕ) → r ≡ Broken n l → (1 ≤ n) × (feedAll z (drop at f) ≡ both (stopped n l) y)
-  went-broken n l q = rw q at w
-
--- what the whole lines come to may be held, and is what the part comes to
-pub went-good : (f : List ℕ) (z : Both) (at : ℕ) (r : Lines) (y : Rooms) → Went f z at r y → GoodLines f r
-went-good f z at (Rest t e) y w = (w .0, w .1)
-went-good f z at (Broken n l) y w = w .0
-
-pub went-held : (f : List ℕ) (z : Both) (at : ℕ) (r : Lines) (y : Rooms) (a : Run) → Went f z at r y → a ≡ heldRest f r → both a y ≡ feedAll z (drop at f)
-unfolding feedAll
-went-held f z at (Rest t e) y a w k =
-    let o = holds t y (drop e f) [] [] (omega arith) (w .2) in
-    ap (λ (b : Run). both b y) k ∙ sym (w .3 ∙ ap (feedAll (both (going t []) y)) (sym (append-nil (drop e f))) ∙ o)
-went-held f z at (Broken n l) y a w k = ap (λ (b : Run). both b y) k ∙ sym (w .1)
-
--- the rest of a part, by the whole lines' answer
-module _ (f : List ℕ) (r : Lines) where
-  pub good-rest : GoodLines f r → (t : Reading) (e : ℕ) → r ≡ Rest t e → (Good t) × (e ≤ length f)
-  good-rest g t e q = rw q at g
-
-  pub good-broken : GoodLines f r → (n l : ℕ) → r ≡ Broken n l → 1 ≤ n
-  good-broken g n l q = rw q at g
-
-  pub rest-held : (t : Reading) (e : ℕ) (h : Held) (a : Run) → r ≡ Rest t e → h .reading ≡ t → h .len ≡ 0 → a ≡ holdOf (h .reading) (take (h .len) (h .line)) (take (length f - e) (drop e f)) → a ≡ heldRest f r
-  rest-held t e h a q i j k =
-      let b : take (length f - e) (drop e f) ≡ drop e f = take-all (length f - e) (drop e f) (omega (arith, length-drop e f)) in
-      let m : a ≡ holdOf t [] (drop e f) = rw (i, j, b) at k in
-      m ∙ rw q
-
-  pub rest-broken : (n l : ℕ) (a : Run) → r ≡ Broken n l → a ≡ stopped n l → a ≡ heldRest f r
-  rest-broken n l a q k = k ∙ rw q
+  pub refused-ended : (n l : ℕ) → k ≡ took.Refused n l → a ≡ stopped n l → a ≡ ended k
+  refused-ended n l e q = q ∙ rw e
 
 -- what holds of a refused state, and of one that goes on
 pub abs-stopped : (h : Held) → (h .refusal ≡ 0 → ⊥) → abs h ≡ stopped (h .refusal) (h .at)
@@ -146,51 +116,68 @@ abs-going h e = simp (eq-eqb _ _ e)
 pub part-stopped : (h : Held) (f : List ℕ) (x : Rooms) → (h .refusal ≡ 0 → ⊥) → both (abs h) x ≡ feedAll (both (abs h) x) f
 part-stopped h f x n = rw (abs-stopped h n) (sym (stays (h .refusal) (h .at) x f))
 
-pub piece-inside : (f : List ℕ) (e : ℕ) → e ≡ 0 + lineLen f → e ≤ length f
-piece-inside f e h = omega (arith, len-most f)
+-- past the end of a list nothing is left
+drop-all : (n : ℕ) (f : List ℕ) → length f ≤ n → drop n f ≡ []
+drop-all zero [] h = refl
+drop-all (suc n) [] h = refl
+drop-all zero (x ∷ f) h = absurd (not-suc-le-zero h)
+drop-all (suc n) (x ∷ f) h = drop-all n f (omega arith)
 
-module _ (h : Held) (f : List ℕ) (x : Rooms) (s : Sound h) (z : h .refusal ≡ 0) (e : ℕ) (i : e ≡ 0 + lineLen f) (r : Held) (j : abs r ≡ holdOf (h .reading) (take (h .len) (h .line)) (take e f)) where
-  at-feed : e ≡ lineLen f
-  at-feed = omega arith
-
-  begun : (rest : List ℕ) → f ≡ take e f ++ rest → feedAll (both (abs h) x) f ≡ feedAll (both (abs r) x) rest
+-- a line of the part f from `at` to e, held in r
+module _ (h : Held) (f : List ℕ) (x : Rooms) (s : Sound h) (z : h .refusal ≡ 0) (at e : ℕ) (l : at ≤ length f) (i : e ≡ at + lineLen (drop at f))
+    (r : Held) (j : abs r ≡ holdOf (h .reading) (take (h .len) (h .line)) (part f at e)) where
+  begun : (rest : List ℕ) → drop at f ≡ part f at e ++ rest → feedAll (both (abs r) x) rest ≡ feedAll (both (abs h) x) (drop at f)
   begun rest k =
-      let c : NoFeed (take e f) = rw at-feed (len-take f) in
-      ap (feedAll (both (abs h) x)) k
-      ∙ ap (λ (b : Run). feedAll (both b x) (take e f ++ rest)) (abs-going h z)
-      ∙ holds (h .reading) x (take e f) (take (h .len) (h .line)) rest (omega (arith, held-long h (take e f) s, s .len)) c
-      ∙ ap (λ (b : Run). feedAll (both b x) rest) (sym j)
+      let c : NoFeed (part f at e) = clear f at e i l in
+      sym
+      (ap (feedAll (both (abs h) x)) k
+      ∙ ap (λ (b : Run). feedAll (both b x) (part f at e ++ rest)) (abs-going h z)
+      ∙ holds (h .reading) x (part f at e) (take (h .len) (h .line)) rest (omega (arith, held-long h (part f at e) s, s .len)) c
+      ∙ ap (λ (b : Run). feedAll (both b x) rest) (sym j))
 
-  pub part-cut : e ≡ length f → both (abs r) x ≡ feedAll (both (abs h) x) f
+  -- the part ends there
+  pub line-cut : e ≡ length f → feedAll (both (abs r) x) (drop (e + 1) f) ≡ feedAll (both (abs h) x) (drop at f)
+  line-cut k =
+      let n : drop (e + 1) f ≡ [] = drop-all (e + 1) f (omega arith) in
+      ap (feedAll (both (abs r) x)) n ∙ begun [] (cut f at e i l k ∙ sym (append-nil (part f at e)))
+
+  module _ (k : e ≡ length f → ⊥) where
+    rest-is : drop at f ≡ part f at e ++ lineFeed ∷ drop (e + 1) f
+    rest-is = split f at e i l (omega (arith, bounds f at e i l .1))
+
+    -- it is too long
+    pub line-long : (r .refusal ≡ 0 → ⊥) → feedAll (both (abs r) x) (drop (e + 1) f) ≡ feedAll (both (abs h) x) (drop at f)
+    line-long n = sym (part-stopped r (drop (e + 1) f) x n) ∙ part-stopped r (lineFeed ∷ drop (e + 1) f) x n ∙ begun (lineFeed ∷ drop (e + 1) f) rest-is
+
+    -- it is whole
+    pub line-whole : (w : Both) → w ≡ feedOf (both (abs r) x) lineFeed → feedAll w (drop (e + 1) f) ≡ feedAll (both (abs h) x) (drop at f)
+    unfolding feedAll
+    line-whole w q = ap (λ (b : Both). feedAll b (drop (e + 1) f)) q ∙ begun (lineFeed ∷ drop (e + 1) f) rest-is
+
+-- the lines of f up to `at` are read into r and x: what is left comes to what the whole does from h and x₀
+pub record Reads (f : List ℕ) (h : Held) (x₀ : Rooms) (at : ℕ) (r : Held) (x : Rooms) : Type 0 where
+  pub sound : Sound r
+  pub same : Same x x₀
+  pub comes : feedAll (both (abs r) x) (drop at f) ≡ feedAll (both (abs h) x₀) f
+
+pub reads-start : (f : List ℕ) (h : Held) (x : Rooms) → Sound h → Reads f h x 0 h x
+reads-start f h x s = record { sound = s; same = record { caps = refl; initial = refl; pre = refl; post = refl; word = refl }; comes = refl }
+
+module _ (f : List ℕ) (h : Held) (x₀ : Rooms) (at : ℕ) (r : Held) (x : Rooms) (m : Reads f h x₀ at r x) where
+  pub reads-next : (e : ℕ) (u : Held) (y : Rooms) → feedAll (both (abs u) y) (drop (e + 1) f) ≡ feedAll (both (abs r) x) (drop at f) → Sound u → Same y x → Reads f h x₀ (e + 1) u y
+  reads-next e u y q s d =
+      record {
+        sound = s;
+        same = record { caps = d .caps ∙ m .same .caps; initial = d .initial ∙ m .same .initial; pre = d .pre ∙ m .same .pre; post = d .post ∙ m .same .post; word = d .word ∙ m .same .word };
+        comes = q ∙ m .comes;
+      }
+
+  pub reads-end : length f ≤ at → both (abs r) x ≡ feedAll (both (abs h) x₀) f
   unfolding feedAll
-  part-cut k = sym (begun [] (sym (append-nil (take e f) ∙ take-all e f (omega arith))))
+  reads-end l = sym (ap (feedAll (both (abs r) x)) (drop-all at f l)) ∙ m .comes
 
-  split : (e ≡ length f → ⊥) → f ≡ take e f ++ lineFeed ∷ drop (e + 1) f
-  split k =
-      let l : lineLen f < length f = omega (arith, len-most f, at-feed) in
-      len-split f l ∙ rw (at-feed, add-one (lineLen f))
-
-  pub part-long : (e ≡ length f → ⊥) → (r .refusal ≡ 0 → ⊥) → both (abs r) x ≡ feedAll (both (abs h) x) f
-  part-long k n = part-stopped r (lineFeed ∷ drop (e + 1) f) x n ∙ sym (begun (lineFeed ∷ drop (e + 1) f) (split k))
-
-  pub part-on : (w : Both) → (e ≡ length f → ⊥) → w ≡ feedAll (both (abs r) x) (lineFeed ∷ drop (e + 1) f) → w ≡ feedAll (both (abs h) x) f
-  part-on w k q = q ∙ sym (begun (lineFeed ∷ drop (e + 1) f) (split k))
-
--- the held line's answer k and the rooms y after it, and the bytes f after the line
-module _ (h : Held) (f : List ℕ) (x y : Rooms) (k : Took) (r : h .refusal ≡ 0) (e : k ≡ lineOf (h .reading) (take (h .len) (h .line)) (x .caps)) (g : y ≡ roomsOf (h .reading) (take (h .len) (h .line)) x) where
-  line-done : feedAll (both (abs h) x) (lineFeed ∷ f) ≡ feedAll (both (ended k) y) f
-  unfolding feedAll
-  line-done = ap (λ (b : Both). feedAll b f) (sym (ended-line h x y k (ended k) r e g refl))
-
-  pub line-refused : (n l : ℕ) (a : Run) → k ≡ took.Refused n l → a ≡ stopped n l → both a y ≡ feedAll (both (abs h) x) (lineFeed ∷ f)
-  line-refused n l a q p =
-      let d : feedAll (both (abs h) x) (lineFeed ∷ f) ≡ feedAll (both (stopped n l) y) f = rw q at line-done in
-      ap (λ (b : Run). both b y) p ∙ sym (d ∙ stays n l y f)
-
-  pub line-next : (t : Reading) (w : Both) → k ≡ took.Next t → w ≡ feedAll (both (going t []) y) f → w ≡ feedAll (both (abs h) x) (lineFeed ∷ f)
-  line-next t w q p =
-      let d : feedAll (both (abs h) x) (lineFeed ∷ f) ≡ feedAll (both (going t []) y) f = rw q at line-done in
-      p ∙ sym d
+  pub reads-stopped : (r .refusal ≡ 0 → ⊥) → both (abs r) x ≡ feedAll (both (abs h) x₀) f
+  reads-stopped n = part-stopped r (drop at f) x n ∙ m .comes
 
 -- the end of a file, by its state
 module _ (h : Held) (s : Sound h) where

@@ -6,18 +6,22 @@ use Prim.Native.Nat.{ℕ, zero, suc, _+_, _-_, _≤_, _<_}
 use native.Mathlib.Omega.{arith}
 use native.Mathlib.Numerals.{add-one}
 use native.Mathlib.Nat.{not-suc-le-zero}
-use lib.Dec.{leb, ltb, eqb, lit<}
+use lib.Dec.{leb, ltb, eqb}
 use lib.ListN.{length, take, drop, getD, length-append, length-drop}
-use lib.Seq.{drop-cons, drop-drop}
+use lib.Seq.{drop-cons, drop-drop, take-all}
 use borrow.Author.Tests.{leb-true, leb-false, eq-eqb, ne-eqb, lt-ltb, le-ltb, eqb-true, eqb-false, ltb-true, ltb-false}
-use Rattle.file_digits.specs.Frame.{lineLimit, lineFeed, byteAt}
+use Rattle.file_digits.specs.Frame.{lineLimit, lineFeed}
 use Rattle.file_line.specs.declared.Reading.{Reading}
 use Rattle.file_line.specs.declared.Took.{Took}
-use Rattle.file_line.specs.Read.{Good, Rooms, rooms, lineOf, roomsOf, judgeOf, judgeKind, ruleOf, advanced, stored, Large, GoodTook}
-use Rattle.file_line.proofs.Turns.{rule-says, judge-rule}
-use Rattle.file_line.proofs.Accept.{cond-then}
+use Rattle.file_line.specs.Read.{Rooms, lineHere, lineOf, roomsOf, judgeOf, advanced, stored}
+use Rattle.file_line.specs.Walk.{Large}
+use Rattle.net.specs.declared.Fault.{Fault}
+use Rattle.net.specs.declared.Fault.the-variants.{Sound, Faulty}
+use Rattle.net.proofs.Chains.{fault-one}
+use Rattle.file_line.proofs.Meaning as meaning
 use Rattle.file_parts.specs.declared.Case.the-variants.{Whole, Refused}
-use Rattle.file_parts.specs.File.{finishOf, going, stopped, Both, both, ended, fedTo, feedOf, feedAll, together, feedParts, lineLen, NoFeed, holdOf}
+use Rattle.file_parts.specs.File.{finishOf, going, stopped, Both, both, ended, fedTo, feedOf, feedAll, together, feedParts, lineLen, NoFeed}
+use Rattle.file_parts.specs.Held.{holdOf}
 use Rattle.file_line.specs.declared.Took.the-variants as took
 
 -- a turn of the search for the line feed
@@ -80,7 +84,7 @@ module _ (s : Reading) (d : List ℕ) (x : Rooms) (b : ℕ) where
   unfolding fedTo
   feed-long k l = simp (ne-eqb _ _ k, le-ltb _ _ l)
 
-pub feed-line : (s : Reading) (d : List ℕ) (x : Rooms) → feedOf (both (going s d) x) lineFeed ≡ both (ended (lineOf s d (x .caps))) (roomsOf s d x)
+pub feed-line : (s : Reading) (d : List ℕ) (x : Rooms) → feedOf (both (going s d) x) lineFeed ≡ both (ended (lineOf s d x)) (roomsOf s d x)
 unfolding fedTo
 feed-line s d x = refl
 
@@ -99,13 +103,11 @@ never-goes n l x y bs t d e =
 
 -- a line fed to its end, by what it is judged
 module _ (s : Reading) (d : List ℕ) (x : Rooms) where
-  pub line-taken : judgeOf s d (x .caps) ≡ 0 → feedOf (both (going s d) x) lineFeed ≡ both (going (advanced s d) []) (stored s d x)
-  unfolding lineOf roomsOf
-  line-taken j = feed-line s d x ∙ simp (eq-eqb (judgeOf s d (x .caps)) 0 j)
+  pub line-taken : judgeOf s d x ≡ Sound → feedOf (both (going s d) x) lineFeed ≡ both (going (advanced s d) []) (stored s d x)
+  line-taken j = let l = meaning.taken-line s d x j in feed-line s d x ∙ rw (l .0, l .1)
 
-  pub line-stopped : (judgeOf s d (x .caps) ≡ 0 → ⊥) → feedOf (both (going s d) x) lineFeed ≡ both (stopped (judgeOf s d (x .caps)) (s .line + 1)) x
-  unfolding lineOf roomsOf
-  line-stopped n = feed-line s d x ∙ simp (ne-eqb (judgeOf s d (x .caps)) 0 n)
+  pub line-stopped : (n at : ℕ) → judgeOf s d x ≡ Faulty n at → feedOf (both (going s d) x) lineFeed ≡ both (stopped n at) x
+  line-stopped n at j = let l = meaning.refused-line s d x n at j in feed-line s d x ∙ rw (l .0, l .1)
 
 -- a file in two parts
 pub all-append : (z : Both) (cs bs : List ℕ) → feedAll z (cs ++ bs) ≡ feedAll (feedAll z cs) bs
@@ -156,47 +158,39 @@ holds s x d l rest h t = go (leb (length l + length d) lineLimit) refl where
   go false e = rw e (long s x d l rest h (leb-false _ _ e) t ∙ sym (stays 11 (s .line + 1) x rest))
 
 -- what a line's answer says
-line-next : (s t : Reading) (d caps : List ℕ) → took.Next t ≡ lineOf s d caps → length d ≤ lineLimit
-unfolding lineOf judgeOf
-line-next s t d caps e = go (eqb (judgeOf s d caps) 0) refl e where
-  go : (a : Bool) → eqb (judgeOf s d caps) 0 ≡ a → took.Next t ≡ cond a (took.Next (advanced s d)) (took.Refused (judgeOf s d caps) (s .line + 1)) → length d ≤ lineLimit
-  go true z f = rule-says d (cond-then (ruleOf d) (judgeKind (byteAt d 0) s d caps) 11 (lit< tt) (eqb-true _ _ z) .0) .1
-  go false z f = let q : _≡_ {A = ℕ} 0 1 = cc in absurd (omega arith)
+line-next : (s t : Reading) (d : List ℕ) (x : Rooms) → took.Next t ≡ lineOf s d x → length d ≤ lineLimit
+line-next s t d x e = go (judgeOf s d x) refl
+  where
+    go : (f : Fault) → judgeOf s d x ≡ f → length d ≤ lineLimit
+    go Sound j = meaning.taken-exactly s d x .0 j .ruled .most
+    go (Faulty n at) j = let l = meaning.refused-line s d x n at j .0 in let q : _≡_ {A = ℕ} 0 1 = cc in absurd (omega arith)
 
-line-refused : (s : Reading) (d : List ℕ) (x : Rooms) (n l : ℕ) → took.Refused n l ≡ lineOf s d (x .caps)
-    → (judgeOf s d (x .caps) ≡ n) × (s .line + 1 ≡ l) × (1 ≤ n) × (roomsOf s d x ≡ x)
-unfolding lineOf roomsOf
-line-refused s d x n l e = go (eqb (judgeOf s d (x .caps)) 0) refl e where
-  go : (a : Bool) → eqb (judgeOf s d (x .caps)) 0 ≡ a
-      → took.Refused n l ≡ cond a (took.Next (advanced s d)) (took.Refused (judgeOf s d (x .caps)) (s .line + 1))
-      → (judgeOf s d (x .caps) ≡ n) × (s .line + 1 ≡ l) × (1 ≤ n) × (roomsOf s d x ≡ x)
-  go true z f = let q : _≡_ {A = ℕ} 0 1 = cc in absurd (omega arith)
-  go false z f =
-      let p : judgeOf s d (x .caps) ≡ n = cc in
-      let q : judgeOf s d (x .caps) ≡ 0 → ⊥ = eqb-false _ _ z in
-      (p, cc, omega arith, simp z)
+line-refused : (s : Reading) (d : List ℕ) (x : Rooms) (n l : ℕ) → took.Refused n l ≡ lineOf s d x → (judgeOf s d x ≡ Faulty n l) × (roomsOf s d x ≡ x)
+line-refused s d x n l e = go (judgeOf s d x) refl
+  where
+    go : (f : Fault) → judgeOf s d x ≡ f → (judgeOf s d x ≡ Faulty n l) × (roomsOf s d x ≡ x)
+    go Sound j = let l = meaning.taken-line s d x j .0 in let q : _≡_ {A = ℕ} 0 1 = cc in absurd (omega arith)
+    go (Faulty k at) j =
+        let i = meaning.refused-line s d x k at j in
+        let z = i .0 in
+        let p : k ≡ n = cc in
+        let q : at ≡ l = cc in
+        (j ∙ rw (p, q), i .1)
 
 -- a whole line, read at once, comes to what its bytes and its line feed come to
 module _ (s : Reading) (x : Rooms) (d rest : List ℕ) (t : NoFeed d) where
-  pub next-line : (u : Reading) → took.Next u ≡ lineOf s d (x .caps)
+  pub next-line : (u : Reading) → took.Next u ≡ lineOf s d x
       → feedAll (both (going s []) x) (d ++ lineFeed ∷ rest) ≡ feedAll (both (going u []) (roomsOf s d x)) rest
   unfolding feedAll
   next-line u e =
-      let h : length d ≤ lineLimit = line-next s u d (x .caps) e in
+      let h : length d ≤ lineLimit = line-next s u d x e in
       held s x d [] (lineFeed ∷ rest) (omega arith) t
       ∙ ap (λ (q : Both). feedAll q rest) (feed-line s d x ∙ ap (λ (q : Took). both (ended q) (roomsOf s d x)) (sym e))
 
-  pub refused-line : (n l : ℕ) → took.Refused n l ≡ lineOf s d (x .caps)
+  pub refused-line : (n l : ℕ) → took.Refused n l ≡ lineOf s d x
       → feedAll (both (going s []) x) (d ++ lineFeed ∷ rest) ≡ both (stopped n l) (roomsOf s d x)
   unfolding feedAll
   refused-line n l e = go (leb (length d) lineLimit) refl where
-    says : (judgeOf s d (x .caps) ≡ n) × (s .line + 1 ≡ l) × (1 ≤ n) × (roomsOf s d x ≡ x)
-    says = line-refused s d x n l e
-
-    no : (b : Bool) → ruleOf d ≡ b → lineLimit < length d → ruleOf d ≡ false
-    no true r h = let z = rule-says d r .1 in absurd (omega (arith, z))
-    no false r h = r
-
     go : (a : Bool) → leb (length d) lineLimit ≡ a → feedAll (both (going s []) x) (d ++ lineFeed ∷ rest) ≡ both (stopped n l) (roomsOf s d x)
     go true z =
         let h : length d ≤ lineLimit = leb-true _ _ z in
@@ -205,8 +199,9 @@ module _ (s : Reading) (x : Rooms) (d rest : List ℕ) (t : NoFeed d) where
         ∙ stays n l (roomsOf s d x) rest
     go false z =
         let h : lineLimit < length d = leb-false _ _ z in
-        let j : n ≡ 11 = sym (says .0) ∙ judge-rule s d (x .caps) (no (ruleOf d) refl h) in
-        rw (says .3, j, ← says .1) (long s x d [] (lineFeed ∷ rest) (omega arith) (omega arith) t)
+        let says = line-refused s d x n l e in
+        let j = fault-one 11 (lineHere s) n l (sym (meaning.digits-most s d x h) ∙ says .0) in
+        rw (says .1, ← j .0, ← j .1) (long s x d [] (lineFeed ∷ rest) (omega arith) (omega arith) t)
 
 -- the line that starts at `at` and ends at e
 abbrev pub part : List ℕ → ℕ → ℕ → List ℕ
@@ -229,8 +224,8 @@ module _ (f : List ℕ) (at e : ℕ) (h : e ≡ at + lineLen (drop at f)) (l : a
       len-split (drop at f) m ∙ ap (λ (n : ℕ). take n (drop at f) ++ lineFeed ∷ drop (suc (lineLen (drop at f))) (drop at f)) (sym same)
       ∙ ap (λ (r : List ℕ). part f at e ++ lineFeed ∷ r) (drop-drop (suc (lineLen (drop at f))) at f ∙ ap (λ (n : ℕ). drop n f) q)
 
-  pub unended : e ≡ length f → NoFeed (drop at f)
-  unended k = omega (arith, length-drop at f)
+  pub cut : e ≡ length f → drop at f ≡ part f at e
+  cut k = sym (take-all (e - at) (drop at f) (omega (arith, length-drop at f)))
 
 -- rooms of the same lengths
 pub record Same (x y : Rooms) : Type 0 where
@@ -242,44 +237,6 @@ pub record Same (x y : Rooms) : Type 0 where
 
 pub large : (x y : Rooms) → Same x y → Large y → Large x
 large x y s l = record { caps = omega arith; initial = omega arith; pre = omega arith; post = omega arith; word = omega arith }
-
--- the whole lines of f up to `at` are read: t and x are what they came to from z
-pub record Reads (f : List ℕ) (z w : Both) (at : ℕ) (t : Reading) (x : Rooms) : Type 0 where
-  pub inside : at ≤ length f
-  pub good : Good t
-  pub same : Same x (z .rooms)
-  pub comes : w ≡ feedAll (both (going t []) x) (drop at f)
-
-module _ (f : List ℕ) (z w : Both) (at : ℕ) (t : Reading) (x : Rooms) (r : Reads f z w at t x) where
-  pub reads-end : length f ≤ at → (Good t) × (at ≤ length f) × (NoFeed (drop at f)) × (w ≡ feedAll (both (going t []) x) (drop at f))
-  reads-end h = (r .good, r .inside, len-end f at h ∙ omega (arith, length-drop at f), r .comes)
-
-  module _ (e : ℕ) (h : e ≡ at + lineLen (drop at f)) where
-    pub reads-cut : e ≡ length f → (Good t) × (at ≤ length f) × (NoFeed (drop at f)) × (w ≡ feedAll (both (going t []) x) (drop at f))
-    reads-cut k = (r .good, r .inside, unended f at e h (r .inside) k, r .comes)
-
-    pub reads-next : (u : Reading) (k : Took) (y : Rooms) → (e ≡ length f → ⊥) → k ≡ took.Next u → GoodTook k → k ≡ lineOf t (part f at e) (x .caps) → y ≡ roomsOf t (part f at e) x → Same y x
-        → Reads f z w (e + 1) u y
-    reads-next u k y b p g q v s =
-        let m = bounds f at e h (r .inside) in
-        let n : e < length f = omega arith in
-        record {
-          inside = omega arith;
-          good = rw p at g;
-          same = record { caps = s .caps ∙ r .same .caps; initial = s .initial ∙ r .same .initial; pre = s .pre ∙ r .same .pre; post = s .post ∙ r .same .post; word = s .word ∙ r .same .word };
-          comes = r .comes ∙ ap (feedAll (both (going t []) x)) (split f at e h (r .inside) n)
-              ∙ next-line t x (part f at e) (drop (e + 1) f) (clear f at e h (r .inside)) u (sym p ∙ q) ∙ ap (λ (o : Rooms). feedAll (both (going u []) o) (drop (e + 1) f)) (sym v);
-        }
-
-    pub reads-broken : (n l : ℕ) (k : Took) (y : Rooms) → (e ≡ length f → ⊥) → k ≡ took.Refused n l → k ≡ lineOf t (part f at e) (x .caps) → y ≡ roomsOf t (part f at e) x
-        → (1 ≤ n) × (w ≡ both (stopped n l) y)
-    reads-broken n l k y b p q v =
-        let m = bounds f at e h (r .inside) in
-        let o : e < length f = omega arith in (
-          line-refused t (part f at e) x n l (sym p ∙ q) .2,
-          r .comes ∙ ap (feedAll (both (going t []) x)) (split f at e h (r .inside) o)
-              ∙ refused-line t x (part f at e) (drop (e + 1) f) (clear f at e h (r .inside)) n l (sym p ∙ q) ∙ ap (both (stopped n l)) (sym v),
-        )
 
 -- the end of a file, by its state
 pub finish-missing : (s : Reading) → (s .phase ≡ 5 → ⊥) → Refused 12 (s .line + 1) ≡ finishOf s

@@ -1,20 +1,17 @@
--- A case file as a run of bytes: a fold, so that any cutting into parts comes to the same.
-use Prim.Native.Nat.{ℕ, suc, _+_, _≤_}
+-- To be believed: a case file as a run of bytes: a fold, so that any cutting into parts comes to the same.
+use Prim.Native.Nat.{ℕ, suc, _+_}
 use mathlib.Core.Path.{_≡_}
 use mathlib.Core.Bool.{cond}
 use mathlib.Core.List.{List, [], _∷_, _++_}
-use lib.ListN.{length, take, drop}
-use lib.Dec.{ltb, leb, eqb}
+use lib.ListN.{length}
+use lib.Dec.{ltb, eqb}
 use Rattle.file_digits.specs.Frame.{lineLimit, lineFeed}
 use Rattle.file_line.specs.declared.Reading.{Reading}
 use Rattle.file_line.specs.declared.Took.{Took}
 use Rattle.file_line.specs.declared.Took.the-variants as took
-use Rattle.file_line.specs.Read.{Good, Rooms, fresh, lineOf, roomsOf}
-use Rattle.file_parts.specs.declared.Held.{Held}
+use Rattle.file_line.specs.Read.{Rooms, fresh, lineOf, roomsOf}
 use Rattle.file_parts.specs.declared.Case.{Case}
 use Rattle.file_parts.specs.declared.Case.the-variants.{Whole, Refused}
-use Rattle.file_parts.specs.declared.Lines.{Lines}
-use Rattle.file_parts.specs.declared.Lines.the-variants.{Rest, Broken}
 
 -- a reading goes on, with the bytes of the line so far; or it stopped, with a refusal's number and line
 pub data Run : Type 0 where
@@ -36,7 +33,7 @@ ended (took.Refused n l) = stopped n l
 -- one byte: a line feed ends the line, "at most 260 digits" are held, and "the earliest faulty line decides"
 unfoldable pub fedTo : Run → Rooms → ℕ → Both
 fedTo (going s d) x b =
-    cond (eqb b lineFeed) (both (ended (lineOf s d (x .caps))) (roomsOf s d x))
+    cond (eqb b lineFeed) (both (ended (lineOf s d x)) (roomsOf s d x))
     (cond (ltb (length d) lineLimit) (both (going s (d ++ (b ∷ []))) x) (both (stopped 11 (s .line + 1)) x))
 fedTo (stopped n l) x b = both (stopped n l) x
 
@@ -71,20 +68,6 @@ caseOf (going s []) = finishOf s
 caseOf (going s (b ∷ d)) = Refused 11 (s .line + 1)
 caseOf (stopped n l) = Refused n l
 
--- the state of a whole file is good, and has all its frames
-abbrev pub GoodCase : Case → Type 0
-GoodCase (Whole s) = (Good s) × (s .phase ≡ 5)
-GoodCase (Refused n l) = Unit {0}
-
--- what a held line stands for, and what holds of it
-abbrev pub abs : Held → Run
-abs h = cond (eqb (h .refusal) 0) (going (h .reading) (take (h .len) (h .line))) (stopped (h .refusal) (h .at))
-
-pub record Sound (h : Held) : Type 0 where
-  pub good : Good (h .reading)
-  pub len : h .len ≤ lineLimit
-  pub line : length (h .line) ≡ lineLimit
-
 -- how many bytes stand before the first line feed
 unfoldable pub lineLen : List ℕ → ℕ
 lineLen [] = 0
@@ -92,21 +75,3 @@ lineLen (b ∷ bs) = cond (eqb b lineFeed) 0 (suc (lineLen bs))
 
 abbrev pub NoFeed : List ℕ → Type 0
 NoFeed d = lineLen d ≡ length d
-
--- a piece of a line, with no line feed, after the bytes d
-unfoldable pub holdOf : Reading → List ℕ → List ℕ → Run
-holdOf s d piece = cond (leb (length d + length piece) lineLimit) (going s (d ++ piece)) (stopped 11 (s .line + 1))
-
--- what the whole lines of the part f, from `at` on, come to, from z, with the rooms y after them
-abbrev pub Went : List ℕ → Both → ℕ → Lines → Rooms → Type 0
-Went f z at (Rest t e) y = (Good t) × (e ≤ length f) × (NoFeed (drop e f)) × (feedAll z (drop at f) ≡ feedAll (both (going t []) y) (drop e f))
-Went f z at (Broken n l) y = (1 ≤ n) × (feedAll z (drop at f) ≡ both (stopped n l) y)
-
--- what is asked of the whole lines' answer before the rest of the part f is held, and what then is held
-abbrev pub GoodLines : List ℕ → Lines → Type 0
-GoodLines f (Rest t e) = (Good t) × (e ≤ length f)
-GoodLines f (Broken n l) = 1 ≤ n
-
-abbrev pub heldRest : List ℕ → Lines → Run
-heldRest f (Rest t e) = holdOf t [] (drop e f)
-heldRest f (Broken n l) = stopped n l

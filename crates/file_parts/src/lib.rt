@@ -1,23 +1,19 @@
-// Inner: a case file by parts. Whole lines are read in place from the part at hand; a line that the
-// part cuts off is held in a buffer, with its length beside it, until the next part.
+// Inner: a case file by parts. Each line goes through one buffer, with its length beside it: it is filled from the
+// part at hand, and from the next part where a part cuts the line off; at the line feed the line is read and the buffer cleared.
 use file_digits::LINE_LIMIT;
 use file_line::Reading;
 use file_line::Took;
 use ground::Weight;
 ghost use mathlib.Core.Path.{_≡_};
-ghost use mathlib.Core.List.{[], _∷_};
-ghost use Prim.Native.Nat.{_+_, _<_, _≤_};
+ghost use mathlib.Core.List.{[]};
+ghost use Prim.Native.Nat.{_+_, _≤_};
 ghost use lib.ListN.{length, take, drop};
 ghost use lib.Seq.{sets};
 ghost use Rattle.file_digits.specs.Frame.{lineFeed};
-ghost use Rattle.file_line.specs.Read.{Good, rooms, Large};
-ghost use Rattle.file_parts.specs.File.{going, stopped, both, feedAll, finishOf, caseOf, GoodCase, abs, Sound, lineLen, holdOf, Went, GoodLines, heldRest};
-
-// What the whole lines of a part come to: the state after them and where the rest starts, or a refusal.
-pub enum Lines {
-    Rest(Reading, usize),
-    Broken(u8, usize),
-}
+ghost use Rattle.file_line.specs.Read.{rooms};
+ghost use Rattle.file_line.specs.Walk.{Good, GoodTook, Large};
+ghost use Rattle.file_parts.specs.File.{going, stopped, both, ended, feedOf, feedAll, finishOf, caseOf, lineLen};
+ghost use Rattle.file_parts.specs.Held.{GoodCase, abs, Sound, holdOf};
 
 // What a whole file comes to.
 pub enum Case {
@@ -51,43 +47,8 @@ fn line_end(part: &[u8], at: usize) -> usize
     e
 }
 
-// The whole lines of a part, from number from on, read in place.
-pub fn read_lines(
-    s: Reading,
-    part: &[u8],
-    from: usize,
-    caps: &mut [u16],
-    initial: &mut [u16],
-    pre: &mut [Weight],
-    post: &mut [Weight],
-    word: &mut [u8],
-) -> Lines
-    requires { ⌜ (Good s) × (from ≤ length (now part)) × (Large (rooms (now caps) (now initial) (now pre) (now post) (now word))) ⌝ }
-    ensures { λ r. ⌜ Went (now (part .entry)) (both (going s []) (rooms (now (caps .entry)) (now (initial .entry)) (now (pre .entry)) (now (post .entry)) (now (word .entry)))) from r
-        (rooms (now (caps .exit)) (now (initial .exit)) (now (pre .exit)) (now (post .exit)) (now (word .exit))) ⌝ }
-{
-    let mut t = s;
-    let mut at = from;
-    while at < part.len() {
-        let e = line_end(part, at);
-        if e == part.len() {
-            return Lines::Rest(t, at);
-        }
-        match file_line::read_line(t, &part[at..e], caps, initial, pre, post, word) {
-            Took::Next(u) => {
-                t = u;
-                at = e + 1;
-            }
-            Took::Refused { number, line } => {
-                return Lines::Broken(number, line);
-            }
-        }
-    }
-    Lines::Rest(t, at)
-}
-
 // The end of a file, after whole lines.
-pub fn finish(s: Reading) -> Case
+fn finish(s: Reading) -> Case
     requires { ⌜ Good s ⌝ }
     ensures value { λ r. ⌜ r ≡ finishOf s ⌝ }
     ensures good { λ r. ⌜ GoodCase r ⌝ }
@@ -165,22 +126,43 @@ fn hold(h: Held, piece: &[u8]) -> Held
     }
 }
 
-// What the whole lines of a part come to, with what is left of the part held.
-fn hold_rest(lines: Lines, part: &[u8]) -> Held
-    requires { ⌜ GoodLines (now part) lines ⌝ }
-    ensures value { λ r. ⌜ abs r ≡ heldRest (now (part .entry)) lines ⌝ }
+// The state after a whole line, by what the line comes to: the next line is empty.
+fn after_line(took: Took) -> Held
+    requires { ⌜ GoodTook took ⌝ }
+    ensures value { λ r. ⌜ abs r ≡ ended took ⌝ }
     ensures sound { λ r. ⌜ Sound r ⌝ }
 {
-    match lines {
-        Lines::Rest(t, e) => hold(cleared(t), &part[e..]),
-        Lines::Broken(number, line) => broken(number, line),
+    match took {
+        Took::Next(t) => cleared(t),
+        Took::Refused { number, line } => broken(number, line),
     }
 }
 
-// The held line, which ends at the line feed number e of the part, and the rest of the part.
-fn read_on(
+// The held line, which is whole, is read.
+fn end_line(
+    h: Held,
+    caps: &mut [u16],
+    initial: &mut [u16],
+    pre: &mut [Weight],
+    post: &mut [Weight],
+    word: &mut [u8],
+) -> Held
+    requires { ⌜ (Sound h) × (h .refusal ≡ 0) × (Large (rooms (now caps) (now initial) (now pre) (now post) (now word))) ⌝ }
+    ensures value { λ r. ⌜ both (abs r) (rooms (now (caps .exit)) (now (initial .exit)) (now (pre .exit)) (now (post .exit)) (now (word .exit)))
+        ≡ feedOf (both (abs h) (rooms (now (caps .entry)) (now (initial .entry)) (now (pre .entry)) (now (post .entry)) (now (word .entry)))) lineFeed ⌝ }
+    ensures sound { λ r. ⌜ Sound r ⌝ }
+{
+    let n = h.len;
+    let d = h.line;
+    let took = file_line::read_line(h.reading, &d[..n], caps, initial, pre, post, word);
+    after_line(took)
+}
+
+// A line of the part, from number at to its line feed at e, or to the part's end: it is held, and read if it is whole.
+fn feed_line(
     h: Held,
     part: &[u8],
+    at: usize,
     e: usize,
     caps: &mut [u16],
     initial: &mut [u16],
@@ -188,24 +170,22 @@ fn read_on(
     post: &mut [Weight],
     word: &mut [u8],
 ) -> Held
-    requires { ⌜ (Sound h) × (h .refusal ≡ 0) × (e < length (now part)) × (Large (rooms (now caps) (now initial) (now pre) (now post) (now word))) ⌝ }
-    ensures value { λ r. ⌜ both (abs r) (rooms (now (caps .exit)) (now (initial .exit)) (now (pre .exit)) (now (post .exit)) (now (word .exit)))
-        ≡ feedAll (both (abs h) (rooms (now (caps .entry)) (now (initial .entry)) (now (pre .entry)) (now (post .entry)) (now (word .entry)))) (lineFeed ∷ drop (e + 1) (now (part .entry))) ⌝ }
+    requires { ⌜ (Sound h) × (h .refusal ≡ 0) × (at ≤ length (now part)) × (e ≡ at + lineLen (drop at (now part))) × (Large (rooms (now caps) (now initial) (now pre) (now post) (now word))) ⌝ }
+    ensures value { λ r. ⌜ feedAll (both (abs r) (rooms (now (caps .exit)) (now (initial .exit)) (now (pre .exit)) (now (post .exit)) (now (word .exit)))) (drop (e + 1) (now (part .entry)))
+        ≡ feedAll (both (abs h) (rooms (now (caps .entry)) (now (initial .entry)) (now (pre .entry)) (now (post .entry)) (now (word .entry)))) (drop at (now (part .entry))) ⌝ }
     ensures sound { λ r. ⌜ Sound r ⌝ }
 {
-    let n = h.len;
-    let d = h.line;
-    let k = file_line::read_line(h.reading, &d[..n], caps, initial, pre, post, word);
-    match k {
-        Took::Next(t) => {
-            let lines = read_lines(t, part, e + 1, caps, initial, pre, post, word);
-            hold_rest(lines, part)
-        }
-        Took::Refused { number, line } => broken(number, line),
+    let r = hold(h, &part[at..e]);
+    if e == part.len() {
+        return r;
     }
+    if r.refusal != 0 {
+        return r;
+    }
+    end_line(r, caps, initial, pre, post, word)
 }
 
-// One part of a file more.
+// One part of a file more, line by line, until its end or a refusal.
 pub fn read_part(
     h: Held,
     part: &[u8],
@@ -220,18 +200,14 @@ pub fn read_part(
         ≡ feedAll (both (abs h) (rooms (now (caps .entry)) (now (initial .entry)) (now (pre .entry)) (now (post .entry)) (now (word .entry)))) (now (part .entry)) ⌝ }
     ensures sound { λ r. ⌜ Sound r ⌝ }
 {
-    if h.refusal != 0 {
-        return h;
+    let mut r = h;
+    let mut at: usize = 0;
+    while at < part.len() && r.refusal == 0 {
+        let e = line_end(part, at);
+        r = feed_line(r, part, at, e, caps, initial, pre, post, word);
+        at = e + 1;
     }
-    let e = line_end(part, 0);
-    let r = hold(h, &part[..e]);
-    if e == part.len() {
-        return r;
-    }
-    if r.refusal != 0 {
-        return r;
-    }
-    read_on(r, part, e, caps, initial, pre, post, word)
+    r
 }
 
 // The end of a file.

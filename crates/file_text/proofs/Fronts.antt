@@ -7,7 +7,8 @@ use native.Mathlib.Nat.{mul-le-mul}
 use lib.ListN.{length, take, drop, getD, List·getD-append}
 use lib.Seq.{sets, sets-eq, drop-at, length-take-le}
 use Rattle.file_line.specs.declared.Reading.{Reading}
-use Rattle.file_line.specs.Read.{cellLimit, Good}
+use Rattle.file_line.specs.Read.{cellLimit}
+use Rattle.file_line.specs.Walk.{Good}
 use Rattle.file_parts.proofs.Buffer.{front}
 
 -- the entries of Pre, and of Post, are inside their rooms

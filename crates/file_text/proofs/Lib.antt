@@ -1,4 +1,4 @@
-pub mod Bytes
+pub mod Rules
 pub mod Fronts
 pub mod Lines
 pub mod Stage

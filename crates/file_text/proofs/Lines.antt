@@ -2,24 +2,26 @@
 use mathlib.Core.Path.{_≡_, refl, sym, _∙_, ap}
 use mathlib.Core.Bool.{true, cond}
 use mathlib.Core.List.{List, [], _∷_, _++_, append-nil}
-use Prim.Native.Nat.{ℕ, suc, _+_, _*_, _%_, _≤_, _<_}
+use Prim.Native.Nat.{ℕ, suc, _+_, _*_, _%_, _≤_}
 use native.Mathlib.Omega.{arith}
 use lib.Dec.{eqb}
-use lib.ListN.{length, getD, length-append}
+use lib.ListN.{length, length-append}
 use lib.Seq.{sets}
-use Rattle.ground.specs.Limits.{countLimit, tokenLimit, wordLimit}
-use Rattle.file_digits.specs.Frame.{lineLimit, lineFeed, block, digitsOf, lineText, byteAt, wordAt, bytesFrom, wordsFrom}
+use Rattle.ground.specs.Limits.{countLimit, wordLimit}
+use Rattle.file_digits.specs.Frame.{lineLimit, lineFeed, block, digitsOf, lineText, byteAt, bytesFrom, wordsFrom, twos}
 use Rattle.file_digits.proofs.Round.{Below, none, more, canon, digits-long}
 use Rattle.file_line.specs.declared.Reading.{Reading}
-use Rattle.file_line.specs.Read.{Rooms, rooms, ruleOf, judgeOf, lettersIn, advanced, advancedKind, stored, storedKind}
-use Rattle.file_line.specs.Line.{Ruled, Formed, frame01, frame02, frame03, frame04, frame05, Counted, Marked, Short, Named}
+use Rattle.net.specs.Given.{Fine}
+use Rattle.net.specs.declared.Fault.the-variants.{Sound}
+use Rattle.file_line.specs.Read.{Rooms, rooms, tokensIn, wordPart, ruleOf, judgeOf, lettersIn, advanced, advancedKind, stored, storedKind}
+use Rattle.file_line.specs.Line.{Formed, frame01, frame02, frame03, frame04, frame05, CountsInRange, TokensAllowed, WordNotOver, LettersNamed, Taken}
 use Rattle.file_line.proofs.Digits.{rule-all, rule-exactly}
-use Rattle.file_line.proofs.Order.{no-counts, no-tokens, no-long, no-letters, formed-01, formed-02, formed-03, formed-04, formed-05}
+use Rattle.file_line.proofs.Order.{no-counts, no-tokens, no-long, no-letters, formed-kind, formed-01, formed-02, formed-03, formed-04, formed-05}
 use Rattle.file_line.proofs.Meaning.{taken-exactly}
 use Rattle.file_parts.specs.File.{both, going, feedAll}
 use Rattle.file_parts.proofs.Line.{line-taken, held}
-use Rattle.file_text.specs.Text.{twos}
-use Rattle.file_text.proofs.Bytes.{below-of, of-below, below-more, below-append, no-feed, rule-digits, bytes-long, bytes-split, bytes-at, words-at, byte-digits, piece, twos-long, twos-small, words-bytes, words-digits}
+use Rattle.file_digits.proofs.Bytes.{below-of, of-below, below-more, below-append, bytes-long, bytes-split, byte-digits, piece, twos-long, twos-small, words-bytes, words-digits}
+use Rattle.file_text.proofs.Rules.{no-feed, rule-digits}
 
 -- a state of the reading, by its numbers
 abbrev pub state : ℕ → ℕ → ℕ → ℕ → ℕ → ℕ → Reading
@@ -29,7 +31,7 @@ state phase places transitions next letters line =
 -- the frame f is taken at s with the rooms y, and leaves t and z
 pub record Takes (s : Reading) (y : Rooms) (f : List ℕ) (t : Reading) (z : Rooms) : Type 0 where
   pub rule : ruleOf (digitsOf f) ≡ true
-  pub judged : judgeOf s (digitsOf f) (y .caps) ≡ 0
+  pub judged : judgeOf s (digitsOf f) y ≡ Sound
   pub next : advanced s (digitsOf f) ≡ t
   pub kept : stored s (digitsOf f) y ≡ z
 
@@ -47,14 +49,14 @@ fed s y f t z k =
 module _ (s : Reading) (y : Rooms) where
   takes : (k : ℕ) (g : List ℕ) (t : Reading) (z : Rooms) → Below 256 (k ∷ g) → 2 + 2 * length g ≤ lineLimit
       → (byteAt (digitsOf (k ∷ g)) 0 ≡ k
-      → Formed s (digitsOf (k ∷ g)) × Counted (digitsOf (k ∷ g)) × Marked s (digitsOf (k ∷ g)) (y .caps) × Short s (digitsOf (k ∷ g)) × Named s (digitsOf (k ∷ g)))
+      → Formed s (digitsOf (k ∷ g)) × CountsInRange (digitsOf (k ∷ g)) × TokensAllowed s (digitsOf (k ∷ g)) y × WordNotOver s (digitsOf (k ∷ g)) × LettersNamed s (digitsOf (k ∷ g)))
       → advancedKind k s (digitsOf (k ∷ g)) ≡ t → storedKind k s (digitsOf (k ∷ g)) y ≡ z → Takes s y (k ∷ g) t z
   takes k g t z w h f a b =
       let d : List ℕ = digitsOf (k ∷ g) in
       let e : byteAt d 0 ≡ k = byte-digits (k ∷ g) 0 w (omega arith) in
       let r = rule-digits (k ∷ g) w (omega arith) (omega arith) in
       let m = f e in
-      record { rule = r; judged = taken-exactly s d (y .caps) .1 (rule-exactly d .0 r, m .0, m .1, m .2, m .3, m .4); next = rw e a; kept = rw e b }
+      record { rule = r; judged = taken-exactly s d y .1 (record { ruled = rule-exactly d .0 r; formed = m .0; counts = m .1; tokens = m .2; word = m .3; letters = m .4 }); next = rw e a; kept = rw e b }
 
   pub takes-counts : (P T : ℕ) → s .phase ≡ 1 → 1 ≤ P → P ≤ countLimit → 1 ≤ T → T ≤ countLimit → Takes s y (1 ∷ P ∷ T ∷ []) (state 2 P T 0 0 (s .line + 1)) y
   unfolding advancedKind storedKind
@@ -69,9 +71,9 @@ module _ (s : Reading) (y : Rooms) where
       (λ q. (
         frame01 p q n,
         record { places = λ _. (omega arith, omega arith); transitions = λ _. (omega arith, omega arith) },
-        no-tokens s d (y .caps) (λ k. omega arith),
-        no-long s d (y .caps) (λ k. omega arith),
-        no-letters s d (y .caps) (λ k. omega arith),
+        no-tokens s d y (λ k. omega arith),
+        no-long s d y (λ k. omega arith),
+        no-letters s d y (λ k. omega arith),
       ))
       (rw (e, g)) refl
 
@@ -84,29 +86,28 @@ module _ (s : Reading) (y : Rooms) where
       takes 2 (twos caps) _ _ (more {x = 2} (omega arith) (twos-small caps w)) (omega (arith, twos-long caps))
       (λ q. (
         frame02 p q n,
-        no-counts s d (y .caps) (λ k. omega arith),
-        no-tokens s d (y .caps) (λ k. omega arith),
-        no-long s d (y .caps) (λ k. omega arith),
-        no-letters s d (y .caps) (λ k. omega arith),
+        no-counts s d y (λ k. omega arith),
+        no-tokens s d y (λ k. omega arith),
+        no-long s d y (λ k. omega arith),
+        no-letters s d y (λ k. omega arith),
       ))
       refl (rw (words-digits 2 (s .places) caps (omega arith) w l))
 
   pub takes-tokens : (initial : List ℕ) → s .phase ≡ 3 → s .places ≤ countLimit → length initial ≡ s .places → Below 65536 initial
-      → ((k : ℕ) → k < s .places → (getD initial k 0 ≤ tokenLimit) × (getD initial k 0 ≤ getD (y .caps) k 0))
+      → Fine (y .caps) initial
       → Takes s y (3 ∷ twos initial) (state 4 (s .places) (s .transitions) 0 0 (s .line + 1)) (rooms (y .caps) (sets (y .initial) 0 initial) (y .pre) (y .post) (y .word))
   unfolding advancedKind storedKind
   takes-tokens initial p h l w v =
       let d : List ℕ = digitsOf (3 ∷ twos initial) in
       let n : length d ≡ 2 + 4 * s .places = let a = digits-long (3 ∷ twos initial) in let b = twos-long initial in omega arith in
       let e = words-digits 3 (s .places) initial (omega arith) w l in
-      let u : (k : ℕ) → k < s .places → wordAt d (1 + 2 * k) ≡ getD initial k 0 = λ k b. sym (words-at d 1 (s .places) k b) ∙ ap (λ (m : List ℕ). getD m k 0) e in
       takes 3 (twos initial) _ _ (more {x = 3} (omega arith) (twos-small initial w)) (omega (arith, twos-long initial))
       (λ q. (
         frame03 p q n,
-        no-counts s d (y .caps) (λ k. omega arith),
-        record { few = λ _ k b. rw (u k b) (v k b .0); within = λ _ k b. rw (u k b) (v k b .1) },
-        no-long s d (y .caps) (λ k. omega arith),
-        no-letters s d (y .caps) (λ k. omega arith),
+        no-counts s d y (λ k. omega arith),
+        record { fine = λ _. rw e v },
+        no-long s d y (λ k. omega arith),
+        no-letters s d y (λ k. omega arith),
       ))
       refl (rw e)
 
@@ -128,10 +129,10 @@ module _ (s : Reading) (y : Rooms) where
       takes 4 (s .next ∷ (a ++ b)) _ _ w (omega arith)
       (λ q. (
         frame04 p q n e,
-        no-counts s d (y .caps) (λ k. omega arith),
-        no-tokens s d (y .caps) (λ k. omega arith),
-        no-long s d (y .caps) (λ k. omega arith),
-        no-letters s d (y .caps) (λ k. omega arith),
+        no-counts s d y (λ k. omega arith),
+        no-tokens s d y (λ k. omega arith),
+        no-long s d y (λ k. omega arith),
+        no-letters s d y (λ k. omega arith),
       ))
       refl (rw (u, v))
 
@@ -150,31 +151,24 @@ module _ (s : Reading) (y : Rooms) where
       takes 5 v _ _ b (omega arith)
       (λ e. (
         frame05 p e q (omega arith) (omega arith),
-        no-counts s d (y .caps) (λ k. omega arith),
-        no-tokens s d (y .caps) (λ k. omega arith),
-        record { short = λ _. omega arith },
-        record { named = λ _ k r. rw (← bytes-at d 1 (length v) k (omega arith), u) (of-below (s .transitions) v k w (omega arith)) },
+        no-counts s d y (λ k. omega arith),
+        no-tokens s d y (λ k. omega arith),
+        record { few = λ _. omega arith },
+        record { named = λ _. rw (i, u) (record { at = λ k r. of-below (s .transitions) v k w r }) },
       ))
       (rw i) (rw (i, u))
 
 -- and no other line of its kind is
-module _ (s : Reading) (d caps : List ℕ) (j : judgeOf s d caps ≡ 0) where
-  asked : Ruled d × Formed s d × Counted d × Marked s d caps × Short s d × Named s d
-  asked = taken-exactly s d caps .0 j
+module _ (s : Reading) (d : List ℕ) (y : Rooms) (j : judgeOf s d y ≡ Sound) where
+  asked : Taken s d y
+  asked = taken-exactly s d y .0 j
 
   -- its kind is the one that must come next
   pub kind-next : byteAt d 0 ≡ s .phase
-  kind-next = go (asked .1)
-    where
-      go : Formed s d → byteAt d 0 ≡ s .phase
-      go (frame01 p k l) = k ∙ sym p
-      go (frame02 p k l) = k ∙ sym p
-      go (frame03 p k l) = k ∙ sym p
-      go (frame04 p k l i) = k ∙ sym p
-      go (frame05 p k q l m) = k ∙ sym p
+  kind-next = formed-kind s d (asked .formed) .2
 
   line-of : (n : ℕ) → length d ≡ 2 * n → d ≡ digitsOf (bytesFrom d 0 n)
-  line-of n e = sym (canon n d e (rule-all d (rule-exactly d .1 (asked .0))))
+  line-of n e = sym (canon n d e (rule-all d (rule-exactly d .1 (asked .ruled))))
 
   words-of : (k n : ℕ) → length d ≡ 2 + 4 * n → byteAt d 0 ≡ k → d ≡ digitsOf (k ∷ twos (wordsFrom d 1 n))
   unfolding bytesFrom
@@ -184,27 +178,25 @@ module _ (s : Reading) (d caps : List ℕ) (j : judgeOf s d caps ≡ 0) where
   unfolding bytesFrom
   counts-of p =
       let e : byteAt d 0 ≡ 1 = kind-next ∙ p in
-      let a = asked .2 .places e in
-      let b = asked .2 .transitions e in
+      let a = asked .counts .places e in
+      let b = asked .counts .transitions e in
       let three : bytesFrom d 0 3 ≡ byteAt d 0 ∷ byteAt d 1 ∷ byteAt d 2 ∷ [] = refl in
-      (line-of 3 (formed-01 s d caps (asked .1) e .1) ∙ ap digitsOf (three ∙ rw e), a .0, a .1, b .0, b .1)
+      (line-of 3 (formed-01 s d (asked .formed) e .1) ∙ ap digitsOf (three ∙ rw e), a .0, a .1, b .0, b .1)
 
   pub caps-of : s .phase ≡ 2 → d ≡ digitsOf (2 ∷ twos (wordsFrom d 1 (s .places)))
-  caps-of p = let e : byteAt d 0 ≡ 2 = kind-next ∙ p in words-of 2 (s .places) (formed-02 s d caps (asked .1) e .1) e
+  caps-of p = let e : byteAt d 0 ≡ 2 = kind-next ∙ p in words-of 2 (s .places) (formed-02 s d (asked .formed) e .1) e
 
   pub tokens-of : s .phase ≡ 3 → d ≡ digitsOf (3 ∷ twos (wordsFrom d 1 (s .places)))
-  tokens-of p = let e : byteAt d 0 ≡ 3 = kind-next ∙ p in words-of 3 (s .places) (formed-03 s d caps (asked .1) e .1) e
+  tokens-of p = let e : byteAt d 0 ≡ 3 = kind-next ∙ p in words-of 3 (s .places) (formed-03 s d (asked .formed) e .1) e
 
-  pub tokens-fine : s .phase ≡ 3 → (k : ℕ) → k < s .places → (getD (wordsFrom d 1 (s .places)) k 0 ≤ tokenLimit) × (getD (wordsFrom d 1 (s .places)) k 0 ≤ getD caps k 0)
-  tokens-fine p k b =
-      let e : byteAt d 0 ≡ 3 = kind-next ∙ p in
-      rw (words-at d 1 (s .places) k b) (asked .3 .few e k b, asked .3 .within e k b)
+  pub tokens-fine : s .phase ≡ 3 → Fine (y .caps) (tokensIn s d)
+  tokens-fine p = asked .tokens .fine (kind-next ∙ p)
 
   pub row-of : s .phase ≡ 4 → d ≡ digitsOf (4 ∷ s .next ∷ (bytesFrom d 2 (s .places) ++ bytesFrom d (2 + s .places) (s .places)))
   unfolding bytesFrom
   row-of p =
       let e : byteAt d 0 ≡ 4 = kind-next ∙ p in
-      let f = formed-04 s d caps (asked .1) e in
+      let f = formed-04 s d (asked .formed) e in
       let n : byteAt d 1 ≡ s .next = f .2 in
       let two : bytesFrom d 0 2 ++ bytesFrom d 2 (s .places + s .places) ≡ byteAt d 0 ∷ byteAt d 1 ∷ bytesFrom d 2 (s .places + s .places) = refl in
       line-of (2 + (s .places + s .places)) (f .1 ∙ omega arith)
@@ -216,8 +208,8 @@ module _ (s : Reading) (d caps : List ℕ) (j : judgeOf s d caps ≡ 0) where
   unfolding bytesFrom
   letters-of p =
       let e : byteAt d 0 ≡ 5 = kind-next ∙ p in
-      let f = formed-05 s d caps (asked .1) e in
-      let even : length d % 2 ≡ 0 = asked .0 .even in
+      let f = formed-05 s d (asked .formed) e in
+      let even : length d % 2 ≡ 0 = asked .ruled .even in
       let lo : 4 ≤ length d = f .2 in
       let hi : length d ≤ 2 + 2 * block = f .3 in
       let n : length d ≡ 2 * (1 + lettersIn d) = omega arith in
@@ -225,7 +217,7 @@ module _ (s : Reading) (d caps : List ℕ) (j : judgeOf s d caps ≡ 0) where
         f .1,
         omega arith,
         omega arith,
-        asked .4 .short e,
+        asked .word .few e,
         line-of (1 + lettersIn d) n ∙ ap digitsOf (bytes-split d 0 1 (lettersIn d) ∙ rw e),
-        below-of (s .transitions) (bytesFrom d 1 (lettersIn d)) (λ k b. rw (bytes-at d 1 (lettersIn d) k (omega arith)) (asked .5 .named e k (omega arith))),
+        below-of (s .transitions) (wordPart d) (asked .letters .named e .at),
       )

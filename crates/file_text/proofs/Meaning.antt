@@ -10,18 +10,20 @@ use lib.Dec.{eqb}
 use lib.ListN.{length, drop, replicate, length-replicate}
 use borrow.Author.Tests.{eqb-true}
 use Rattle.ground.specs.Limits.{noCapacity, weightLimit, wordLimit}
-use Rattle.file_digits.specs.Frame.{digitOf, digitsOf}
+use Rattle.file_digits.specs.Frame.{digitOf, digitsOf, twos}
 use Rattle.net.specs.Net.{Net, netOf}
+use Rattle.net.specs.declared.Fault.the-variants.{Faulty}
 use Rattle.replay.specs.Entry.{Allowed}
 use Rattle.file_line.specs.declared.Reading.{Reading}
 use Rattle.file_line.specs.declared.Took.the-variants as took
-use Rattle.file_line.specs.Read.{cellLimit, Rooms, rooms, fresh, Large, judgeOf, lineOf}
-use Rattle.file_line.proofs.Meaning.{refused-here, one-on-01, three-on-03}
+use Rattle.file_line.specs.Read.{cellLimit, Rooms, rooms, fresh, judgeOf, lineOf}
+use Rattle.file_line.specs.Walk.{Large}
+use Rattle.file_line.proofs.Meaning.{refused-line, judged-number, one-on-01, three-on-03}
 use Rattle.file_parts.specs.declared.Case.{Case}
 use Rattle.file_parts.specs.declared.Case.the-variants.{Whole, Refused}
 use Rattle.file_parts.specs.File.{Run, going, stopped, Both, both, readOf, finishOf, caseOf}
-use Rattle.file_text.specs.Text.{twos, joined, fileOf, Limited, Written, netIn, markingIn, wordIn, endOf, filled}
-use Rattle.file_text.proofs.Bytes.{below-of, of-below, below-most}
+use Rattle.file_text.specs.Text.{joined, fileOf, Limited, Written, netIn, markingIn, wordIn, endOf, filled}
+use Rattle.file_digits.proofs.Bytes.{below-of, of-below, below-most}
 use Rattle.file_text.proofs.Fronts.{front-of, rest-of}
 use Rattle.file_text.proofs.Stage.{Listed, Stage, start, counted, capped, rowed, lettered, reads}
 use Rattle.file_text.proofs.Whole.{whole}
@@ -190,15 +192,15 @@ module _ (x : Rooms) (big : Large x) (lines : List ℕ) (s : Reading) (y : Rooms
       go (rowed net n initial r h a b f) = by _ a (λ q. absurd (omega arith), λ q. absurd (omega arith))
       go (lettered net initial w l a b f) = by _ a (λ q. absurd (omega arith), λ q. absurd (omega arith))
 
-  pub one-on-line-1 : judgeOf s d (y .caps) ≡ 1 → lineOf s d (y .caps) ≡ took.Refused 1 1
-  one-on-line-1 e =
-      let l : s .line + 1 ≡ 1 = let z = lines-so-far .0 (one-on-01 s d (y .caps) e .0) in omega arith in
-      refused-here s d (y .caps) (λ z. omega arith) ∙ rw (e, l)
+  pub one-on-line-1 : (at : ℕ) → judgeOf s d y ≡ Faulty 1 at → lineOf s d y ≡ took.Refused 1 1
+  one-on-line-1 at e =
+      let l : at ≡ 1 = let z = lines-so-far .0 (one-on-01 s d y at e .0) in omega (arith, judged-number s d y 1 at e .2) in
+      refused-line s d y 1 at e .0 ∙ rw l
 
-  pub three-on-line-3 : judgeOf s d (y .caps) ≡ 3 → lineOf s d (y .caps) ≡ took.Refused 3 3
-  three-on-line-3 e =
-      let l : s .line + 1 ≡ 3 = let z = lines-so-far .1 (three-on-03 s d (y .caps) e .0) in omega arith in
-      refused-here s d (y .caps) (λ z. omega arith) ∙ rw (e, l)
+  pub three-on-line-3 : (at : ℕ) → judgeOf s d y ≡ Faulty 3 at → lineOf s d y ≡ took.Refused 3 3
+  three-on-line-3 at e =
+      let l : at ≡ 3 = let z = lines-so-far .1 (three-on-03 s d y at e .0) in omega (arith, judged-number s d y 3 at e .2) in
+      refused-line s d y 3 at e .0 ∙ rw l
 
 -- rooms that are large enough, to read into
 blank : ℕ → Rooms

@@ -6,10 +6,10 @@ use Prim.Native.Nat.{ℕ, zero, suc, _+_, _*_, _≤_, _<_}
 use native.Mathlib.Omega.{arith}
 use native.Mathlib.Nat.{suc-mul}
 use lib.Dec.{ltb, eqb}
-use lib.ListN.{length, take, drop, getD, length-append, length-drop}
+use lib.ListN.{length, take, drop, length-append, length-drop}
 use lib.Seq.{sets, drop-append-le, take-append-le, drop-at, take-all}
 use borrow.Author.Tests.{eqb-true, eqb-false, ltb-true, ltb-false}
-use Rattle.ground.specs.Limits.{countLimit, tokenLimit, wordLimit}
+use Rattle.ground.specs.Limits.{countLimit, wordLimit}
 use Rattle.ground.proofs.Stores.{sets-both}
 use Rattle.file_digits.specs.Frame.{lineLimit, block, lineFeed, byteAt, bytesFrom, wordsFrom}
 use Rattle.file_digits.proofs.Round.{Below, none}
@@ -18,11 +18,14 @@ use Rattle.net.specs.Letter.{row}
 use Rattle.net.specs.Given.{Fine}
 use Rattle.net.proofs.Rows.{row-end}
 use Rattle.file_line.specs.declared.Reading.{Reading}
-use Rattle.file_line.specs.Read.{Rooms, rooms, fresh, Large, judgeOf, lettersIn, advanced, advancedKind, stored, storedKind}
+use Rattle.net.specs.declared.Fault.{Fault}
+use Rattle.net.specs.declared.Fault.the-variants.{Sound, Faulty}
+use Rattle.file_line.specs.Read.{Rooms, rooms, fresh, judgeOf, lettersIn, advanced, advancedKind, stored, storedKind}
+use Rattle.file_line.specs.Walk.{Large}
 use Rattle.file_parts.specs.File.{going, Both, both, feedOf, feedAll}
 use Rattle.file_parts.proofs.Line.{feed-push, feed-long, never-goes, line-taken, line-stopped}
 use Rattle.file_text.specs.Text.{countsLine, capsLine, tokensLine, rowLine, lettersLine, lettersLines, joined, fileOf, endOf, filled}
-use Rattle.file_text.proofs.Bytes.{below-of, below-most, below-append, bytes-long, bytes-small, words-long, words-small}
+use Rattle.file_digits.proofs.Bytes.{below-append, bytes-long, bytes-small, words-long, words-small}
 use Rattle.file_text.proofs.Fronts.{getD-sets}
 use Rattle.file_text.proofs.Lines.{state, kind-next, counts-of, caps-of, tokens-of, tokens-fine, row-of, letters-of}
 
@@ -79,36 +82,33 @@ pub data Stage (x : Rooms) (s : Reading) (y : Rooms) (p : List ℕ) : Type 0 whe
 
 -- one line more, from each stage
 module _ (x : Rooms) (big : Large x) (d : List ℕ) where
-  step-start : judgeOf fresh d (x .caps) ≡ 0 → Stage x (advanced fresh d) (stored fresh d x) ([] ++ (d ++ (lineFeed ∷ [])))
+  step-start : judgeOf fresh d x ≡ Sound → Stage x (advanced fresh d) (stored fresh d x) ([] ++ (d ++ (lineFeed ∷ [])))
   unfolding advancedKind storedKind
   step-start j =
-      let e : byteAt d 0 ≡ 1 = kind-next fresh d (x .caps) j in
-      let c = counts-of fresh d (x .caps) j refl in
+      let e : byteAt d 0 ≡ 1 = kind-next fresh d x j in
+      let c = counts-of fresh d x j refl in
       counted (byteAt d 1) (byteAt d 2) (c .1) (c .2) (c .3) (c .4) (rw e) (rw e) (ap (λ (l : List ℕ). l ++ (lineFeed ∷ [])) (c .0))
 
   module _ (P T : ℕ) (a : 1 ≤ P) (b : P ≤ countLimit) (f : 1 ≤ T) (g : T ≤ countLimit) where
-    step-counted : judgeOf (state 2 P T 0 0 1) d (x .caps) ≡ 0
+    step-counted : judgeOf (state 2 P T 0 0 1) d x ≡ Sound
         → Stage x (advanced (state 2 P T 0 0 1) d) (stored (state 2 P T 0 0 1) d x) (countsLine P T ++ (d ++ (lineFeed ∷ [])))
     unfolding advancedKind storedKind
     step-counted j =
-        let e : byteAt d 0 ≡ 2 = kind-next (state 2 P T 0 0 1) d (x .caps) j in
+        let e : byteAt d 0 ≡ 2 = kind-next (state 2 P T 0 0 1) d x j in
         capped P T (wordsFrom d 1 P) a b f g (words-long d 1 P) (words-small d 1 P) (rw e) (rw e)
-        (ap (λ (l : List ℕ). countsLine P T ++ (l ++ (lineFeed ∷ []))) (caps-of (state 2 P T 0 0 1) d (x .caps) j refl))
+        (ap (λ (l : List ℕ). countsLine P T ++ (l ++ (lineFeed ∷ []))) (caps-of (state 2 P T 0 0 1) d x j refl))
 
     module _ (caps : List ℕ) (h : length caps ≡ P) (w : Below 65536 caps) where
-      step-capped : judgeOf (state 3 P T 0 0 2) d (sets (x .caps) 0 caps) ≡ 0
+      step-capped : judgeOf (state 3 P T 0 0 2) d (rooms (sets (x .caps) 0 caps) (x .initial) (x .pre) (x .post) (x .word)) ≡ Sound
           → Stage x (advanced (state 3 P T 0 0 2) d) (stored (state 3 P T 0 0 2) d (rooms (sets (x .caps) 0 caps) (x .initial) (x .pre) (x .post) (x .word)))
           (countsLine P T ++ capsLine caps ++ (d ++ (lineFeed ∷ [])))
       unfolding advancedKind storedKind joined
       step-capped j =
-          let e : byteAt d 0 ≡ 3 = kind-next (state 3 P T 0 0 2) d (sets (x .caps) 0 caps) j in
-          let t = tokens-of (state 3 P T 0 0 2) d (sets (x .caps) 0 caps) j refl in
+          let e : byteAt d 0 ≡ 3 = kind-next (state 3 P T 0 0 2) d (rooms (sets (x .caps) 0 caps) (x .initial) (x .pre) (x .post) (x .word)) j in
+          let t = tokens-of (state 3 P T 0 0 2) d (rooms (sets (x .caps) 0 caps) (x .initial) (x .pre) (x .post) (x .word)) j refl in
           let m : List ℕ = wordsFrom d 1 P in
           let n : length m ≡ P = words-long d 1 P in
-          let fits : (k : ℕ) → k < P → (getD m k 0 ≤ tokenLimit) × (getD m k 0 ≤ getD caps k 0) = λ k l.
-          let q = getD-sets caps (x .caps) k (omega (arith, big .caps)) (omega arith) in
-          rw q at (tokens-fine (state 3 P T 0 0 2) d (sets (x .caps) 0 caps) j refl k l) in
-          let few : Below (suc tokenLimit) m = below-of (suc tokenLimit) m (λ k l. let z = fits k (omega arith) .0 in omega arith) in
+          let u : Fine (sets (x .caps) 0 caps) m = tokens-fine (state 3 P T 0 0 2) d (rooms (sets (x .caps) 0 caps) (x .initial) (x .pre) (x .post) (x .word)) j refl in
           rowed (netOf P T [] [] caps) 0 m
           (record {
             some-places = a;
@@ -118,7 +118,7 @@ module _ (x : Rooms) (big : Large x) (d : List ℕ) where
             capped = h;
             capacities = w;
             marked = n;
-            fine = record { few = record { at = λ p. below-most tokenLimit m p few }; within = λ p l. fits p (omega arith) .1 };
+            fine = record { few = u .few; within = λ p l. rw (getD-sets caps (x .caps) p (omega (arith, big .caps)) (omega arith)) at (u .within p l) };
             pres = omega arith;
             posts = omega arith;
             takes = none;
@@ -127,7 +127,7 @@ module _ (x : Rooms) (big : Large x) (d : List ℕ) where
           f (rw e) (rw e) (ap (λ (l : List ℕ). countsLine P T ++ capsLine caps ++ (l ++ (lineFeed ∷ []))) t ∙ sym (append-nil _))
 
   module _ (net : Net) (n : ℕ) (initial : List ℕ) (r : Rowed net n initial) (h : n < net .transitions) where
-    step-rowed : judgeOf (state 4 (net .places) (net .transitions) n 0 (3 + n)) d (filled x net initial [] .caps) ≡ 0
+    step-rowed : judgeOf (state 4 (net .places) (net .transitions) n 0 (3 + n)) d (filled x net initial []) ≡ Sound
         → Stage x (advanced (state 4 (net .places) (net .transitions) n 0 (3 + n)) d) (stored (state 4 (net .places) (net .transitions) n 0 (3 + n)) d (filled x net initial []))
         (head net initial ++ joined (rowLine net) n ++ (d ++ (lineFeed ∷ [])))
     unfolding advancedKind storedKind joined fileOf
@@ -136,7 +136,7 @@ module _ (x : Rooms) (big : Large x) (d : List ℕ) where
       s = state 4 (net .places) (net .transitions) n 0 (3 + n)
 
       e : byteAt d 0 ≡ 4
-      e = kind-next s d (filled x net initial [] .caps) j
+      e = kind-next s d (filled x net initial []) j
 
       a : List ℕ
       a = bytesFrom d 2 (net .places)
@@ -184,7 +184,7 @@ module _ (x : Rooms) (big : Large x) (d : List ℕ) where
       last =
           let u = row-last (net .places) n (net .pre) a (r .pres) (omega (arith, bytes-long d 2 (net .places))) in
           let v = row-last (net .places) n (net .post) b (r .posts) (omega (arith, bytes-long d (2 + net .places) (net .places))) in
-          rw (u, v) (ap (λ (l : List ℕ). l ++ (lineFeed ∷ [])) (row-of s d (filled x net initial [] .caps) j refl))
+          rw (u, v) (ap (λ (l : List ℕ). l ++ (lineFeed ∷ [])) (row-of s d (filled x net initial []) j refl))
 
       text : head net initial ++ joined (rowLine net) n ++ (d ++ (lineFeed ∷ [])) ≡ head net initial ++ joined (rowLine more) (suc n)
       text =
@@ -208,12 +208,12 @@ module _ (x : Rooms) (big : Large x) (d : List ℕ) where
           rowed more (suc n) initial grown (omega arith) (rw (m, l)) kept text
 
   module _ (net : Net) (initial w : List ℕ) (l : Listed net initial w) where
-    step-lettered : judgeOf (endOf net w) d (filled x net initial w .caps) ≡ 0
+    step-lettered : judgeOf (endOf net w) d (filled x net initial w) ≡ Sound
         → Stage x (advanced (endOf net w) d) (stored (endOf net w) d (filled x net initial w)) (fileOf net initial w ++ (d ++ (lineFeed ∷ [])))
     unfolding advancedKind storedKind joined fileOf
     step-lettered j =
-        let c = letters-of (endOf net w) d (filled x net initial w .caps) j refl in
-        let e : byteAt d 0 ≡ 5 = kind-next (endOf net w) d (filled x net initial w .caps) j in
+        let c = letters-of (endOf net w) d (filled x net initial w) j refl in
+        let e : byteAt d 0 ≡ 5 = kind-next (endOf net w) d (filled x net initial w) j in
         let m : ℕ = lettersIn d in
         let v : List ℕ = bytesFrom d 1 m in
         let n : length v ≡ m = bytes-long d 1 m in
@@ -236,7 +236,7 @@ module _ (x : Rooms) (big : Large x) (d : List ℕ) where
         lettered net initial (w ++ v) (record { rowed = l .rowed; short = omega (arith, o, c .3); letters = below-append w v (l .letters) (c .5) })
         (rw e st) (rw (e, kept)) (text ∙ rw i′)
 
-  step : (s : Reading) (y : Rooms) (p : List ℕ) → Stage x s y p → judgeOf s d (y .caps) ≡ 0 → Stage x (advanced s d) (stored s d y) (p ++ (d ++ (lineFeed ∷ [])))
+  step : (s : Reading) (y : Rooms) (p : List ℕ) → Stage x s y p → judgeOf s d y ≡ Sound → Stage x (advanced s d) (stored s d y) (p ++ (d ++ (lineFeed ∷ [])))
   step s y p (start es ey ep) j = rw (es, ey, ep) (step-start (rw (es, ey) at j))
   step s y p (counted P T a b f g es ey ep) j = rw (es, ey, ep) (step-counted P T a b f g (rw (es, ey) at j))
   step s y p (capped P T caps a b f g h w es ey ep) j = rw (es, ey, ep) (step-capped P T a b f g caps h w (rw (es, ey) at j))
@@ -257,18 +257,17 @@ module _ (x : Rooms) (big : Large x) (t : Reading) (z : Rooms) where
     Rec : Type 0
     Rec = (s : Reading) (y : Rooms) (q l : List ℕ) → Stage x s y q → feedAll (both (going s l) y) bs ≡ both (going t []) z → Stage x t z (q ++ (l ++ bs))
 
-    line : b ≡ lineFeed → (a : Bool) → eqb (judgeOf s l (y .caps)) 0 ≡ a → Rec → Stage x t z (q ++ (l ++ b ∷ bs))
-    line h true j rec =
-        let o : judgeOf s l (y .caps) ≡ 0 = eqb-true _ _ j in
+    line : b ≡ lineFeed → (f : Fault) → judgeOf s l y ≡ f → Rec → Stage x t z (q ++ (l ++ b ∷ bs))
+    line h Sound o rec =
         let k = rec (advanced s l) (stored s l y) (q ++ (l ++ (lineFeed ∷ []))) [] (step x big l s y q g o)
         (ap (λ (u : Both). feedAll u bs) (sym (line-taken s l y o)) ∙ ap (λ (c : ℕ). feedAll (feedOf (both (going s l) y) c) bs) (sym h) ∙ e) in
         rw h (rw (append-assoc q (l ++ (lineFeed ∷ [])) bs, append-assoc l (lineFeed ∷ []) bs) at k)
-    line h false j rec =
-        absurd (never-goes (judgeOf s l (y .caps)) (s .line + 1) y z bs t []
-        (ap (λ (u : Both). feedAll u bs) (sym (line-stopped s l y (eqb-false _ _ j))) ∙ ap (λ (c : ℕ). feedAll (feedOf (both (going s l) y) c) bs) (sym h) ∙ e))
+    line h (Faulty n at) o rec =
+        absurd (never-goes n at y z bs t []
+        (ap (λ (u : Both). feedAll u bs) (sym (line-stopped s l y n at o)) ∙ ap (λ (c : ℕ). feedAll (feedOf (both (going s l) y) c) bs) (sym h) ∙ e))
 
     go : (a : Bool) → eqb b lineFeed ≡ a → Rec → Stage x t z (q ++ (l ++ b ∷ bs))
-    go true h rec = line (eqb-true _ _ h) (eqb (judgeOf s l (y .caps)) 0) refl rec
+    go true h rec = line (eqb-true _ _ h) (judgeOf s l y) refl rec
     go false h rec = held (ltb (length l) lineLimit) refl rec where
       n : b ≡ lineFeed → ⊥
       n = eqb-false _ _ h

@@ -2,26 +2,27 @@
 use mathlib.Core.Path.{_≡_, refl, sym, _∙_, ap}
 use mathlib.Core.Bool.{true, false, cond}
 use mathlib.Core.List.{List, [], _∷_, _++_, append-assoc, append-nil}
-use Prim.Native.Nat.{ℕ, zero, suc, _+_, _*_, _≤_, _<_}
+use Prim.Native.Nat.{ℕ, zero, suc, _+_, _*_, _≤_}
 use native.Mathlib.Omega.{arith}
 use native.Mathlib.Nat.{suc-mul, zero-mul}
 use native.Mathlib.Numerals.{add-one}
 use lib.Dec.{eqb}
-use lib.ListN.{length, take, drop, getD, length-append, length-take, length-drop}
+use lib.ListN.{length, take, drop, length-append, length-take, length-drop}
 use lib.Seq.{sets, length-take-le, take-add, take-all}
 use borrow.Author.Tests.{eq-eqb, ne-eqb}
-use Rattle.ground.specs.Limits.{tokenLimit}
 use Rattle.ground.proofs.Stores.{sets-both}
-use Rattle.file_digits.specs.Frame.{block}
+use Rattle.file_digits.specs.Frame.{block, twos}
 use Rattle.net.specs.Net.{Net}
+use Rattle.net.specs.Given.{Fine}
 use Rattle.net.specs.Letter.{row}
 use Rattle.net.proofs.Rows.{row-end, row-length}
 use Rattle.file_line.specs.declared.Reading.{Reading}
-use Rattle.file_line.specs.Read.{Rooms, rooms, fresh, Large}
+use Rattle.file_line.specs.Read.{Rooms, rooms, fresh}
+use Rattle.file_line.specs.Walk.{Large}
 use Rattle.file_parts.specs.File.{going, Both, both, feedAll}
 use Rattle.file_parts.proofs.Line.{all-append}
-use Rattle.file_text.specs.Text.{twos, countsLine, capsLine, rowLine, lettersLine, lettersLines, joined, fileOf, endOf, filled}
-use Rattle.file_text.proofs.Bytes.{below-of, below-take, below-drop}
+use Rattle.file_text.specs.Text.{countsLine, capsLine, rowLine, lettersLine, lettersLines, joined, fileOf, endOf, filled}
+use Rattle.file_digits.proofs.Bytes.{below-of, below-take, below-drop}
 use Rattle.file_text.proofs.Fronts.{getD-sets}
 use Rattle.file_text.proofs.Lines.{state, fed, takes-counts, takes-caps, takes-tokens, takes-row, takes-letters}
 use Rattle.file_text.proofs.Stage.{Listed, head}
@@ -53,13 +54,16 @@ module _ (x : Rooms) (big : Large x) (net : Net) (initial w : List ℕ) (l : Lis
       ≡ both (going (state 4 (net .places) (net .transitions) 0 0 3) []) (rooms (sets (x .caps) 0 (net .caps)) (sets (x .initial) 0 initial) (x .pre) (x .post) (x .word))
   after-tokens =
       let y : Rooms = rooms (sets (x .caps) 0 (net .caps)) (x .initial) (x .pre) (x .post) (x .word) in
-      let fits : (k : ℕ) → k < net .places → (getD initial k 0 ≤ tokenLimit) × (getD initial k 0 ≤ getD (sets (x .caps) 0 (net .caps)) k 0) = λ k b.
-      let e = getD-sets (net .caps) (x .caps) k (omega (arith, l .rowed .capped, l .rowed .few-places, big .caps)) (omega (arith, l .rowed .capped)) in
-      (l .rowed .fine .few .at k, rw e (l .rowed .fine .within k (omega (arith, l .rowed .marked)))) in
+      let fine : Fine (sets (x .caps) 0 (net .caps)) initial = record {
+        few = l .rowed .fine .few;
+        within = λ k b.
+            let e = getD-sets (net .caps) (x .caps) k (omega (arith, l .rowed .capped, l .rowed .few-places, big .caps)) (omega (arith, l .rowed .capped, l .rowed .marked)) in
+            rw e (l .rowed .fine .within k b);
+      } in
       then-line _ _ _ _ _ after-caps
       (fed (state 3 (net .places) (net .transitions) 0 0 2) y (3 ∷ twos initial) _ _
       (takes-tokens (state 3 (net .places) (net .transitions) 0 0 2) y initial refl (l .rowed .few-places) (l .rowed .marked)
-      (below-of 65536 initial (λ k b. let z = l .rowed .fine .few .at k in omega arith)) fits))
+      (below-of 65536 initial (λ k b. let z = l .rowed .fine .few .at k in omega arith)) fine))
 
   -- the rooms after n rows
   rowsKept : ℕ → Rooms

@@ -1,21 +1,16 @@
--- The case file of a net, its initial marking and a word ("Case file lines"), and what reading it comes to.
-use Prim.Native.Nat.{ℕ, zero, suc, _+_, _-_, _*_, _/_, _%_, _≤_}
+-- To be believed: the case file of a net, its initial marking and a word ("Case file lines"), and what reading it comes to.
+use Prim.Native.Nat.{ℕ, zero, suc, _+_, _-_, _*_, _/_, _≤_}
 use mathlib.Core.Path.{_≡_}
 use mathlib.Core.List.{List, [], _∷_, _++_}
 use lib.ListN.{length, take}
 use lib.Seq.{sets}
 use Rattle.ground.specs.Limits.{noCapacity, wordLimit}
-use Rattle.file_digits.specs.Frame.{block, lineText}
+use Rattle.file_digits.specs.Frame.{block, lineText, twos}
 use Rattle.net.specs.Net.{Net, netOf}
 use Rattle.net.specs.Letter.{row, Small}
 use Rattle.net.specs.Given.{Sized, Light, Fine, Letters}
 use Rattle.file_line.specs.declared.Reading.{Reading}
 use Rattle.file_line.specs.Read.{Rooms, rooms}
-
--- "numbers of two or four bytes have the high byte first": numbers of two bytes
-unfoldable pub twos : List ℕ → List ℕ
-twos [] = []
-twos (n ∷ ns) = n / 256 ∷ n % 256 ∷ twos ns
 
 -- "01 P T."
 abbrev pub countsLine : ℕ → ℕ → List ℕ

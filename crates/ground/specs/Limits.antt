@@ -1,4 +1,4 @@
--- The limits of document 01's first table. No other file writes these numbers.
+-- To be believed: the limits of document 01's first table. No other file writes these numbers.
 use Prim.Native.Nat.{ℕ, _+_, _*_}
 
 -- "places P, transitions T: 1 to 64 each"

@@ -1,4 +1,4 @@
--- The least number that passes a test, how many do, the largest value; a list changed entry by entry, and a list made by number.
+-- To be believed: the least number that passes a test, how many do, the largest value; a list changed entry by entry, and a list made by number.
 use Prim.Native.Nat.{ℕ, zero, suc, _+_, max}
 use mathlib.Core.Bool.{Bool, true, false, cond}
 use mathlib.Core.List.{List, [], _∷_}

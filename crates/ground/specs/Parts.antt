@@ -1,4 +1,4 @@
--- A signed number by its two parts, so that z = up z - dn z and one of the two is 0.
+-- To be believed: a signed number by its two parts, so that z = up z - dn z and one of the two is 0.
 use Prim.Native.Nat.{ℕ, suc}
 use lib.IntN.{ℤ, pos, negsuc}
 

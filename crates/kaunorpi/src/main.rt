@@ -13,11 +13,14 @@ use libc::STDOUT_FILENO;
 use verdict_text::ANSWER_LIMIT;
 ghost use Prim.Native.Nat.{_≤_};
 ghost use lib.ListN.{length};
-ghost use Rattle.file_line.specs.Read.{rooms, Large};
-ghost use Rattle.file_parts.specs.File.{both, caseOf, abs, Sound};
+ghost use Rattle.file_line.specs.Read.{rooms};
+ghost use Rattle.file_line.specs.Walk.{Large};
+ghost use Rattle.file_parts.specs.File.{both, caseOf};
+ghost use Rattle.file_parts.specs.Held.{abs, Sound};
 ghost use Rattle.verdict_text.specs.Verdict.{answerLimit};
 ghost use Rattle.verdict_line.specs.Answer.{answerFor};
-ghost use Rattle.kaunorpi.specs.Came.{Came, Shown, Made};
+ghost use Rattle.kaunorpi.specs.Made.{Shown, Made};
+ghost use Rattle.kaunorpi.specs.Walk.{BytesFed};
 
 // Whether there is more to read.
 enum Input {
@@ -61,7 +64,7 @@ fn read_some(
 ) -> Fed
     requires { ⌜ (Sound h) × (Large (rooms (now caps) (now initial) (now pre) (now post) (now word))) ⌝ }
     ensures sound { λ r. ⌜ Sound (r .held) ⌝ }
-    ensures came { λ r. ⌜ Came (both (abs h) (rooms (now (caps .entry)) (now (initial .entry)) (now (pre .entry)) (now (post .entry)) (now (word .entry))))
+    ensures came { λ r. ⌜ BytesFed (both (abs h) (rooms (now (caps .entry)) (now (initial .entry)) (now (pre .entry)) (now (post .entry)) (now (word .entry))))
         (both (abs (r .held)) (rooms (now (caps .exit)) (now (initial .exit)) (now (pre .exit)) (now (post .exit)) (now (word .exit)))) ⌝ }
 {
     let mut buf = io::large_buffer();
@@ -98,7 +101,7 @@ fn read_all(
 ) -> Fed
     requires { ⌜ (Sound h) × (Large (rooms (now caps) (now initial) (now pre) (now post) (now word))) ⌝ }
     ensures sound { λ r. ⌜ Sound (r .held) ⌝ }
-    ensures came { λ r. ⌜ Came (both (abs h) (rooms (now (caps .entry)) (now (initial .entry)) (now (pre .entry)) (now (post .entry)) (now (word .entry))))
+    ensures came { λ r. ⌜ BytesFed (both (abs h) (rooms (now (caps .entry)) (now (initial .entry)) (now (pre .entry)) (now (post .entry)) (now (word .entry))))
         (both (abs (r .held)) (rooms (now (caps .exit)) (now (initial .exit)) (now (pre .exit)) (now (post .exit)) (now (word .exit)))) ⌝ }
 {
     let mut r = h;

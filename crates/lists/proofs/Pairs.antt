@@ -9,8 +9,9 @@ use borrow.Author.Tests.{lt-ltb, le-ltb, ltb-true, ltb-false}
 use Rattle.ground.proofs.Tests.{never}
 use Rattle.ground.proofs.Scan.{Below, scan-hit, scan-next, scan-end, first-below, first-passes}
 use Rattle.lists.specs.Pairs.{lowestMissing, fails, firstFailing, resultsOf, lookedOf}
-use Rattle.lists.specs.declared.Failure.{Failure}
 use Rattle.lists.specs.declared.Failure.the-variants.{InitialMissing, ResultMissing}
+use Rattle.lists.specs.declared.ListAnswer.{ListAnswer}
+use Rattle.lists.specs.declared.ListAnswer.the-variants.{Accepted, Failed, Refused}
 use Rattle.lists.proofs.Somes.{some-hit, some-end, some-first, some-none}
 
 -- the turns of the two loops over the pairs
@@ -18,35 +19,30 @@ module _ (missing : ℕ → ℕ → Bool) (T k : ℕ) (lo : Below (fails missing
   pub marking-passes : (t : ℕ) → Below (missing k) t → t ≤ T → T ≤ t → Below (fails missing T) (k + 1)
   marking-passes t low h l = scan-next (fails missing T) k false lo (some-end (missing k) T t low h l) refl
 
-  module _ {A : Type 0} (failed : Failure → A) (accepted : A) (n : ℕ) where
-    pub results-found : (t : ℕ) → Below (missing k) t → (r : Bool) → r ≡ missing k t → r ≡ true → k < n → t < T → failed (ResultMissing k t) ≡ resultsOf failed accepted missing T n
+  module _ (n : ℕ) where
+    pub results-found : (t : ℕ) → Below (missing k) t → (r : Bool) → r ≡ missing k t → r ≡ true → k < n → t < T → Failed (ResultMissing k t) ≡ resultsOf missing T n
     unfolding resultsOf
     results-found t low r e q hk ht =
         let i = scan-hit (fails missing T) n k true lo (some-hit (missing k) T t low r e q ht) refl hk in
         rw (← i, lt-ltb k n hk, ← scan-hit (missing k) T t r low e q ht)
 
-    pub results-none : k ≤ n → n ≤ k → accepted ≡ resultsOf failed accepted missing T n
+    pub results-none : k ≤ n → n ≤ k → Accepted ≡ resultsOf missing T n
     unfolding resultsOf
     results-none h l = rw (← scan-end (fails missing T) n k lo h l, le-ltb k n l)
 
 -- the initial marking, then the results
-module _ {A : Type 0} (failed : Failure → A) (accepted : A) (starts : Bool) (missing : ℕ → ℕ → Bool) (T n : ℕ) (b : Bool) (e : b ≡ starts) where
-  pub looked-holds : (r : A) → b ≡ true → r ≡ resultsOf failed accepted missing T n → r ≡ lookedOf failed accepted starts missing T n
+module _ (starts : Bool) (missing : ℕ → ℕ → Bool) (T n : ℕ) (b : Bool) (e : b ≡ starts) where
+  pub looked-holds : (r : ListAnswer) → b ≡ true → r ≡ resultsOf missing T n → r ≡ lookedOf starts missing T n
   unfolding lookedOf
   looked-holds r q k = rw (sym e ∙ q) k
 
-  pub looked-missing : (r : A) → b ≡ false → r ≡ failed InitialMissing → r ≡ lookedOf failed accepted starts missing T n
+  pub looked-missing : b ≡ false → Failed InitialMissing ≡ lookedOf starts missing T n
   unfolding lookedOf
-  looked-missing r q k = rw (sym e ∙ q) k
+  looked-missing q = rw (sym e ∙ q)
 
 pub ruleset looks = (looked-holds, looked-missing)
 
 -- ---- what each answer says
--- the answer tells the failures apart, and each from accepted
-pub record Tells {A : Type 0} (failed : Failure → A) (accepted : A) : Type 0 where
-  pub other : (why : Failure) → failed why ≡ accepted → ⊥
-  pub same : (a b : Failure) → failed a ≡ failed b → a ≡ b
-
 -- the first marking, and in it the lowest transition, that fails the test
 pub record FirstPair (missing : ℕ → ℕ → Bool) (T n k t : ℕ) : Type 0 where
   pub inside : k < n
@@ -74,75 +70,84 @@ first-pair missing T n x =
 no-pair : (missing : ℕ → ℕ → Bool) (T n : ℕ) → n ≤ firstFailing missing T n → NoPair missing T n
 no-pair missing T n x k t hk ht = some-none (missing k) T (first-below (fails missing T) n k (omega arith)) t ht
 
-module _ {A : Type 0} (failed : Failure → A) (accepted : A) (missing : ℕ → ℕ → Bool) (T n : ℕ) where
-  accepted-results : NoPair missing T n → resultsOf failed accepted missing T n ≡ accepted
+module _ (missing : ℕ → ℕ → Bool) (T n : ℕ) where
+  accepted-results : NoPair missing T n → resultsOf missing T n ≡ Accepted
   unfolding resultsOf
   accepted-results lo = go (ltb (firstFailing missing T n) n) refl
     where
-      go : (b : Bool) → ltb (firstFailing missing T n) n ≡ b → resultsOf failed accepted missing T n ≡ accepted
+      go : (b : Bool) → ltb (firstFailing missing T n) n ≡ b → resultsOf missing T n ≡ Accepted
       go true e =
           let f = first-pair missing T n (ltb-true (firstFailing missing T n) n e) in
           never (sym (f .missed) ∙ lo (firstFailing missing T n) (lowestMissing missing T (firstFailing missing T n)) (f .inside) (f .named))
       go false e = rw e
 
   -- a list is accepted where its start holds and no pair fails
-  pub accepted-looked : (starts : Bool) → starts ≡ true → NoPair missing T n → lookedOf failed accepted starts missing T n ≡ accepted
+  pub accepted-looked : (starts : Bool) → starts ≡ true → NoPair missing T n → lookedOf starts missing T n ≡ Accepted
   unfolding lookedOf
   accepted-looked starts e lo = rw e (accepted-results lo)
 
-  module _ (tells : Tells failed accepted) where
-    results-accepted : resultsOf failed accepted missing T n ≡ accepted → NoPair missing T n
-    unfolding resultsOf
-    results-accepted q = go (ltb (firstFailing missing T n) n) refl
+  results-accepted : resultsOf missing T n ≡ Accepted → NoPair missing T n
+  unfolding resultsOf
+  results-accepted q = go (ltb (firstFailing missing T n) n) refl
+    where
+      go : (b : Bool) → ltb (firstFailing missing T n) n ≡ b → NoPair missing T n
+      go true e = let z : _≡_ {A = ℕ} 0 1 = cc (rw e at q) in absurd (omega arith)
+      go false e = no-pair missing T n (ltb-false (firstFailing missing T n) n e)
+
+  results-initial : resultsOf missing T n ≡ Failed InitialMissing → ⊥
+  unfolding resultsOf
+  results-initial q = go (ltb (firstFailing missing T n) n) refl
+    where
+      go : (b : Bool) → ltb (firstFailing missing T n) n ≡ b → ⊥
+      go true e = let z : _≡_ {A = ℕ} 0 1 = cc (rw e at q) in omega arith
+      go false e = let z : _≡_ {A = ℕ} 0 1 = cc (rw e at q) in omega arith
+
+  results-failed : (k t : ℕ) → resultsOf missing T n ≡ Failed (ResultMissing k t) → FirstPair missing T n k t
+  unfolding resultsOf
+  results-failed k t q = go (ltb (firstFailing missing T n) n) refl
+    where
+      go : (b : Bool) → ltb (firstFailing missing T n) n ≡ b → FirstPair missing T n k t
+      go true e =
+          let s = rw e at q in
+          let a : firstFailing missing T n ≡ k = cc in
+          let b : lowestMissing missing T (firstFailing missing T n) ≡ t = cc in
+          rw (← b, ← a) (first-pair missing T n (ltb-true (firstFailing missing T n) n e))
+      go false e = let z : _≡_ {A = ℕ} 0 1 = cc (rw e at q) in absurd (omega arith)
+
+  module _ (starts : Bool) where
+    -- accepted says that its start holds and no pair fails
+    pub looked-accepted : lookedOf starts missing T n ≡ Accepted → (starts ≡ true) × NoPair missing T n
+    unfolding lookedOf
+    looked-accepted q = go starts refl
       where
-        go : (b : Bool) → ltb (firstFailing missing T n) n ≡ b → NoPair missing T n
-        go true e = absurd (tells .other _ (rw e at q))
-        go false e = no-pair missing T n (ltb-false (firstFailing missing T n) n e)
+        go : (b : Bool) → starts ≡ b → (starts ≡ true) × NoPair missing T n
+        go true e = (e, results-accepted (rw e at q))
+        go false e = let z : _≡_ {A = ℕ} 0 1 = cc (rw e at q) in absurd (omega arith)
 
-    results-initial : resultsOf failed accepted missing T n ≡ failed InitialMissing → ⊥
-    unfolding resultsOf
-    results-initial q = go (ltb (firstFailing missing T n) n) refl
+    -- initial missing says that its start does not hold
+    pub looked-initial : lookedOf starts missing T n ≡ Failed InitialMissing → starts ≡ false
+    unfolding lookedOf
+    looked-initial q = go starts refl
       where
-        go : (b : Bool) → ltb (firstFailing missing T n) n ≡ b → ⊥
-        go true e = let s = tells .same _ _ (rw e at q) in let z : _≡_ {A = ℕ} 0 1 = cc in omega arith
-        go false e = tells .other InitialMissing (sym (rw e at q))
+        go : (b : Bool) → starts ≡ b → starts ≡ false
+        go true e = absurd (results-initial (rw e at q))
+        go false e = e
 
-    results-failed : (k t : ℕ) → resultsOf failed accepted missing T n ≡ failed (ResultMissing k t) → FirstPair missing T n k t
-    unfolding resultsOf
-    results-failed k t q = go (ltb (firstFailing missing T n) n) refl
+    -- and a pair is named where its start holds and that pair is the first that fails
+    pub looked-result : (k t : ℕ) → lookedOf starts missing T n ≡ Failed (ResultMissing k t) → (starts ≡ true) × FirstPair missing T n k t
+    unfolding lookedOf
+    looked-result k t q = go starts refl
       where
-        go : (b : Bool) → ltb (firstFailing missing T n) n ≡ b → FirstPair missing T n k t
-        go true e =
-            let s = tells .same _ _ (rw e at q) in
-            let a : firstFailing missing T n ≡ k = cc in
-            let b : lowestMissing missing T (firstFailing missing T n) ≡ t = cc in
-            rw (← b, ← a) (first-pair missing T n (ltb-true (firstFailing missing T n) n e))
-        go false e = absurd (tells .other (ResultMissing k t) (sym (rw e at q)))
+        go : (b : Bool) → starts ≡ b → (starts ≡ true) × FirstPair missing T n k t
+        go true e = (e, results-failed k t (rw e at q))
+        go false e = let z : _≡_ {A = ℕ} 0 1 = cc (rw e at q) in absurd (omega arith)
 
-    module _ (starts : Bool) where
-      -- accepted says that its start holds and no pair fails
-      pub looked-accepted : lookedOf failed accepted starts missing T n ≡ accepted → (starts ≡ true) × NoPair missing T n
-      unfolding lookedOf
-      looked-accepted q = go starts refl
-        where
-          go : (b : Bool) → starts ≡ b → (starts ≡ true) × NoPair missing T n
-          go true e = (e, results-accepted (rw e at q))
-          go false e = absurd (tells .other InitialMissing (rw e at q))
-
-      -- initial missing says that its start does not hold
-      pub looked-initial : lookedOf failed accepted starts missing T n ≡ failed InitialMissing → starts ≡ false
-      unfolding lookedOf
-      looked-initial q = go starts refl
-        where
-          go : (b : Bool) → starts ≡ b → starts ≡ false
-          go true e = absurd (results-initial (rw e at q))
-          go false e = e
-
-      -- and a pair is named where its start holds and that pair is the first that fails
-      pub looked-result : (k t : ℕ) → lookedOf failed accepted starts missing T n ≡ failed (ResultMissing k t) → (starts ≡ true) × FirstPair missing T n k t
-      unfolding lookedOf
-      looked-result k t q = go starts refl
-        where
-          go : (b : Bool) → starts ≡ b → (starts ≡ true) × FirstPair missing T n k t
-          go true e = (e, results-failed k t (rw e at q))
-          go false e = let s = tells .same _ _ (rw e at q) in let z : _≡_ {A = ℕ} 0 1 = cc in absurd (omega arith)
+    -- a list that is looked through is not refused
+    pub looked-never : (k p : ℕ) → lookedOf starts missing T n ≡ Refused k p → ⊥
+    unfolding lookedOf resultsOf
+    looked-never k p q = go starts refl (ltb (firstFailing missing T n) n) refl
+      where
+        go : (b : Bool) → starts ≡ b → (c : Bool) → ltb (firstFailing missing T n) n ≡ c → ⊥
+        go true e true f = let z : _≡_ {A = ℕ} 0 1 = cc (rw (e, f) at q) in omega arith
+        go true e false f = let z : _≡_ {A = ℕ} 0 1 = cc (rw (e, f) at q) in omega arith
+        go false e c f = let z : _≡_ {A = ℕ} 0 1 = cc (rw e at q) in omega arith

@@ -1,24 +1,21 @@
--- Laws of lists of markings: which refusal, what a list that is not refused has, and its markings. Assumes nothing.
+-- Laws of lists of markings: their lengths, refusals 3 of a target and 9 of a list, and a list's markings. Assumes nothing.
 use Prim.Native.Nat.{ℕ, _+_, _*_, _%_, _≤_, _<_, zero-le}
-use mathlib.Core.Path.{_≡_, refl, sym, _∙_}
+use mathlib.Core.Path.{_≡_, sym, _∙_}
 use mathlib.Core.Bool.{Bool, true, false, _&&_}
-use mathlib.Core.List.{List, [], _∷_}
+use mathlib.Core.List.{List}
 use native.Mathlib.Omega.{arith}
 use native.Mathlib.Nat.{div-add-mod'}
 use native.Mathlib.Decide.{decLt}
 use lib.ListN.{length, getD, take, drop, length-drop, List·getD-eq-default}
 use lib.Dec.{ltb, eqb}
-use borrow.Author.Tests.{lt-ltb, le-ltb, ltb-false, eqb-true}
+use borrow.Author.Tests.{lt-ltb, le-ltb, eqb-true}
 use lib.Seq.{length-take-le}
 use Rattle.ground.specs.Limits.{countLimit, listLimit}
-use Rattle.ground.proofs.Tests.{and-true, or-false}
+use Rattle.ground.proofs.Tests.{and-true}
 use Rattle.net.specs.Letter.{Small}
 use Rattle.net.specs.declared.Fault.the-variants.{Sound, Faulty}
 use Rattle.net.proofs.Rows.{row-end, row-at}
-use Rattle.net.proofs.Refusals.{refuse-sound}
-use Rattle.lists.specs.declared.Failure.{Failure}
-use Rattle.lists.specs.declared.Failure.the-variants.{InitialMissing, ResultMissing}
-use Rattle.lists.specs.Whole.{count, markingAt, whole, lowestAny, targetFault, sizeFault, failureNumbers}
+use Rattle.lists.specs.Whole.{count, markingAt, whole, lowestAny, targetFault, sizeFault}
 
 -- whether the list is made of whole markings
 module _ (P : ℕ) (list : List ℕ) where
@@ -62,13 +59,6 @@ module _ (P : ℕ) (list : List ℕ) (n : ℕ) (e : n ≡ count P list) where
 
 pub ruleset sizes = (size-none, size-many, size-fine)
 
--- a list that is not refused has 1 to 4,096 markings
-pub sized-list : (P : ℕ) (list : List ℕ) → sizeFault P list ≡ Sound → (1 ≤ count P list) × (count P list ≤ listLimit)
-unfolding sizeFault
-sized-list P list e =
-    let a = or-false (ltb (count P list) 1) (ltb listLimit (count P list)) (refuse-sound _ 9 0 e) in
-    (ltb-false (count P list) 1 (a .0), ltb-false listLimit (count P list) (a .1))
-
 -- which refusal of a target
 module _ (target : List ℕ) (p : ℕ) (e : p ≡ lowestAny target) where
   pub target-any : p < length target → Faulty 3 p ≡ targetFault target
@@ -80,16 +70,6 @@ module _ (target : List ℕ) (p : ℕ) (e : p ≡ lowestAny target) where
   target-fine h = rw (← e, le-ltb p (length target) h)
 
 pub ruleset targets = (target-any, target-fine)
-
--- the numbers tell any two failures apart
-pub failures-apart : (a b : Failure) → failureNumbers a ≡ failureNumbers b → a ≡ b
-failures-apart InitialMissing InitialMissing e = refl
-failures-apart InitialMissing (ResultMissing k t) e = let z : _≡_ {A = ℕ} 1 2 = cc in absurd (omega arith)
-failures-apart (ResultMissing k t) InitialMissing e = let z : _≡_ {A = ℕ} 2 1 = cc in absurd (omega arith)
-failures-apart (ResultMissing k t) (ResultMissing l u) e =
-    let a : k ≡ l = cc in
-    let b : t ≡ u = cc in
-    rw (a, b)
 
 -- the front of such a room, for P places
 module _ (P : ℕ) (room : List ℕ) (long : length room ≡ countLimit) (few : P ≤ countLimit) where
@@ -116,8 +96,3 @@ module _ (P n : ℕ) (list : List ℕ) (k : ℕ) (long : length list ≡ n * P) 
       go : (p : ℕ) → Dec (p < P) → getD (markingAt P list k) p 0 ≤ b
       go p (yes l) = rw (row-at P k list p l) (s .at (k * P + p))
       go p (no x) = rw (List·getD-eq-default (markingAt P list k) 0 {n = p} (omega (arith, marking-long))) zero-le
-
--- no other case of an answer has a failure's numbers: 0 is the answer looked for, 3 is not shown
-pub not-failure : (why : Failure) (n : ℕ) → (n ≡ 1 → ⊥) → n ∷ [] ≡ failureNumbers why → ⊥
-not-failure InitialMissing n h e = h (cc)
-not-failure (ResultMissing k t) n h e = let z : _≡_ {A = ℕ} 0 1 = cc in absurd (omega arith)

@@ -1,4 +1,4 @@
--- Whether some number below n passes a test, and whether none does.
+-- Only for the code's walk, tied to what is published by proofs/Meaning.antt of closed and cover: whether some number below n passes a test, and whether none does.
 use Prim.Native.Nat.{ℕ}
 use mathlib.Core.Bool.{Bool}
 use lib.Dec.{ltb, leb}

@@ -1,16 +1,16 @@
--- A list of markings as lent: flat, P numbers a marking; and the refusals that closed lists and cover lists share.
+-- To be believed: a list of markings as lent, flat, P numbers a marking; and the refusals of a list and of a target.
 use Prim.Native.Nat.{ℕ, _/_, _%_}
 use mathlib.Core.Bool.{Bool, _&&_, _||_}
-use mathlib.Core.List.{List, [], _∷_}
+use mathlib.Core.List.{List}
 use lib.ListN.{length, getD}
 use lib.Dec.{ltb, eqb}
 use Rattle.ground.specs.Limits.{tokenLimit, listLimit}
 use Rattle.ground.specs.Lists.{first}
 use Rattle.net.specs.Letter.{row}
-use Rattle.net.specs.Given.{refuse}
+use Rattle.net.specs.Given.{refuse, orElse, tokenBad}
 use Rattle.net.specs.declared.Fault.{Fault}
-use Rattle.lists.specs.declared.Failure.{Failure}
-use Rattle.lists.specs.declared.Failure.the-variants.{InitialMissing, ResultMissing}
+use Rattle.lists.specs.declared.Kind.{Kind}
+use Rattle.lists.specs.declared.Kind.the-variants.{Closed, Cover}
 
 -- how many markings the list has
 abbrev pub count : ℕ → List ℕ → ℕ
@@ -24,6 +24,19 @@ markingAt P list k = row P k list
 abbrev pub whole : ℕ → List ℕ → Bool
 whole P list = ltb 0 P && eqb (length list % P) 0
 
+-- 3: "65,535 tokens .., or tokens above capacity"; the first such entry of a closed list, or the number of entries
+abbrev pub badEntry : ℕ → List ℕ → List ℕ → ℕ
+badEntry P caps list = first (λ k. tokenBad (getD caps (k % P) 0) (getD list k 0)) (length list)
+
+-- "tokens above capacity outside cover lists", and "A cover list may hold 65,535": it has no such entry
+unfoldable pub firstBad : Kind → ℕ → List ℕ → List ℕ → ℕ
+firstBad Closed P caps list = badEntry P caps list
+firstBad Cover P caps list = length list
+
+-- its position: "in a list, marking number x P + place"
+unfoldable pub entryFault : Kind → ℕ → List ℕ → List ℕ → Fault
+entryFault kind P caps list = refuse (ltb (firstBad kind P caps list) (length list)) 3 (firstBad kind P caps list)
+
 -- the lowest place with 65,535, or the number of places
 abbrev pub lowestAny : List ℕ → ℕ
 lowestAny m = first (λ p. ltb tokenLimit (getD m p 0)) (length m)
@@ -36,7 +49,6 @@ targetFault target = refuse (ltb (lowestAny target) (length target)) 3 (lowestAn
 unfoldable pub sizeFault : ℕ → List ℕ → Fault
 sizeFault P list = refuse (ltb (count P list) 1 || ltb listLimit (count P list)) 9 0
 
--- a list's failure in numbers: 1, initial missing; 2, result missing, with the marking and the transition
-abbrev pub failureNumbers : Failure → List ℕ
-failureNumbers InitialMissing = 1 ∷ []
-failureNumbers (ResultMissing k t) = 2 ∷ k ∷ t ∷ []
+-- 3 in the list, then in the marking that follows it, then 9
+unfoldable pub listFault : Kind → ℕ → List ℕ → List ℕ → Fault → Fault
+listFault kind P caps list next = orElse (entryFault kind P caps list) (orElse next (sizeFault P list))

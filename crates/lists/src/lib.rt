@@ -1,22 +1,46 @@
 // Inner: lists of markings as lent, flat, P numbers a marking: what closed lists and cover lists
-// share.
+// share. Where the two differ, a function is told the kind.
 use ground::COUNT_LIMIT;
 use ground::LIST_LIMIT;
 use ground::TOKEN_LIMIT;
 use net::Fault;
 ghost use mathlib.Core.Path.{_≡_};
 ghost use mathlib.Core.Bool.{_&&_};
-ghost use Prim.Native.Nat.{_≤_};
+ghost use Prim.Native.Nat.{_*_, _≤_};
 ghost use lib.Dec.{ltb};
 ghost use lib.ListN.{length};
 ghost use Rattle.ground.specs.Limits.{countLimit, tokenLimit};
-ghost use Rattle.lists.specs.Whole.{whole, lowestAny, targetFault, sizeFault};
+ghost use Rattle.net.specs.Given.{unlike};
+ghost use Rattle.lists.specs.Whole.{whole, lowestAny, targetFault, badEntry, firstBad, sizeFault, listFault};
+ghost use Rattle.lists.specs.Match.{alike, beyond, covering, matches, held};
+
+// A closed list holds markings; a cover list covers them, and may hold 65,535 for any number.
+pub enum Kind {
+    Closed,
+    Cover,
+}
 
 // Why a list is not accepted: the initial marking is missing, or the result of a transition at a
 // listed marking, each by its number.
 pub enum Failure {
     InitialMissing,
     ResultMissing(usize, usize),
+}
+
+// The answer to a list: accepted, its failure, or a refusal's number and position.
+pub enum ListAnswer {
+    Accepted,
+    Failed(Failure),
+    Refused(u8, usize),
+}
+
+// The answer to a claim that an accepted list may show, that a target is never reached or covered or
+// that the line never stalls: shown, or not shown; else the list's failure, or a refusal.
+pub enum ClaimAnswer {
+    Shown,
+    NotShown,
+    Failed(Failure),
+    Refused(u8, usize),
 }
 
 // Whether the list is made of whole markings.
@@ -37,21 +61,6 @@ pub fn is_fitting(places: usize, list: &[u16], fits: bool) -> bool
         return fits;
     }
     false
-}
-
-// Refusal 9: no marking, or too many.
-pub fn size_fault(places: usize, list: &[u16]) -> Fault
-    requires { ⌜ 1 ≤ places ⌝ }
-    ensures { λ r. ⌜ r ≡ sizeFault places (now (list .entry)) ⌝ }
-{
-    let n = list.len() / places;
-    if n < 1 {
-        return Fault::Faulty(9, 0);
-    }
-    if LIST_LIMIT < n {
-        return Fault::Faulty(9, 0);
-    }
-    Fault::Sound
 }
 
 // One place has more tokens than may be given.
@@ -87,9 +96,175 @@ pub fn target_fault(target: &[u16]) -> Fault
     }
 }
 
+// The first entry of a closed list that may not be given, or the number of entries.
+fn bad_entry(places: usize, caps: &[u16], list: &[u16]) -> usize
+    requires { ⌜ 1 ≤ places ⌝ }
+    requires { ⌜ length (now caps) ≡ places ⌝ }
+    ensures { λ r. ⌜ r ≡ badEntry places (now (caps .entry)) (now (list .entry)) ⌝ }
+{
+    let mut k = 0;
+    while k < list.len() {
+        let p = k % places;
+        if net::is_bad_token(caps[p], list[k]) {
+            return k;
+        }
+        k += 1;
+    }
+    k
+}
+
+// The same by the list's kind: a cover list has none.
+fn first_bad(kind: Kind, places: usize, caps: &[u16], list: &[u16]) -> usize
+    requires { ⌜ 1 ≤ places ⌝ }
+    requires { ⌜ length (now caps) ≡ places ⌝ }
+    ensures { λ r. ⌜ r ≡ firstBad kind places (now (caps .entry)) (now (list .entry)) ⌝ }
+{
+    match kind {
+        Kind::Closed => bad_entry(places, caps, list),
+        Kind::Cover => list.len(),
+    }
+}
+
+// Refusal 9: no marking, or too many.
+fn size_fault(places: usize, list: &[u16]) -> Fault
+    requires { ⌜ 1 ≤ places ⌝ }
+    ensures { λ r. ⌜ r ≡ sizeFault places (now (list .entry)) ⌝ }
+{
+    let n = list.len() / places;
+    if n < 1 {
+        return Fault::Faulty(9, 0);
+    }
+    if LIST_LIMIT < n {
+        return Fault::Faulty(9, 0);
+    }
+    Fault::Sound
+}
+
+// Refusals 3 and 9 of the list; `next` is what 3 makes of the marking that is lent after it.
+pub fn list_fault(kind: Kind, places: usize, caps: &[u16], list: &[u16], next: Fault) -> Fault
+    requires { ⌜ 1 ≤ places ⌝ }
+    requires { ⌜ length (now caps) ≡ places ⌝ }
+    ensures { λ r. ⌜ r ≡ listFault kind places (now (caps .entry)) (now (list .entry)) next ⌝ }
+{
+    let k = first_bad(kind, places, caps, list);
+    if k < list.len() {
+        return Fault::Faulty(3, k);
+    }
+    match next {
+        Fault::Faulty(number, at) => Fault::Faulty(number, at),
+        Fault::Sound => size_fault(places, list),
+    }
+}
+
 // Room for one marking of as many places as there may be.
 pub fn no_tokens() -> [u32; COUNT_LIMIT]
     ensures { λ r. ⌜ length r ≡ countLimit ⌝ }
 {
     [0; COUNT_LIMIT]
+}
+
+// One place of two markings, as numbers: what is listed is never compared with a number cut short.
+fn is_unlike(listed: u16, tokens: u32) -> bool
+    ensures { λ r. ⌜ r ≡ unlike listed tokens ⌝ }
+{
+    listed as u32 != tokens
+}
+
+// Whether two markings are the same, compared from the first place up.
+fn same_marking(listed: &[u16], marking: &[u32]) -> bool
+    requires { ⌜ length (now listed) ≡ length (now marking) ⌝ }
+    ensures { λ r. ⌜ r ≡ alike (now (listed .entry)) (now (marking .entry)) ⌝ }
+{
+    let mut p = 0;
+    while p < marking.len() {
+        if is_unlike(listed[p], marking[p]) {
+            return false;
+        }
+        p += 1;
+    }
+    true
+}
+
+// One place: the entry is a number, and there are more tokens.
+fn is_beyond(entry: u16, tokens: u32) -> bool
+    ensures { λ r. ⌜ r ≡ beyond entry tokens ⌝ }
+{
+    if entry <= TOKEN_LIMIT {
+        return (entry as u32) < tokens;
+    }
+    false
+}
+
+// Whether one listed marking covers a marking, at every place.
+fn is_covering(listed: &[u16], marking: &[u32]) -> bool
+    requires { ⌜ length (now listed) ≡ length (now marking) ⌝ }
+    ensures { λ r. ⌜ r ≡ covering (now (listed .entry)) (now (marking .entry)) ⌝ }
+{
+    let mut p = 0;
+    while p < marking.len() {
+        if is_beyond(listed[p], marking[p]) {
+            return false;
+        }
+        p += 1;
+    }
+    true
+}
+
+// Whether a listed marking is the marking or covers it, by the list's kind: one branch a marking,
+// none a place.
+fn is_match(kind: Kind, listed: &[u16], marking: &[u32]) -> bool
+    requires { ⌜ length (now listed) ≡ length (now marking) ⌝ }
+    ensures { λ r. ⌜ r ≡ matches kind (now (listed .entry)) (now (marking .entry)) ⌝ }
+{
+    match kind {
+        Kind::Closed => same_marking(listed, marking),
+        Kind::Cover => is_covering(listed, marking),
+    }
+}
+
+// Whether the list holds a marking, or covers it.
+pub fn is_held(kind: Kind, places: usize, count: usize, list: &[u16], marking: &[u32]) -> bool
+    requires { ⌜ length (now list) ≡ count * places ⌝ }
+    requires { ⌜ length (now marking) ≡ places ⌝ }
+    ensures { λ r. ⌜ r ≡ held kind places count (now (list .entry)) (now (marking .entry)) ⌝ }
+{
+    let mut k = 0;
+    while k < count {
+        let a = k * places;
+        let e = a + places;
+        if is_match(kind, &list[a..e], marking) {
+            return true;
+        }
+        k += 1;
+    }
+    false
+}
+
+// The same for a given marking; the room is for the marking in 32 bits.
+fn is_given_held(
+    kind: Kind,
+    places: usize,
+    count: usize,
+    list: &[u16],
+    given: &[u16],
+    room: &mut [u32],
+) -> bool
+    requires { ⌜ length (now list) ≡ count * places ⌝ }
+    requires { ⌜ length (now given) ≡ places ⌝ }
+    requires { ⌜ length (now room) ≡ places ⌝ }
+    ensures { λ r. ⌜ r ≡ held kind places count (now (list .entry)) (now (given .entry)) ⌝ }
+{
+    net::load(given, room);
+    is_held(kind, places, count, list, room)
+}
+
+// The same, with room of its own.
+pub fn holds(kind: Kind, places: usize, count: usize, list: &[u16], given: &[u16]) -> bool
+    requires { ⌜ places ≤ countLimit ⌝ }
+    requires { ⌜ length (now list) ≡ count * places ⌝ }
+    requires { ⌜ length (now given) ≡ places ⌝ }
+    ensures { λ r. ⌜ r ≡ held kind places count (now (list .entry)) (now (given .entry)) ⌝ }
+{
+    let mut room = no_tokens();
+    is_given_held(kind, places, count, list, given, &mut room[..places])
 }

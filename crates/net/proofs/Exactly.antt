@@ -1,6 +1,6 @@
 -- "Exactly when": a chain of refusals is read demand by demand, for any chain and any answer. Assumes nothing.
 use Prim.Native.Nat.{ℕ, _*_, _≤_, _<_}
-use mathlib.Core.Path.{_≡_, refl, sym, _∙_}
+use mathlib.Core.Path.{_≡_, refl, sym, ap, _∙_}
 use mathlib.Core.Bool.{Bool, true, false, not, _&&_, _||_}
 use mathlib.Core.List.{List}
 use mathlib.Core.Logic.{_↔_}
@@ -200,6 +200,10 @@ word-reads T w =
 pub record Answers {A : Type 0} (refused : ℕ → ℕ → A) (f : Fault) (r : A) : Type 0 where
   pub given : (n at : ℕ) → f ≡ Faulty n at → r ≡ refused n at
   pub never : f ≡ Sound → (n at : ℕ) → r ≡ refused n at → ⊥
+
+-- so it is with an answer that is made of the fault
+pub answers-of : {A : Type 0} (refused : ℕ → ℕ → A) (of : Fault → A) (f : Fault) (r : A) → r ≡ of f → ((n at : ℕ) → of (Faulty n at) ≡ refused n at) → ((n at : ℕ) → of Sound ≡ refused n at → ⊥) → Answers refused f r
+answers-of refused of f r e gives none = record { given = λ n at q. e ∙ ap of q ∙ gives n at; never = λ q n at k. none n at (sym (e ∙ ap of q) ∙ k) }
 
 module _ {A : Type 0} {refused : ℕ → ℕ → A} {f : Fault} {r : A} (a : Answers refused f r) where
   pub fault-is : ((n at k p : ℕ) → refused n at ≡ refused k p → (n ≡ k) × (at ≡ p)) → (n at : ℕ) → r ≡ refused n at → f ≡ Faulty n at

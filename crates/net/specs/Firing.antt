@@ -1,4 +1,4 @@
--- Firing as published: 001's relation m[t> m′ with its capacity rule, and the words and markings that follow from it.
+-- To be believed: firing as published: 001's relation m[t> m′ with its capacity rule, and the words and markings that follow from it.
 -- No node need have an arc: 003 permits isolated places and transitions, and 01 follows it.
 use Prim.Native.Nat.{ℕ, _≤_, _<_}
 use mathlib.Core.Path.{_≡_}

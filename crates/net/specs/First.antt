@@ -1,4 +1,4 @@
--- "Exactly when": 01's table of refusals, read demand by demand. The first demand that does not hold gives its number and position.
+-- To be believed: "Exactly when": 01's table of refusals, read demand by demand. The first demand that does not hold gives its number and position.
 use Prim.Native.Nat.{ℕ, _*_, _≤_, _<_}
 use mathlib.Core.Path.{_≡_}
 use mathlib.Core.List.{List}

@@ -1,4 +1,4 @@
--- What is lent, and the refusals that the entries share, "in number order": 1, 2 and 3 for a net and its marking, 4 and 5 for a word.
+-- To be believed: what is lent, and the refusals that the entries share, "in number order": 1, 2 and 3 for a net and its marking, 4 and 5 for a word.
 use Prim.Native.Nat.{ℕ, _*_, _-_, _≤_, _<_}
 use mathlib.Core.Path.{_≡_}
 use mathlib.Core.Bool.{Bool, true, false, not, _&&_, _||_}

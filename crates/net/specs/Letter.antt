@@ -1,4 +1,4 @@
--- One letter judged and fired, as the code does it: tests on one place's numbers, then the lowest place that fails one.
+-- Only for the code's walk, tied to what is published by proofs/Judged.antt: one letter judged and fired by tests on one place's numbers, then the lowest place that fails one.
 use Prim.Native.Nat.{ℕ, _+_, _-_, _*_, _≤_}
 use mathlib.Core.Path.{_≡_}
 use mathlib.Core.Bool.{Bool, cond, _&&_, _||_}

@@ -1,4 +1,4 @@
--- A net as lent, and its parts by document 01's names ("Nets and firing"; 001, "Elementary System Nets" and its capacities).
+-- To be believed: a net as lent, and its parts by document 01's names ("Nets and firing"; 001, "Elementary System Nets" and its capacities).
 use Prim.Native.Nat.{ℕ, _+_, _-_, _*_, _<_}
 use mathlib.Core.List.{List}
 use lib.ListN.{getD}

@@ -1,4 +1,4 @@
--- The public replay: refusals 1 to 5 "in number order", else the replay from the initial marking.
+-- To be believed: the public replay: refusals 1 to 5 "in number order", else the replay from the initial marking.
 use Prim.Native.Nat.{ℕ, _≤_, _<_}
 use mathlib.Core.Path.{_≡_}
 use mathlib.Core.Bool.{Bool, true, _&&_}

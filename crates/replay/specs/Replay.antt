@@ -1,4 +1,4 @@
--- The replay of a word, letter by letter.
+-- To be believed: the replay of a word, letter by letter.
 use Prim.Native.Nat.{ℕ, _+_}
 use mathlib.Core.Path.{_≡_}
 use mathlib.Core.List.{List, [], _∷_}

@@ -3,18 +3,20 @@
 use mathlib.Core.Path.{_≡_, refl}
 use mathlib.Core.Bool.{true}
 use Rattle.ground.specs.Lists.{first, tally, mapAt}
-use Rattle.net.specs.Given.{countsFault, netFault, markingFault, startFault, markedFault}
+use Rattle.net.specs.Given.{countsFault, markingFault, startFault}
 use Rattle.net.specs.declared.Fault.the-variants.{Sound}
 use Rattle.lists.specs.Some.{some, none}
-use Rattle.lists.specs.Whole.{sizeFault}
+use Rattle.lists.specs.Whole.{firstBad, entryFault, sizeFault, listFault}
+use Rattle.lists.specs.Match.{matches}
 use Rattle.lists.specs.Pairs.{resultsOf, lookedOf}
+use Rattle.lists.specs.declared.Kind.the-variants.{Closed}
 use Rattle.lists.specs.declared.Failure.the-variants.{ResultMissing}
-use Rattle.closed.specs.Listing.{missing}
-use Rattle.closed.specs.Given.{entryFault, listFault, closedFault, closedOf}
-use Rattle.closed.specs.declared.Closed.the-variants.{Accepted, Failed}
+use Rattle.lists.specs.declared.ListAnswer.the-variants.{Accepted, Failed}
+use Rattle.list_check.specs.Look.{absent}
+use Rattle.list_check.specs.Given.{givenFault, listOf}
 use Rattle.samples.specs.Samples.{net, initial}
 use Rattle.samples.specs.Edges.{allTwelve, struckOut}
 
-pub edges : (closedOf net initial allTwelve true Sound ≡ Accepted) × (closedOf net initial struckOut true Sound ≡ Failed (ResultMissing 5 0))
-unfolding first tally mapAt countsFault netFault markingFault startFault markedFault some none sizeFault resultsOf lookedOf missing entryFault listFault closedFault
+pub edges : (listOf Closed net initial allTwelve true Sound ≡ Accepted) × (listOf Closed net initial struckOut true Sound ≡ Failed (ResultMissing 5 0))
+unfolding first tally mapAt countsFault markingFault startFault some none firstBad entryFault sizeFault listFault matches resultsOf lookedOf absent givenFault listOf
 edges = (refl, refl)

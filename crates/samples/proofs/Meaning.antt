@@ -22,19 +22,22 @@ use Rattle.weighting.specs.Weighting.{sum}
 use Rattle.weighting.specs.Bound.{foundBound}
 use Rattle.weighting.proofs.Meaning.{bound-holds}
 use Rattle.sets.specs.Sets.{Siphon, Trap}
-use Rattle.sets.proofs.Meaning.{allowed-of, siphon-accepted, trap-accepted}
+use Rattle.sets.proofs.Allowed.{allowed-of}
+use Rattle.sets.proofs.Meaning.{siphon-accepted, trap-accepted}
 use Rattle.sets.specs.Answer.{touches, escapes, setFault}
 use Rattle.lists.specs.Some.{some, none}
-use Rattle.lists.specs.Whole.{targetFault, sizeFault}
+use Rattle.lists.specs.Whole.{targetFault, firstBad, entryFault, sizeFault, listFault}
+use Rattle.lists.specs.Answers.{claimOf}
+use Rattle.lists.specs.Match.{matches}
 use Rattle.lists.specs.Pairs.{resultsOf, lookedOf}
-use Rattle.cover.specs.Looking.{missing}
-use Rattle.cover.specs.Given.{listFault, coverFault}
+use Rattle.list_check.specs.Look.{absent}
+use Rattle.list_check.specs.Given.{givenFault, listOf}
 use Rattle.cover.proofs.Meaning.{target-never}
 use Rattle.samples.specs.Samples.{net, initial, coverSample, answerOf, samples}
 
 -- each question has the answer that 01 gives, whatever numbers a, b, c the room of a replay held before
 pub twelve : (a b c : ℕ) → map (λ s. answerOf (a ∷ b ∷ c ∷ []) (s .question)) samples ≡ map (λ s. s .answer) samples
-unfolding first tally most mapAt table countsFault netFault markingFault startFault markedFault wordFault playFrom replayFault change need climb slotOf joined slotBad partFault shapeFault laterFault joinFault sum foundBound touches escapes setFault some none targetFault sizeFault resultsOf lookedOf missing listFault coverFault
+unfolding first tally most mapAt table countsFault netFault markingFault startFault markedFault wordFault playFrom replayFault change need climb slotOf joined slotBad partFault shapeFault laterFault joinFault sum foundBound touches escapes setFault some none targetFault firstBad entryFault sizeFault listFault claimOf matches resultsOf lookedOf absent givenFault listOf
 twelve a b c = refl
 
 -- ---- what some of them mean in the published definitions, by the theorems of their crates
@@ -74,5 +77,5 @@ sample-trap = trap-accepted net (1 ∷ 1 ∷ 0 ∷ []) (allowed-of net (1 ∷ 1 
 
 -- sample 12: no reachable marking has a token in place 0 and one in place 1
 pub sample-cover : (m : List ℕ) → Reachable net initial m → ((p : ℕ) → p < 3 → tokens (1 ∷ 1 ∷ 0 ∷ []) p ≤ tokens m p) → ⊥
-unfolding first table countsFault netFault markingFault startFault markedFault some none targetFault sizeFault resultsOf lookedOf missing listFault coverFault
+unfolding first table countsFault netFault markingFault startFault markedFault some none targetFault firstBad entryFault sizeFault listFault claimOf matches resultsOf lookedOf absent givenFault listOf
 sample-cover = target-never net initial coverSample (1 ∷ 1 ∷ 0 ∷ []) refl

@@ -14,7 +14,7 @@ use Rattle.weighting.specs.Bound.{boundOf}
 use Rattle.weighting.specs.Transition.{transitionOf}
 use Rattle.weighting.proofs.Numbers.{place-unique, bound-unique, transition-unique}
 use Rattle.sets.specs.Answer.{siphonOf, trapOf}
-use Rattle.sets.proofs.Meaning.{siphon-unique, trap-unique}
+use Rattle.sets.proofs.Numbers.{siphon-unique, trap-unique}
 use Rattle.cover.proofs.Meaning.{unique-list, unique-target}
 use Rattle.samples.specs.Samples.{net, initial, Question, word, summary, joinAt, weighting, bound, transitions, siphon, trap, cover, target, weighed, bounded, transitionsWeighed, ofSet, ofList, ofTarget, slots, wordSummed, joinSummed, answerOf, Sample, samples}
 use Rattle.samples.specs.Promised.{Result, Promised, told, Kept, Each, none, also}

@@ -1,4 +1,4 @@
--- One of document 01's "Edges to run" that is proved too: the closed list of the case's net.
+-- To be believed: one of document 01's "Edges to run" that is proved too: the closed list of the case's net.
 use Prim.Native.Nat.{ℕ}
 use mathlib.Core.List.{List, [], _∷_, _++_}
 

@@ -1,4 +1,4 @@
--- The samples as the code answers them: what each entry gives back for a question, and what its contract promises of that.
+-- To be believed: the samples as the code answers them: what each entry gives back for a question, and what its contract promises of that.
 use Prim.Native.Nat.{ℕ}
 use mathlib.Core.Path.{_≡_}
 use mathlib.Core.Bool.{true}
@@ -19,10 +19,11 @@ use Rattle.weighting.specs.declared.Bound.{Bound}
 use Rattle.weighting.specs.declared.TransitionWeighting.{TransitionWeighting}
 use Rattle.sets.specs.Answer.{siphonOf, trapOf, setNumbers}
 use Rattle.sets.specs.declared.SetAnswer.{SetAnswer}
-use Rattle.cover.specs.Given.{coverOf, numbers}
-use Rattle.cover.specs.Target.{targetOf, targetNumbers}
-use Rattle.cover.specs.declared.Cover.{Cover}
-use Rattle.cover.specs.declared.CoverTarget.{CoverTarget}
+use Rattle.lists.specs.Answers.{numbers, claimNumbers}
+use Rattle.lists.specs.declared.Kind.the-variants.{Cover}
+use Rattle.lists.specs.declared.ListAnswer.{ListAnswer}
+use Rattle.lists.specs.declared.ClaimAnswer.{ClaimAnswer}
+use Rattle.list_check.specs.Given.{listOf, targetOf}
 use Rattle.samples.specs.Samples.{net, initial, Question, word, summary, joinAt, weighting, bound, transitions, siphon, trap, cover, target, Answer, leaves, slots, weighed, bounded, transitionsWeighed, ofSet, ofList, ofTarget, wordSummed, Sample}
 
 -- what is given back: a replay's answer and the room at its end; for a join the two words' summaries too
@@ -35,8 +36,8 @@ Result (bound y p) = Bound
 Result (transitions x) = TransitionWeighting
 Result (siphon s) = SetAnswer
 Result (trap s) = SetAnswer
-Result (cover list) = Cover
-Result (target list m) = CoverTarget
+Result (cover list) = ListAnswer
+Result (target list m) = ClaimAnswer
 
 -- the `ensures` of replay_word, summary_word, join_summaries, place_weighting, place_bound, transition_weighting, siphon_set, trap_set,
 -- cover_list and cover_target, on the case's net
@@ -50,8 +51,8 @@ Promised room (bound y p) r = boundNumbers r ≡ boundNumbers (boundOf net initi
 Promised room (transitions x) r = transitionNumbers r ≡ transitionNumbers (transitionOf net x)
 Promised room (siphon s) r = setNumbers r ≡ setNumbers (siphonOf net s)
 Promised room (trap s) r = setNumbers r ≡ setNumbers (trapOf net s)
-Promised room (cover list) r = numbers r ≡ numbers (coverOf net initial list true Sound)
-Promised room (target list m) r = targetNumbers r ≡ targetNumbers (targetOf net initial list m)
+Promised room (cover list) r = numbers r ≡ numbers (listOf Cover net initial list true Sound)
+Promised room (target list m) r = claimNumbers r ≡ claimNumbers (targetOf Cover net initial list m)
 
 -- the answer that it holds
 abbrev pub told : (q : Question) → Result q → Answer

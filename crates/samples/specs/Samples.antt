@@ -1,4 +1,4 @@
--- Document 01's twelve samples ("Proved samples from the case above"): each a question about the net of its case file, and the
+-- To be believed: document 01's twelve samples ("Proved samples from the case above"): each a question about the net of its case file, and the
 -- answer that 01 gives. `answerOf` answers by the very definitions that the entries promise.
 use Prim.Native.Nat.{ℕ}
 use mathlib.Core.Bool.{true}
@@ -31,12 +31,12 @@ use Rattle.weighting.specs.declared.TransitionWeighting.the-variants.{Proper}
 use Rattle.sets.specs.Answer.{siphonOf, trapOf}
 use Rattle.sets.specs.declared.SetAnswer.{SetAnswer}
 use Rattle.sets.specs.declared.SetAnswer.the-variants.{Yes, No}
-use Rattle.cover.specs.Given.{coverOf}
-use Rattle.cover.specs.Target.{targetOf}
-use Rattle.cover.specs.declared.Cover.{Cover}
-use Rattle.cover.specs.declared.Cover.the-variants.{Accepted}
-use Rattle.cover.specs.declared.CoverTarget.{CoverTarget}
-use Rattle.cover.specs.declared.CoverTarget.the-variants.{NeverCovered}
+use Rattle.lists.specs.declared.Kind.the-variants.{Cover}
+use Rattle.lists.specs.declared.ListAnswer.{ListAnswer}
+use Rattle.lists.specs.declared.ListAnswer.the-variants.{Accepted}
+use Rattle.lists.specs.declared.ClaimAnswer.{ClaimAnswer}
+use Rattle.lists.specs.declared.ClaimAnswer.the-variants.{Shown}
+use Rattle.list_check.specs.Given.{listOf, targetOf}
 
 -- the case's net, by its frames: 3 places and 3 transitions (01); capacities none, none, 5 (02); for each transition what it takes and
 -- puts (04): 0 takes (1,0,0) and puts (0,1,0), 1 takes (0,1,0) and puts (1,0,2), 2 takes (0,0,3) and puts nothing
@@ -78,8 +78,8 @@ pub data Answer : Type 0 where
   bounded : Bound → Answer
   transitionsWeighed : TransitionWeighting → Answer
   ofSet : SetAnswer → Answer
-  ofList : Cover → Answer
-  ofTarget : CoverTarget → Answer
+  ofList : ListAnswer → Answer
+  ofTarget : ClaimAnswer → Answer
 
 -- the summary of a word, and of one word joined with another
 abbrev pub wordSummed : List ℕ → Summed
@@ -98,8 +98,8 @@ answerOf room (bound y p) = bounded (boundOf net initial y p)
 answerOf room (transitions x) = transitionsWeighed (transitionOf net x)
 answerOf room (siphon s) = ofSet (siphonOf net s)
 answerOf room (trap s) = ofSet (trapOf net s)
-answerOf room (cover list) = ofList (coverOf net initial list true Sound)
-answerOf room (target list m) = ofTarget (targetOf net initial list m)
+answerOf room (cover list) = ofList (listOf Cover net initial list true Sound)
+answerOf room (target list m) = ofTarget (targetOf Cover net initial list m)
 
 -- a sample with 01's number
 pub record Sample : Type 0 where
@@ -148,5 +148,5 @@ samples =
     ∷ sample 11 (trap (0 ∷ 0 ∷ 1 ∷ [])) (ofSet (No 2))
     -- "cover list (1,0,any), (0,1,any) accepted, (1,1,0) never covered."
     ∷ sample 12 (cover coverSample) (ofList Accepted)
-    ∷ sample 12 (target coverSample (1 ∷ 1 ∷ 0 ∷ [])) (ofTarget NeverCovered)
+    ∷ sample 12 (target coverSample (1 ∷ 1 ∷ 0 ∷ [])) (ofTarget Shown)
     ∷ []

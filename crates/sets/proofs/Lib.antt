@@ -1,2 +1,5 @@
 pub mod Touches
+pub mod Allowed
+pub mod Numbers
 pub mod Meaning
+pub mod Exactly

@@ -1,186 +1,122 @@
 -- What the answers for sets mean, by the published definitions of firing, siphons and traps. Assumes nothing.
-use Prim.Native.Nat.{ℕ, _+_, _*_, _≤_, _<_}
+use Prim.Native.Nat.{ℕ, _≤_, _<_}
 use mathlib.Core.Path.{_≡_, refl, sym, ap, _∙_}
-use mathlib.Core.Bool.{Bool, true, false, not, cond}
+use mathlib.Core.Bool.{Bool, true, false, not}
 use mathlib.Core.Logic.{_↔_}
-use mathlib.Core.List.{List, [], _∷_}
+use mathlib.Core.List.{List}
 use native.Mathlib.Omega.{arith}
 use native.Mathlib.Decide.{decLt}
-use lib.ListN.{length, getD, List·getD-eq-default}
-use lib.Dec.{ltb, eqb}
-use borrow.Author.Tests.{lt-ltb, le-ltb, ltb-true, ltb-false, lt-leb, leb-false, eq-eqb}
+use lib.ListN.{length, getD}
+use lib.Dec.{ltb}
+use borrow.Author.Tests.{lt-ltb, le-ltb, ltb-true, ltb-false}
 use Rattle.ground.specs.Lists.{first}
 use Rattle.ground.proofs.Tests.{never, and-true}
 use Rattle.ground.proofs.Scan.{first-at, first-none, first-below, first-passes}
 use Rattle.net.specs.Net.{Net, Pre, Post, tokens}
 use Rattle.net.specs.Firing.{Firing, Fires, Reachable}
-use Rattle.net.specs.Letter.{row}
-use Rattle.net.specs.Given.{refuse, netFault, Sized}
-use Rattle.net.specs.declared.Fault.the-variants.{Sound}
-use Rattle.net.proofs.Rows.{row-at}
-use Rattle.net.proofs.Refusals.{sound-or, sound-refuse, sized-is}
 use Rattle.net.proofs.Meaning.{gives-plain, kept}
-use Rattle.sets.specs.Sets.{In, Some, PutsInto, TakesFrom, Siphon, Trap, SiphonFails, TrapFails, Marked, Unmarked, Allowed}
-use Rattle.sets.specs.Answer.{meets, touches, escapes, lowestEscape, turned, noPlaces, setFault, siphonOf, trapOf, setNumbers}
-use Rattle.sets.specs.declared.SetAnswer.{SetAnswer}
-use Rattle.sets.specs.declared.SetAnswer.the-variants.{Yes, No, Refused}
-use Rattle.sets.proofs.Touches.{set-sound, turned-is}
-
--- ---- the numbers of two answers tell them apart: an answer can be read back from them
-abbrev back : List ℕ → SetAnswer
-back (k ∷ n ∷ at ∷ l) = cond (eqb k 0x81) (No at) (Refused n at)
-back (k ∷ n ∷ []) = Yes
-back (k ∷ []) = Yes
-back [] = Yes
-
-back-is : (a : SetAnswer) → back (setNumbers a) ≡ a
-back-is Yes = refl
-back-is (No t) = refl
-back-is (Refused n at) = refl
-
-pub numbers-apart : (a b : SetAnswer) → setNumbers a ≡ setNumbers b → a ≡ b
-numbers-apart a b e = sym (back-is a) ∙ ap back e ∙ back-is b
-
--- each promise has one answer
-pub siphon-unique : (net : Net) (s : List ℕ) (r r′ : SetAnswer) → setNumbers r ≡ setNumbers (siphonOf net s) → setNumbers r′ ≡ setNumbers (siphonOf net s) → r ≡ r′
-siphon-unique net s r r′ p q = numbers-apart r r′ (p ∙ sym q)
-
-pub trap-unique : (net : Net) (s : List ℕ) (r r′ : SetAnswer) → setNumbers r ≡ setNumbers (trapOf net s) → setNumbers r′ ≡ setNumbers (trapOf net s) → r ≡ r′
-trap-unique net s r r′ p q = numbers-apart r r′ (p ∙ sym q)
+use Rattle.sets.specs.Sets.{In, Some, PutsInto, TakesFrom, Siphon, Trap, SiphonFails, TrapFails, Marked, Unmarked}
+use Rattle.sets.specs.Allowed.{Allowed}
+use Rattle.sets.specs.Answer.{meets, touches, escapes, lowestEscape, turned, judgedSet, siphonOf, trapOf}
+use Rattle.sets.specs.declared.SetAnswer.the-variants.{Yes, No}
+use Rattle.sets.proofs.Allowed.{of-allowed}
 
 -- ---- the tests say what is published
 -- a row touches the set exactly where some place of the set has an arc in it
-module _ (P t : ℕ) (l s : List ℕ) (long : length s ≡ P) where
-  touch-of : touches (row P t l) s ≡ true → Some P s (λ p. getD l (t * P + p) 0)
+module _ (P : ℕ) (s : List ℕ) (weight : ℕ → ℕ) (long : length s ≡ P) where
+  touch-of : touches s weight ≡ true → Some P s weight
   unfolding touches
   touch-of e =
-      let f : ℕ → Bool = λ p. meets (getD (row P t l) p 0) (getD s p 0) in
+      let f : ℕ → Bool = λ p. meets (weight p) (getD s p 0) in
       let h = ltb-true (first f (length s)) (length s) e in
       let m = and-true _ _ (first-passes f (length s) h) in
-      let b : first f (length s) < P = omega arith in
-      record { place = first f (length s); here = b; member = ltb-true _ _ (m .0); some = rw (← row-at P t l (first f (length s)) b) (ltb-true _ _ (m .1)) }
+      record { place = first f (length s); here = rw (← long) h; member = ltb-true _ _ (m .0); some = ltb-true _ _ (m .1) }
 
-  of-touch : Some P s (λ p. getD l (t * P + p) 0) → touches (row P t l) s ≡ true
+  of-touch : Some P s weight → touches s weight ≡ true
   unfolding touches
-  of-touch x = go (decLt (first (λ p. meets (getD (row P t l) p 0) (getD s p 0)) (length s)) (length s))
+  of-touch x = go (decLt (first (λ p. meets (weight p) (getD s p 0)) (length s)) (length s))
     where
-      met : meets (getD (row P t l) (x .place) 0) (getD s (x .place) 0) ≡ true
-      met = rw (lt-ltb 0 (getD s (x .place) 0) (x .member), row-at P t l (x .place) (x .here)) (lt-ltb 0 _ (x .some))
+      met : meets (weight (x .place)) (getD s (x .place) 0) ≡ true
+      met = rw (lt-ltb 0 (getD s (x .place) 0) (x .member)) (lt-ltb 0 _ (x .some))
 
-      go : Dec (first (λ p. meets (getD (row P t l) p 0) (getD s p 0)) (length s) < length s) → ltb (first (λ p. meets (getD (row P t l) p 0) (getD s p 0)) (length s)) (length s) ≡ true
+      go : Dec (first (λ p. meets (weight p) (getD s p 0)) (length s) < length s) → ltb (first (λ p. meets (weight p) (getD s p 0)) (length s)) (length s) ≡ true
       go (yes h) = lt-ltb _ _ h
-      go (no h) = never (sym met ∙ first-below (λ p. meets (getD (row P t l) p 0) (getD s p 0)) (length s) (x .place) (omega (arith, x .here)))
+      go (no h) = never (sym met ∙ first-below (λ p. meets (weight p) (getD s p 0)) (length s) (x .place) (omega (arith, x .here)))
 
 module _ (net : Net) (s : List ℕ) (long : length s ≡ net .places) (t : ℕ) where
-  escape-of : escapes (row (net .places) t (net .pre)) (row (net .places) t (net .post)) s ≡ true → PutsInto net s t × (TakesFrom net s t → ⊥)
+  escape-of : escapes net s t ≡ true → PutsInto net s t × (TakesFrom net s t → ⊥)
   unfolding escapes
   escape-of e =
       let a = and-true _ _ e in
-      (touch-of (net .places) t (net .post) s long (a .0), λ x. never (sym (a .1) ∙ ap not (of-touch (net .places) t (net .pre) s long x)))
+      (touch-of (net .places) s (λ p. Post net p t) long (a .0), λ x. never (sym (a .1) ∙ ap not (of-touch (net .places) s (λ p. Pre net p t) long x)))
 
-  closed-of : escapes (row (net .places) t (net .pre)) (row (net .places) t (net .post)) s ≡ false → PutsInto net s t → TakesFrom net s t
+  closed-of : escapes net s t ≡ false → PutsInto net s t → TakesFrom net s t
   unfolding escapes
-  closed-of e x = go (touches (row (net .places) t (net .pre)) s) refl
+  closed-of e x = go (touches s (λ p. Pre net p t)) refl
     where
-      go : (b : Bool) → touches (row (net .places) t (net .pre)) s ≡ b → TakesFrom net s t
-      go true q = touch-of (net .places) t (net .pre) s long q
-      go false q = never (rw (of-touch (net .places) t (net .post) s long x, q) at e)
+      go : (b : Bool) → touches s (λ p. Pre net p t) ≡ b → TakesFrom net s t
+      go true q = touch-of (net .places) s (λ p. Pre net p t) long q
+      go false q = never (rw (of-touch (net .places) s (λ p. Post net p t) long x, q) at e)
 
-  of-closed : (PutsInto net s t → TakesFrom net s t) → escapes (row (net .places) t (net .pre)) (row (net .places) t (net .post)) s ≡ false
-  of-closed f = go (escapes (row (net .places) t (net .pre)) (row (net .places) t (net .post)) s) refl
+  of-closed : (PutsInto net s t → TakesFrom net s t) → escapes net s t ≡ false
+  of-closed f = go (escapes net s t) refl
     where
-      go : (b : Bool) → escapes (row (net .places) t (net .pre)) (row (net .places) t (net .post)) s ≡ b → escapes (row (net .places) t (net .pre)) (row (net .places) t (net .post)) s ≡ false
+      go : (b : Bool) → escapes net s t ≡ b → escapes net s t ≡ false
       go true q = let x = escape-of q in absurd (x .1 (f (x .0)))
       go false q = q
 
-  of-escape : PutsInto net s t → (TakesFrom net s t → ⊥) → escapes (row (net .places) t (net .pre)) (row (net .places) t (net .post)) s ≡ true
-  of-escape x n = go (escapes (row (net .places) t (net .pre)) (row (net .places) t (net .post)) s) refl
+  of-escape : PutsInto net s t → (TakesFrom net s t → ⊥) → escapes net s t ≡ true
+  of-escape x n = go (escapes net s t) refl
     where
-      go : (b : Bool) → escapes (row (net .places) t (net .pre)) (row (net .places) t (net .post)) s ≡ b → escapes (row (net .places) t (net .pre)) (row (net .places) t (net .post)) s ≡ true
+      go : (b : Bool) → escapes net s t ≡ b → escapes net s t ≡ true
       go true q = q
       go false q = absurd (n (closed-of q x))
 
--- nothing is refused exactly where the set is allowed
-pub allowed-of : (net : Net) (s : List ℕ) → setFault net s ≡ Sound → Allowed net s
-allowed-of net s e =
-    let w = set-sound net s e in
-    let l = leb-false (length s) (first (λ p. ltb 0 (getD s p 0)) (length s)) (w .2) in
-    record { sized = w .0; long = w .1; some = λ h. h _ (ltb-true _ _ (first-passes (λ p. ltb 0 (getD s p 0)) (length s) l)) }
-
-pub of-allowed : (net : Net) (s : List ℕ) → Allowed net s → setFault net s ≡ Sound
-unfolding setFault
-of-allowed net s a =
-    sound-or (netFault net (eqb (length s) (net .places))) (refuse (noPlaces s) 8 0) (sized-is net (eqb (length s) (net .places)) (a .sized) (eq-eqb (length s) (net .places) (a .long)))
-    (sound-refuse (noPlaces s) 8 0 (go (decLt (first (λ p. ltb 0 (getD s p 0)) (length s)) (length s))))
-  where
-    out : length s ≤ first (λ p. ltb 0 (getD s p 0)) (length s) → (p : ℕ) → Dec (p < length s) → In s p → ⊥
-    out h p (yes l) i = never (sym (lt-ltb 0 (getD s p 0) i) ∙ first-below (λ p. ltb 0 (getD s p 0)) (length s) p (omega arith))
-    out h p (no l) i = omega (arith, List·getD-eq-default s 0 {n = p} (omega arith))
-
-    go : Dec (first (λ p. ltb 0 (getD s p 0)) (length s) < length s) → noPlaces s ≡ false
-    go (yes h) = lt-leb (length s) (first (λ p. ltb 0 (getD s p 0)) (length s)) h
-    go (no h) = absurd (a .some (λ p. out (omega arith) p (decLt p (length s))))
-
 -- ---- accepted exactly if the published definition holds, and the named transition is the lowest at which it fails
-module _ (net : Net) (s : List ℕ) (ok : Allowed net s) where
-  escape : ℕ → Bool
-  escape t = escapes (row (net .places) t (net .pre)) (row (net .places) t (net .post)) s
+module _ (net : Net) (s : List ℕ) (long : length s ≡ net .places) where
+  judged-yes : (judgedSet net s ≡ Yes) ↔ Siphon net s
+  judged-yes = (λ e. go e (ltb (lowestEscape net s) (net .transitions)) refl, λ i. rw (le-ltb (lowestEscape net s) (net .transitions) (none i)))
+    where
+      none : Siphon net s → net .transitions ≤ lowestEscape net s
+      none i = let e = first-none (escapes net s) (net .transitions) (λ t h. of-closed net s long t (i t h)) in omega arith
 
-  siphon-is : siphonOf net s ≡ cond (ltb (lowestEscape net s) (net .transitions)) (No (lowestEscape net s)) Yes
+      go : judgedSet net s ≡ Yes → (b : Bool) → ltb (lowestEscape net s) (net .transitions) ≡ b → Siphon net s
+      go e true q = let z : No (lowestEscape net s) ≡ Yes = rw q at e in let k : _≡_ {A = ℕ} 0 1 = cc in absurd (omega arith)
+      go e false q = let l = ltb-false (lowestEscape net s) (net .transitions) q in λ t h. closed-of net s long t (first-below (escapes net s) (net .transitions) t (omega arith))
+
+  judged-no : (t : ℕ) → (judgedSet net s ≡ No t) ↔ SiphonFails net s t
+  judged-no t = (λ e. go e (ltb (lowestEscape net s) (net .transitions)) refl, λ f. let q = low f in rw (q, lt-ltb t (net .transitions) (f .here)))
+    where
+      low : SiphonFails net s t → lowestEscape net s ≡ t
+      low f = first-at (escapes net s) (net .transitions) t (λ u h. of-closed net s long u (f .lowest u h)) (of-escape net s long t (f .one) (f .other)) (f .here)
+
+      go : judgedSet net s ≡ No t → (b : Bool) → ltb (lowestEscape net s) (net .transitions) ≡ b → SiphonFails net s t
+      go e true q =
+          let z : No (lowestEscape net s) ≡ No t = rw q at e in
+          let k : lowestEscape net s ≡ t = cc in
+          let h = ltb-true _ _ q in
+          let x = escape-of net s long (lowestEscape net s) (first-passes (escapes net s) (net .transitions) h) in
+          rw (← k) (record { here = h; one = x .0; other = x .1; lowest = λ u l. closed-of net s long u (first-below (escapes net s) (net .transitions) u l) })
+      go e false q = let z : Yes ≡ No t = rw q at e in let k : _≡_ {A = ℕ} 0 1 = cc in absurd (omega arith)
+
+module _ (net : Net) (s : List ℕ) (ok : Allowed net s) where
+  siphon-is : siphonOf net s ≡ judgedSet net s
   siphon-is = rw (of-allowed net s ok)
 
   pub siphon-accepted : (siphonOf net s ≡ Yes) ↔ Siphon net s
-  unfolding escape
-  siphon-accepted = (λ e. go e (ltb (lowestEscape net s) (net .transitions)) refl, λ i. siphon-is ∙ rw (le-ltb (lowestEscape net s) (net .transitions) (none i)))
-    where
-      none : Siphon net s → net .transitions ≤ lowestEscape net s
-      none i = let e = first-none escape (net .transitions) (λ t h. of-closed net s (ok .long) t (i t h)) in omega arith
-
-      go : siphonOf net s ≡ Yes → (b : Bool) → ltb (lowestEscape net s) (net .transitions) ≡ b → Siphon net s
-      go e true q = let z : No (lowestEscape net s) ≡ Yes = sym (rw q at siphon-is) ∙ e in let k : _≡_ {A = ℕ} 0 1 = cc in absurd (omega arith)
-      go e false q = let l = ltb-false (lowestEscape net s) (net .transitions) q in λ t h. closed-of net s (ok .long) t (first-below escape (net .transitions) t (omega arith))
+  siphon-accepted = rw siphon-is (judged-yes net s (ok .long))
 
   pub siphon-fails-at : (t : ℕ) → (siphonOf net s ≡ No t) ↔ SiphonFails net s t
-  unfolding escape
-  siphon-fails-at t = (λ e. go e (ltb (lowestEscape net s) (net .transitions)) refl, λ f. let q = low f in siphon-is ∙ rw (q, lt-ltb t (net .transitions) (f .here)))
-    where
-      low : SiphonFails net s t → lowestEscape net s ≡ t
-      low f = first-at escape (net .transitions) t (λ u h. of-closed net s (ok .long) u (f .lowest u h)) (of-escape net s (ok .long) t (f .one) (f .other)) (f .here)
+  siphon-fails-at t = rw siphon-is (judged-no net s (ok .long) t)
 
-      go : siphonOf net s ≡ No t → (b : Bool) → ltb (lowestEscape net s) (net .transitions) ≡ b → SiphonFails net s t
-      go e true q =
-          let z : No (lowestEscape net s) ≡ No t = sym (rw q at siphon-is) ∙ e in
-          let k : lowestEscape net s ≡ t = cc in
-          let h = ltb-true _ _ q in
-          let x = escape-of net s (ok .long) (lowestEscape net s) (first-passes escape (net .transitions) h) in
-          rw (← k) (record { here = h; one = x .0; other = x .1; lowest = λ u l. closed-of net s (ok .long) u (first-below escape (net .transitions) u l) })
-      go e false q = let z : Yes ≡ No t = sym (rw q at siphon-is) ∙ e in let k : _≡_ {A = ℕ} 0 1 = cc in absurd (omega arith)
-
--- a trap is a siphon of the net with all arcs turned round
-module _ (net : Net) (s : List ℕ) (ok : Allowed net s) where
-  turned-sized : Sized net → Sized (turned net)
-  turned-sized z =
-      record {
-        some-places = z .some-places;
-        few-places = z .few-places;
-        some-transitions = z .some-transitions;
-        few-transitions = z .few-transitions;
-        pres = z .posts;
-        posts = z .pres;
-        capped = z .capped;
-      }
-
-  turned-allowed : Allowed (turned net) s
-  turned-allowed = record { sized = turned-sized (ok .sized); long = ok .long; some = ok .some }
-
-  trap-is : siphonOf (turned net) s ≡ trapOf net s
-  trap-is = turned-is net s (siphonOf (turned net) s) refl
+  trap-is : trapOf net s ≡ judgedSet (turned net) s
+  trap-is = rw (of-allowed net s ok)
 
   pub trap-accepted : (trapOf net s ≡ Yes) ↔ Trap net s
-  trap-accepted = let a = siphon-accepted (turned net) s turned-allowed in (λ e. a .0 (trap-is ∙ e), λ i. sym trap-is ∙ a .1 i)
+  trap-accepted = rw trap-is (judged-yes (turned net) s (ok .long))
 
   pub trap-fails-at : (t : ℕ) → (trapOf net s ≡ No t) ↔ TrapFails net s t
-  trap-fails-at t = let a = siphon-fails-at (turned net) s turned-allowed t in (λ e. a .0 (trap-is ∙ e), λ i. sym trap-is ∙ a .1 i)
+  trap-fails-at t = rw trap-is (judged-no (turned net) s (ok .long) t)
 
 -- ---- "An unmarked siphon stays unmarked and a marked trap stays marked, weights and capacities included."
 pub siphon-stays-empty : {net : Net} {s m w m′ : List ℕ} → Siphon net s → Fires net m w m′ → Unmarked net s m → Unmarked net s m′

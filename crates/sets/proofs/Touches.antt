@@ -1,19 +1,19 @@
 -- Laws of the tests and answers for sets, from what the code has found. Assumes nothing.
-use Prim.Native.Nat.{ℕ, _*_, _≤_, _<_}
+use Prim.Native.Nat.{ℕ, _+_, _≤_, _<_}
 use mathlib.Core.Path.{_≡_, refl, sym, ap, _∙_}
-use mathlib.Core.Bool.{Bool, true, false, not, _&&_, _||_}
+use mathlib.Core.Bool.{Bool, true, false, not, _&&_}
 use mathlib.Core.List.{List}
+use native.Mathlib.Omega.{arith}
 use lib.ListN.{length, getD}
-use lib.Dec.{ltb, leb, eqb}
-use borrow.Author.Tests.{lt-ltb, le-ltb, ltb-true, ltb-false, le-leb, lt-leb, eqb-true}
+use lib.Dec.{ltb, leb}
+use borrow.Author.Tests.{lt-ltb, le-ltb, ltb-true, ltb-false, le-leb, lt-leb, not-true, not-false}
 use Rattle.ground.specs.Lists.{first}
 use Rattle.ground.proofs.Scan.{Below, scan-hit, scan-end}
-use Rattle.net.specs.Net.{Net}
-use Rattle.net.specs.Given.{refuse, orElse, outside, unlike, netFault, Sized}
+use Rattle.net.specs.Net.{Net, Pre, Post}
+use Rattle.net.specs.Given.{Sized}
 use Rattle.net.specs.declared.Fault.{Fault}
 use Rattle.net.specs.declared.Fault.the-variants.{Sound, Faulty}
-use Rattle.net.proofs.Refusals.{or-sound, refuse-sound, sized-of}
-use Rattle.sets.specs.Answer.{meets, touches, escapes, lowestEscape, turned, noPlaces, setFault, siphonOf, trapOf}
+use Rattle.sets.specs.Answer.{meets, touches, escapes, lowestEscape, turned, noPlaces, judgedSet, setAnswer, setNumbers}
 use Rattle.sets.specs.declared.SetAnswer.{SetAnswer}
 use Rattle.sets.specs.declared.SetAnswer.the-variants.{Yes, No, Refused}
 
@@ -26,43 +26,46 @@ module _ (weight member : ℕ) where
   meets-out h = rw (le-ltb 0 member h)
 
 -- a row: p is where the scan is, r the test's answer there
-module _ (weights s : List ℕ) (p : ℕ) (lo : Below (λ p. meets (getD weights p 0) (getD s p 0)) p) where
-  pub touch-hit : (r : Bool) → r ≡ meets (getD weights p 0) (getD s p 0) → r ≡ true → p < length s → true ≡ touches weights s
+module _ (weight : ℕ → ℕ) (s : List ℕ) (p : ℕ) (lo : Below (λ p. meets (weight p) (getD s p 0)) p) where
+  pub touch-hit : (r : Bool) → r ≡ meets (weight p) (getD s p 0) → r ≡ true → p < length s → true ≡ touches s weight
   unfolding touches
   touch-hit r e q h =
-      let f = scan-hit (λ p. meets (getD weights p 0) (getD s p 0)) (length s) p r lo e q h in
+      let f = scan-hit (λ p. meets (weight p) (getD s p 0)) (length s) p r lo e q h in
       rw (← f) (sym (lt-ltb p (length s) h))
 
-  pub touch-none : p ≤ length s → length s ≤ p → false ≡ touches weights s
+  pub touch-none : p ≤ length s → length s ≤ p → false ≡ touches s weight
   unfolding touches
   touch-none h l =
-      let f = scan-end (λ p. meets (getD weights p 0) (getD s p 0)) (length s) p lo h l in
+      let f = scan-end (λ p. meets (weight p) (getD s p 0)) (length s) p lo h l in
       rw (← f) (sym (le-ltb p (length s) l))
 
 pub ruleset touching = (meets-in, meets-out, touch-hit, touch-none)
 
 -- a transition: a and b tell whether it puts into the set, and takes from it
-module _ (takes puts s : List ℕ) (a b : Bool) (ea : a ≡ touches puts s) where
-  pub escape-asked : a ≡ true → b ≡ touches takes s → not b ≡ escapes takes puts s
+module _ (net : Net) (s : List ℕ) (t : ℕ) (a b : Bool) (ea : a ≡ touches s (λ p. Post net p t)) where
+  pub escape-asked : a ≡ true → b ≡ touches s (λ p. Pre net p t) → not b ≡ escapes net s t
   unfolding escapes
   escape-asked q eb = rw (← ea, q, ← eb)
 
-  pub escape-none : a ≡ false → false ≡ escapes takes puts s
+  pub escape-none : a ≡ false → false ≡ escapes net s t
   unfolding escapes
   escape-none q = rw (← ea, q)
 
 pub ruleset escaping = (escape-asked, escape-none)
 
 -- a set as its own row has an arc at each of its places
-own-touches : (s : List ℕ) → touches s s ≡ not (noPlaces s)
+own-touches : (s : List ℕ) → touches s (λ p. getD s (0 + p) 0) ≡ not (noPlaces s)
 unfolding touches
 own-touches s =
-    ap (λ (f : ℕ → Bool). ltb (first f (length s)) (length s)) (λ j p. twice (ltb 0 (getD s p 0)) j)
+    ap (λ (f : ℕ → Bool). ltb (first f (length s)) (length s)) (λ j p. same p j)
     ∙ turn (first (λ p. ltb 0 (getD s p 0)) (length s)) (length s)
   where
     twice : (b : Bool) → (b && b) ≡ b
     twice true = refl
     twice false = refl
+
+    same : (p : ℕ) → meets (getD s (0 + p) 0) (getD s p 0) ≡ ltb 0 (getD s p 0)
+    same p = ap (λ (k : ℕ). meets (getD s k 0) (getD s p 0)) (omega arith) ∙ twice (ltb 0 (getD s p 0))
 
     turn : (a b : ℕ) → ltb a b ≡ not (leb b a)
     turn a b = go (ltb a b) refl
@@ -71,65 +74,45 @@ own-touches s =
         go true e = e ∙ sym (ap not (lt-leb b a (ltb-true a b e)))
         go false e = e ∙ sym (ap not (le-leb b a (ltb-false a b e)))
 
--- which refusal
-module _ (net : Net) (s : List ℕ) (found : Fault) (e : found ≡ netFault net (eqb (length s) (net .places))) where
-  pub set-net : (n at : ℕ) → found ≡ Faulty n at → Faulty n at ≡ setFault net s
-  unfolding setFault
-  set-net n at q = rw (← e, q)
+-- whether it has none, from the test a of its own row
+module _ (s : List ℕ) (a : Bool) (e : a ≡ touches s (λ p. getD s (0 + p) 0)) where
+  pub some-found : a ≡ true → noPlaces s ≡ false
+  some-found q = not-true (noPlaces s) (sym (own-touches s) ∙ sym e ∙ q)
 
-  module _ (a : Bool) (q : found ≡ Sound) (ea : a ≡ touches s s) where
-    empty-is : noPlaces s ≡ not a
-    empty-is = go (noPlaces s) refl
-      where
-        go : (b : Bool) → noPlaces s ≡ b → noPlaces s ≡ not a
-        go true k = rw (ea ∙ own-touches s, k)
-        go false k = rw (ea ∙ own-touches s, k)
+  pub none-found : a ≡ false → noPlaces s ≡ true
+  none-found q = not-false (noPlaces s) (sym (own-touches s) ∙ sym e ∙ q)
 
-    pub set-some : a ≡ true → Sound ≡ setFault net s
-    unfolding setFault
-    set-some t = rw (← e, q, empty-is, t)
+pub ruleset places-found = (some-found, none-found)
 
-    pub set-empty : a ≡ false → Faulty 8 0 ≡ setFault net s
-    unfolding setFault
-    set-empty t = rw (← e, q, empty-is, t)
+-- what is judged, from the transition that was found
+module _ (net : Net) (s : List ℕ) (t : ℕ) (et : t ≡ lowestEscape net s) where
+  pub set-no : t < net .transitions → No t ≡ judgedSet net s
+  set-no h = rw (← et, lt-ltb t (net .transitions) h)
 
-pub ruleset set-faults = (set-net, set-some, set-empty)
+  pub set-yes : net .transitions ≤ t → Yes ≡ judgedSet net s
+  set-yes h = rw (← et, le-ltb t (net .transitions) h)
 
--- what holds where nothing is refused
-pub set-sound : (net : Net) (s : List ℕ) → setFault net s ≡ Sound → Sized net × (length s ≡ net .places) × (noPlaces s ≡ false)
-unfolding setFault
-set-sound net s e =
-    let a = or-sound (netFault net (eqb (length s) (net .places))) (refuse (noPlaces s) 8 0) e in
-    let z = sized-of net (eqb (length s) (net .places)) (a .0) in
-    (z .0, eqb-true (length s) (net .places) (z .1), refuse-sound (noPlaces s) 8 0 (a .1))
+pub ruleset judgings = (set-no, set-yes)
 
--- which answer
-module _ (net : Net) (s : List ℕ) (found : Fault) (e : found ≡ setFault net s) where
-  pub set-refused : (n at : ℕ) → found ≡ Faulty n at → Refused n at ≡ siphonOf net s
+-- which answer, from the fault that was found
+module _ (f found : Fault) (e : found ≡ f) (judged : SetAnswer) where
+  pub set-refused : (n at : ℕ) → found ≡ Faulty n at → setNumbers (Refused n at) ≡ setNumbers (setAnswer f judged)
   set-refused n at q = rw (← e, q)
 
-  module _ (t : ℕ) (q : found ≡ Sound) (et : t ≡ lowestEscape net s) where
-    pub set-no : t < net .transitions → No t ≡ siphonOf net s
-    set-no h = rw (← e, q, ← et, lt-ltb t (net .transitions) h)
+  pub set-judged : (r : SetAnswer) → found ≡ Sound → r ≡ judged → setNumbers r ≡ setNumbers (setAnswer f judged)
+  set-judged r q k = rw (← e, q, k)
 
-    pub set-yes : net .transitions ≤ t → Yes ≡ siphonOf net s
-    set-yes h = rw (← e, q, ← et, le-ltb t (net .transitions) h)
+pub ruleset set-answers = (set-refused, set-judged)
 
-pub ruleset set-answers = (set-refused, set-no, set-yes)
-
--- turning the arcs round changes no refusal
-turned-fault : (net : Net) (fits : Bool) → netFault (turned net) fits ≡ netFault net fits
-unfolding netFault
-turned-fault net fits =
-    ap (λ (b : Bool). orElse (refuse (outside (net .places) || outside (net .transitions)) 1 0) (refuse (b || not fits) 2 0))
-    (other (unlike (length (net .post)) (net .transitions * net .places)) (unlike (length (net .pre)) (net .transitions * net .places)) (unlike (length (net .caps)) (net .places)))
-  where
-    other : (a b c : Bool) → (a || (b || c)) ≡ (b || (a || c))
-    other true true c = refl
-    other true false c = refl
-    other false true c = refl
-    other false false c = refl
-
-pub turned-is : (net : Net) (s : List ℕ) (r : SetAnswer) → r ≡ siphonOf (turned net) s → r ≡ trapOf net s
-unfolding setFault
-turned-is net s r e = e ∙ rw (turned-fault net (eqb (length s) (net .places)))
+-- a net stays sized with its arcs turned round
+pub turned-sized : (net : Net) → Sized net → Sized (turned net)
+turned-sized net z =
+    record {
+      some-places = z .some-places;
+      few-places = z .few-places;
+      some-transitions = z .some-transitions;
+      few-transitions = z .few-transitions;
+      pres = z .posts;
+      posts = z .pres;
+      capped = z .capped;
+    }

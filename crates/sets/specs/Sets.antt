@@ -1,10 +1,9 @@
--- Siphons and traps as document 01 defines them ("Weightings, siphons, traps": "in the usual textbook sense").
+-- To be believed: siphons and traps as document 01 defines them ("Weightings, siphons, traps": "in the usual textbook sense").
 use Prim.Native.Nat.{ℕ, _<_}
 use mathlib.Core.Path.{_≡_}
 use mathlib.Core.List.{List}
-use lib.ListN.{length, getD}
+use lib.ListN.{getD}
 use Rattle.net.specs.Net.{Net, Pre, Post, tokens}
-use Rattle.net.specs.Given.{Sized}
 
 -- "A set of places, lent as P bytes with 0 for out": the place p is in it
 abbrev pub In : List ℕ → ℕ → Type 0
@@ -52,9 +51,3 @@ Marked net s m = Some (net .places) s (tokens m)
 
 pub record Unmarked (net : Net) (s m : List ℕ) : Type 0 where
   pub at : (p : ℕ) → p < net .places → In s p → tokens m p ≡ 0
-
--- a set that no refusal meets
-pub record Allowed (net : Net) (s : List ℕ) : Type 0 where
-  pub sized : Sized net
-  pub long : length s ≡ net .places
-  pub some : ((p : ℕ) → In s p → ⊥) → ⊥

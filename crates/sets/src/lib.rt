@@ -2,10 +2,11 @@
 use ground::Weight;
 use net::Fault;
 ghost use mathlib.Core.Path.{_≡_};
-ghost use lib.ListN.{length};
+ghost use Prim.Native.Nat.{_+_, _≤_, _<_};
+ghost use lib.ListN.{length, getD};
 ghost use Rattle.net.specs.Net.{netOf};
 ghost use Rattle.net.specs.Given.{Sized};
-ghost use Rattle.sets.specs.Answer.{meets, touches, escapes, lowestEscape, setFault, siphonOf, trapOf, setNumbers};
+ghost use Rattle.sets.specs.Answer.{meets, touches, escapes, lowestEscape, setFault, judgedSet, siphonOf, trapOf, setNumbers};
 
 // The answer for a set: it is one; it is none, with the lowest failing transition; or refused,
 // with document 01's number and position.
@@ -25,14 +26,14 @@ fn is_meeting(weight: Weight, member: u8) -> bool
     false
 }
 
-// Whether a row of arcs has one at a place in the set.
-fn is_touching(weights: &[Weight], set: &[u8]) -> bool
-    requires { ⌜ length (now weights) ≡ length (now set) ⌝ }
-    ensures { λ r. ⌜ r ≡ touches (now (weights .entry)) (now (set .entry)) ⌝ }
+// Whether the row of arcs that begins at `start` has one at a place in the set.
+fn is_touching(weights: &[Weight], start: usize, set: &[u8]) -> bool
+    requires { ⌜ start + length (now set) ≤ length (now weights) ⌝ }
+    ensures { λ r. ⌜ r ≡ touches (now (set .entry)) (λ p. getD (now (weights .entry)) (start + p) 0) ⌝ }
 {
     let mut p = 0;
     while p < set.len() {
-        if is_meeting(weights[p], set[p]) {
+        if is_meeting(weights[start + p], set[p]) {
             return true;
         }
         p += 1;
@@ -40,15 +41,24 @@ fn is_touching(weights: &[Weight], set: &[u8]) -> bool
     false
 }
 
-// Whether a transition puts into the set and does not take from it; for a trap the rows are
-// exchanged.
-fn is_escape(takes: &[Weight], puts: &[Weight], set: &[u8]) -> bool
-    requires { ⌜ length (now takes) ≡ length (now set) ⌝ }
-    requires { ⌜ length (now puts) ≡ length (now set) ⌝ }
-    ensures { λ r. ⌜ r ≡ escapes (now (takes .entry)) (now (puts .entry)) (now (set .entry)) ⌝ }
+// Whether a transition puts into the set and does not take from it.
+fn is_escape(
+    places: usize,
+    transitions: usize,
+    pre: &[Weight],
+    post: &[Weight],
+    caps: &[u16],
+    set: &[u8],
+    t: usize,
+) -> bool
+    requires { ⌜ Sized (netOf places transitions (now pre) (now post) (now caps)) ⌝ }
+    requires { ⌜ length (now set) ≡ places ⌝ }
+    requires { ⌜ t < transitions ⌝ }
+    ensures { λ r. ⌜ r ≡ escapes (netOf places transitions (now (pre .entry)) (now (post .entry)) (now (caps .entry))) (now (set .entry)) t ⌝ }
 {
-    if is_touching(puts, set) {
-        return !is_touching(takes, set);
+    let start = t * places;
+    if is_touching(post, start, set) {
+        return !is_touching(pre, start, set);
     }
     false
 }
@@ -68,9 +78,7 @@ fn lowest_escape(
 {
     let mut t = 0;
     while t < transitions {
-        let a = t * places;
-        let e = a + places;
-        if is_escape(&pre[a..e], &post[a..e], set) {
+        if is_escape(places, transitions, pre, post, caps, set, t) {
             return t;
         }
         t += 1;
@@ -94,7 +102,7 @@ fn set_fault(
     match found {
         Fault::Faulty(number, at) => Fault::Faulty(number, at),
         Fault::Sound => {
-            if is_touching(set, set) {
+            if is_touching(set, 0, set) {
                 Fault::Sound
             } else {
                 Fault::Faulty(8, 0)
@@ -103,7 +111,7 @@ fn set_fault(
     }
 }
 
-// The answer for a siphon.
+// Whether no transition puts into the set without taking from it, else the lowest that does.
 fn judge_set(
     places: usize,
     transitions: usize,
@@ -112,19 +120,15 @@ fn judge_set(
     caps: &[u16],
     set: &[u8],
 ) -> SetAnswer
-    ensures { λ r. ⌜ r ≡ siphonOf (netOf places transitions (now (pre .entry)) (now (post .entry)) (now (caps .entry))) (now (set .entry)) ⌝ }
+    requires { ⌜ Sized (netOf places transitions (now pre) (now post) (now caps)) ⌝ }
+    requires { ⌜ length (now set) ≡ places ⌝ }
+    ensures { λ r. ⌜ r ≡ judgedSet (netOf places transitions (now (pre .entry)) (now (post .entry)) (now (caps .entry))) (now (set .entry)) ⌝ }
 {
-    let found = set_fault(places, transitions, pre, post, caps, set);
-    match found {
-        Fault::Faulty(number, at) => SetAnswer::Refused(number, at),
-        Fault::Sound => {
-            let t = lowest_escape(places, transitions, pre, post, caps, set);
-            if t < transitions {
-                SetAnswer::No(t)
-            } else {
-                SetAnswer::Yes
-            }
-        }
+    let t = lowest_escape(places, transitions, pre, post, caps, set);
+    if t < transitions {
+        SetAnswer::No(t)
+    } else {
+        SetAnswer::Yes
     }
 }
 
@@ -139,11 +143,15 @@ pub fn siphon_set(
 ) -> SetAnswer
     ensures { λ r. ⌜ setNumbers r ≡ setNumbers (siphonOf (netOf places transitions (now (pre .entry)) (now (post .entry)) (now (caps .entry))) (now (set .entry))) ⌝ }
 {
-    judge_set(places, transitions, pre, post, caps, set)
+    let found = set_fault(places, transitions, pre, post, caps, set);
+    match found {
+        Fault::Faulty(number, at) => SetAnswer::Refused(number, at),
+        Fault::Sound => judge_set(places, transitions, pre, post, caps, set),
+    }
 }
 
-// Whether a set is a trap: every transition that takes from it also puts into it. It is a siphon
-// of the net with all arcs turned round.
+// Whether a set is a trap: every transition that takes from it also puts into it. It is judged as a
+// siphon of the net with all arcs turned round.
 pub fn trap_set(
     places: usize,
     transitions: usize,
@@ -154,5 +162,9 @@ pub fn trap_set(
 ) -> SetAnswer
     ensures { λ r. ⌜ setNumbers r ≡ setNumbers (trapOf (netOf places transitions (now (pre .entry)) (now (post .entry)) (now (caps .entry))) (now (set .entry))) ⌝ }
 {
-    judge_set(places, transitions, post, pre, caps, set)
+    let found = set_fault(places, transitions, pre, post, caps, set);
+    match found {
+        Fault::Faulty(number, at) => SetAnswer::Refused(number, at),
+        Fault::Sound => judge_set(places, transitions, post, pre, caps, set),
+    }
 }

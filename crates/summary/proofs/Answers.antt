@@ -10,20 +10,21 @@ use borrow.Author.Tests.{le-leb, lt-leb}
 use Rattle.ground.specs.Limits.{wordLimit}
 use Rattle.ground.proofs.Tests.{never}
 use Rattle.net.specs.Net.{Net}
-use Rattle.net.specs.Given.{outside, netFault, wordFault, stretch, inside, Sized, Letters}
+use Rattle.net.specs.Given.{outside, countsFault, netFault, wordFault, stretch, inside, Sized, Letters}
 use Rattle.net.specs.declared.Fault.{Fault}
 use Rattle.net.specs.declared.Fault.the-variants.{Sound, Faulty}
-use Rattle.net.proofs.Refusals.{or-sound, sound-or, sized-of, sized-is, word-sound, sound-word, unfit-first}
+use Rattle.net.proofs.Chains.{or-sound, sound-or}
+use Rattle.net.proofs.Refusals.{counts-met, net-met, met-net, word-met, met-word, counts-unfit, net-unfit}
 use Rattle.summary_place.specs.Slots.{slotsOf}
 use Rattle.summary_place.specs.declared.Slot.{Slot}
-use Rattle.summary.specs.Summary.{summaryOf, emptySummary, refusal, summed, numbers, Answers, emptyAnswer, partFault, wordAnswer}
+use Rattle.summary.specs.Summary.{summaryOf, emptySummary, refusal, summed, madeNumbers, Answers, emptyAnswer, partFault, wordAnswer}
 use Rattle.summary.specs.declared.Summary.{Summary}
 use Rattle.summary.specs.declared.Made.{Made}
 use Rattle.summary.specs.declared.Made.the-variants.{Done, Refused}
 use Rattle.summary.specs.declared.Summed.{Summed}
 
--- `numbers` tells any two answers apart
-pub made-apart : (a b : Made) → numbers a ≡ numbers b → a ≡ b
+-- `madeNumbers` tells any two answers apart
+pub made-apart : (a b : Made) → madeNumbers a ≡ madeNumbers b → a ≡ b
 made-apart Done Done e = refl
 made-apart Done (Refused n at) e = let z : _≡_ {A = ℕ} 0x81 0x82 = cc in absurd (omega arith)
 made-apart (Refused n at) Done e = let z : _≡_ {A = ℕ} 0x82 0x81 = cc in absurd (omega arith)
@@ -33,7 +34,7 @@ pub answers-is : (x r : Summed) → Answers x r → r ≡ x
 answers-is x r a = λ i. record { answer = made-apart (r .answer) (x .answer) (a .answer) i; summary = a .summary i }
 
 pub answers-same : (x r : Summed) → r ≡ x → Answers x r
-answers-same x r e = record { answer = ap (λ (z : Summed). numbers (z .answer)) e; summary = ap (λ (z : Summed). z .summary) e }
+answers-same x r e = record { answer = ap (λ (z : Summed). madeNumbers (z .answer)) e; summary = ap (λ (z : Summed). z .summary) e }
 
 -- f is the first fault, found what the code found
 module _ (f found : Fault) (s : Summary) (e : found ≡ f) where
@@ -53,18 +54,6 @@ module _ (P : ℕ) (a : Bool) (e : a ≡ outside P) where
 
 pub ruleset empties = (empty-refused, empty-done)
 
--- which refusal of a word
-module _ (net : Net) (w : List ℕ) (within : Bool) (found : Fault) (e : found ≡ netFault net within) where
-  pub part-net : (n at : ℕ) → found ≡ Faulty n at → Faulty n at ≡ partFault net w within
-  unfolding partFault
-  part-net n at q = rw (← e, q)
-
-  pub part-word : (r : Fault) → found ≡ Sound → r ≡ wordFault (net .transitions) w → r ≡ partFault net w within
-  unfolding partFault
-  part-word r q k = rw (← e, q) k
-
-pub ruleset part-faults = (part-net, part-word)
-
 -- nothing is refused exactly where all this holds
 pub record Sane (net : Net) (w : List ℕ) (within : Bool) : Type 0 where
   pub sized : Sized net
@@ -76,26 +65,30 @@ pub sane-of : (net : Net) (w : List ℕ) (within : Bool) → partFault net w wit
 unfolding partFault
 sane-of net w within e =
     let a = or-sound (netFault net within) (wordFault (net .transitions) w) e in
-    let f = sized-of net within (a .0) in
-    let l = word-sound (net .transitions) w (a .1) in
-    record { sized = f .0; fitting = f .1; short = l .0; letters = l .1 }
+    let f = net-met net within (a .0) in
+    let l = word-met (net .transitions) w (a .1) in
+    record { sized = f .sized; fitting = f .fitting; short = l .short; letters = l .letters }
 
 pub sane-is : (net : Net) (w : List ℕ) (within : Bool) → Sane net w within → partFault net w within ≡ Sound
 unfolding partFault
-sane-is net w within s = sound-or _ _ (sized-is net within (s .sized) (s .fitting)) (sound-word (net .transitions) w (s .short) (s .letters))
+sane-is net w within s =
+    sound-or _ _ (met-net net within (record { sized = s .sized; fitting = s .fitting })) (met-word (net .transitions) w (record { short = s .short; letters = s .letters }))
 
 -- the summary of a word, from what the code has
 pub word-made : (net : Net) (w : List ℕ) (slots : List Slot) → slots ≡ slotsOf net w → _≡_ {A = Summary} (record { places = net .places; letters = length w; slots = slots }) (summaryOf net w)
 word-made net w slots e = λ i. record { places = net .places; letters = length w; slots = e i }
 
 -- where the stretch does not fit, the letters do not matter
-unfit-same : (net : Net) (u w : List ℕ) → wordAnswer net u false ≡ wordAnswer net w false
+pub unfit-part : (net : Net) (w : List ℕ) → partFault net w false ≡ countsFault net false
 unfolding partFault
-unfit-same net u w = rw (unfit-first net (wordFault (net .transitions) u), unfit-first net (wordFault (net .transitions) w)) (go (netFault net false) refl)
+unfit-part net w = rw (net-unfit net) (counts-unfit net (wordFault (net .transitions) w))
+
+unfit-same : (net : Net) (u w : List ℕ) → wordAnswer net u false ≡ wordAnswer net w false
+unfit-same net u w = rw (unfit-part net u, unfit-part net w) (go (countsFault net false) refl)
   where
-    go : (f : Fault) → netFault net false ≡ f → summed (netFault net false) (summaryOf net u) ≡ summed (netFault net false) (summaryOf net w)
+    go : (f : Fault) → countsFault net false ≡ f → summed (countsFault net false) (summaryOf net u) ≡ summed (countsFault net false) (summaryOf net w)
     go (Faulty n at) e = rw e
-    go Sound e = never (sym (sized-of net false e .1))
+    go Sound e = never (sym (counts-met net false e .fitting))
 
 -- a stretch is a part of its word, or does not fit
 module _ (net : Net) (w : List ℕ) (a b : ℕ) (r : Summed) where

@@ -15,15 +15,16 @@ use Rattle.ground.specs.Limits.{countLimit, weightLimit, wordLimit}
 use Rattle.ground.proofs.Fill.{table-length, table-at}
 use Rattle.ground.proofs.Parts.{parts-eq, le-pos, neg-le}
 use Rattle.net.specs.Net.{Net}
-use Rattle.net.specs.Firing.{Light}
+use Rattle.net.specs.Given.{Light}
 use Rattle.net.specs.declared.Fault.the-variants.{Sound}
 use Rattle.summary_place.specs.Place.{letterAt}
-use Rattle.summary_place.specs.Slots.{nil, slotOf, slotAt, slotsOf, joined, joinedAll, Well}
+use Rattle.summary_place.specs.Slots.{nil, slotOf, slotAt, slotsOf, joined, joinedAll}
+use Rattle.summary_place.specs.Walk.{Well}
 use Rattle.summary_place.specs.declared.Slot.{Slot}
 use Rattle.summary_place.proofs.Words.{slot-append, slot-well}
 use Rattle.summary_place.proofs.Joins.{joined-well, nil-joined, joined-nil, all-length, all-at, all-assoc}
 use Rattle.summary_place.proofs.Tests.{wells-of, nil-well}
-use Rattle.summary.specs.Summary.{summaryOf, emptySummary, shapeFault, WellFormed}
+use Rattle.summary.specs.Summary.{summaryOf, emptySummary, shapeFault, FormedAt, WellFormed}
 use Rattle.summary.specs.Join.{joinSummary}
 use Rattle.summary.specs.declared.Summary.{Summary}
 use Rattle.summary.proofs.Shapes.{shape-sound, sound-shape}
@@ -40,32 +41,39 @@ zero-well s w =
     let c : s .change ≡ pos 0 = parts-eq (s .change) (pos 0) (omega arith) (omega arith) in
     λ i. record { need = n i; climb = k i; change = c i }
 
+-- a slot is well formed by its parts exactly where it is as published
+module _ (s : Summary) (p : ℕ) where
+  pub formed-at : Well (bound (s .places) (s .letters) p) (getD (s .slots) p nil) → FormedAt s p
+  formed-at w =
+      record {
+        at = λ h. let v = here h in record { need = v .need; climb = v .climb; low = neg-le _ _ .1 (v .down); high = le-pos _ _ .1 (v .top) };
+        past = λ h. zero-well (getD (s .slots) p nil) (there h);
+      }
+    where
+      here : p < s .places → Well (weightLimit * s .letters) (getD (s .slots) p nil)
+      here h = rw (lt-ltb p (s .places) h) at w
+
+      there : s .places ≤ p → Well 0 (getD (s .slots) p nil)
+      there h = rw (le-ltb p (s .places) h) at w
+
+  pub at-formed : FormedAt s p → Well (bound (s .places) (s .letters) p) (getD (s .slots) p nil)
+  at-formed f = go (decLt p (s .places))
+    where
+      go : Dec (p < s .places) → Well (bound (s .places) (s .letters) p) (getD (s .slots) p nil)
+      go (yes h) =
+          let w = f .at h in
+          rw (lt-ltb p (s .places) h)
+          (record { need = w .need; climb = w .climb; down = neg-le (getD (s .slots) p nil .change) (getD (s .slots) p nil .need) .0 (w .low); top = le-pos (getD (s .slots) p nil .change) (getD (s .slots) p nil .climb) .0 (w .high) })
+      go (no h) = let o : s .places ≤ p = omega arith in rw (le-ltb p (s .places) o, f .past o) (nil-well 0)
+
 -- nothing is refused by 6 exactly where the summary is well formed as published
 pub formed-of : (s : Summary) → shapeFault s ≡ Sound → WellFormed s
 formed-of s e =
     let a = shape-sound s e in
-    record {
-      few = a .0;
-      at = λ p h l. let w = here p h (wells-of (s .places) (weightLimit * s .letters) (s .slots) (a .1) p l) in
-          record { need = w .need; climb = w .climb; low = neg-le _ _ .1 (w .down); high = le-pos _ _ .1 (w .top) };
-      past = λ p h l. zero-well (getD (s .slots) p nil) (there p h (wells-of (s .places) (weightLimit * s .letters) (s .slots) (a .1) p l));
-    }
-  where
-    here : (p : ℕ) → p < s .places → Well (bound (s .places) (s .letters) p) (getD (s .slots) p nil) → Well (weightLimit * s .letters) (getD (s .slots) p nil)
-    here p h w = rw (lt-ltb p (s .places) h) at w
-
-    there : (p : ℕ) → s .places ≤ p → Well (bound (s .places) (s .letters) p) (getD (s .slots) p nil) → Well 0 (getD (s .slots) p nil)
-    there p h w = rw (le-ltb p (s .places) h) at w
+    record { few = a .0; slots = record { each = λ p l. formed-at s p (wells-of (s .places) (weightLimit * s .letters) (s .slots) (a .1) p l) } }
 
 pub of-formed : (s : Summary) → WellFormed s → shapeFault s ≡ Sound
-of-formed s f = sound-shape s (f .few) (λ p l. go p l (decLt p (s .places)))
-  where
-    go : (p : ℕ) → p < countLimit → Dec (p < s .places) → Well (bound (s .places) (s .letters) p) (getD (s .slots) p nil)
-    go p l (yes h) =
-        let w = f .at p h l in
-        rw (lt-ltb p (s .places) h)
-        (record { need = w .need; climb = w .climb; down = neg-le (getD (s .slots) p nil .change) (getD (s .slots) p nil .need) .0 (w .low); top = le-pos (getD (s .slots) p nil .change) (getD (s .slots) p nil .climb) .0 (w .high) })
-    go p l (no h) = let o : s .places ≤ p = omega arith in rw (le-ltb p (s .places) o, f .past p o l) (nil-well 0)
+of-formed s f = sound-shape s (f .few) (λ p l. at-formed s p (f .slots .each p l))
 
 -- a summary as the code holds one: 64 slots, well formed
 pub record Shaped (s : Summary) : Type 0 where

@@ -1,6 +1,8 @@
-pub mod Answers
 pub mod Shapes
-pub mod Asking
 pub mod Places
 pub mod Formed
+pub mod Answers
+pub mod Joining
+pub mod Asking
 pub mod Meaning
+pub mod Exactly

@@ -6,12 +6,11 @@ use native.Mathlib.Omega.{arith}
 use native.Mathlib.Nat.{le-trans}
 use lib.ListN.{length}
 use lib.IntN.{ℤ, pos, _+ℤ_, +ℤ-assoc, +ℤ-idr}
-use Rattle.ground.proofs.Parts.{moved-le}
-use Rattle.net.specs.Net.{Net, Pre, Post, Change, capacity, Capped, tokens}
+use Rattle.net.specs.Net.{Net, Pre, Post, Change, rise, capacity, Capped, tokens}
 use Rattle.net.specs.Given.{Letters}
 use Rattle.net.specs.Letter.{firedAt}
 use Rattle.net.specs.Firing.{Enabled, Gives, Fires, nothing, letter, Within}
-use Rattle.net.proofs.Meaning.{gives-plain, firing-within}
+use Rattle.net.proofs.Meaning.{keeps-rise, gives-plain, firing-within}
 use Rattle.net.proofs.Judged.{gives-fired}
 use Rattle.summary_place.specs.Place.{letterAt, change}
 use Rattle.summary_place.proofs.Words.{Rising}
@@ -36,9 +35,7 @@ at-each {net} {m} nothing i p h = at-none (letterAt net p) (Room net p) (tokens 
 at-each {net} {m} (letter {m′ = m′} {t = t} {w = w} f l) i p h =
     let g = gives-plain (f .gives) p h in
     let e : tokens m′ p ≡ (tokens m p + Post net p t) - Pre net p t = omega arith in
-    let k : Room net p (tokens m p + (Post net p t - Pre net p t)) =
-    λ c. omega (arith, i .at p h c, moved-le (tokens m p) (Post net p t) (Pre net p t) (capacity net p) .0 (f .enabled .keeps p h c)) in
-    at-more (letterAt net p) (Room net p) (tokens m p) t w (f .enabled .covers p h) k
+    at-more (letterAt net p) (Room net p) (tokens m p) t w (f .enabled .covers p h) (keeps-rise net m t p (i .at p h) .0 (f .enabled .keeps p h))
     (rw e at (at-each l (firing-within f) p h))
 
 -- and a word that fires at each place fires
@@ -48,14 +45,14 @@ from-each net (t ∷ w) m e l f =
     let r = from-each net w (firedAt net t m) (g .long) (tail-letters (net .transitions) t w l) next in
     (r .0, letter (record { named = l .at 0 (omega arith); enabled = on; gives = g }) (r .1))
   where
-    here : (p : ℕ) → p < net .places → (Pre net p t ≤ tokens m p) × (Room net p (tokens m p + (Post net p t - Pre net p t)) × FiresAt (letterAt net p) (Room net p) ((tokens m p + Post net p t) - Pre net p t) w)
+    here : (p : ℕ) → p < net .places → (Pre net p t ≤ tokens m p) × (Room net p (tokens m p + rise net p t) × FiresAt (letterAt net p) (Room net p) ((tokens m p + Post net p t) - Pre net p t) w)
     here p h = more-at (letterAt net p) (Room net p) (tokens m p) t w (f p h)
 
     on : Enabled net m t
     on =
         record {
           covers = λ p h. here p h .0;
-          keeps = λ p h c. moved-le (tokens m p) (Post net p t) (Pre net p t) (capacity net p) .1 (omega (arith, here p h .0, here p h .1 .0 c));
+          keeps = λ p h. keeps-rise net m t p (λ c. omega (arith, here p h .1 .0 c)) .1 (here p h .1 .0);
         }
 
     g : Gives net m t (firedAt net t m)

@@ -1,16 +1,17 @@
--- "A summary asked against a marking answers yes with the end marking, or no, which leaves the room for the end marking untouched.
+-- To be believed: "A summary asked against a marking answers yes with the end marking, or no, which leaves the room for the end marking untouched.
 -- For a summary no word produced, only the arithmetic holds": the answer is said of the summary's numbers alone.
-use Prim.Native.Nat.{ℕ}
+use Prim.Native.Nat.{ℕ, _<_}
 use mathlib.Core.Path.{_≡_}
 use mathlib.Core.Bool.{Bool, cond, _&&_}
 use mathlib.Core.List.{List, [], _∷_}
 use lib.ListN.{length}
 use lib.Dec.{eqb, leb}
-use Rattle.net.specs.Net.{Net}
-use Rattle.net.specs.Given.{refuse, orElse, outside, firstFault}
+use Rattle.net.specs.Net.{Net, capacity, tokens}
+use Rattle.net.specs.Given.{refuse, orElse, outside, markedFault}
 use Rattle.net.specs.declared.Fault.{Fault}
 use Rattle.net.specs.declared.Fault.the-variants.{Sound, Faulty}
-use Rattle.summary_place.specs.Asked.{lowestNo, ends}
+use Rattle.summary_place.specs.Place.{letterAt, need, climb}
+use Rattle.summary_place.specs.Asked.{lowestNo, ends, SufficesAt}
 use Rattle.summary_place.specs.declared.Slot.{Slot}
 use Rattle.summary.specs.Summary.{shapeFault}
 use Rattle.summary.specs.declared.Summary.{Summary}
@@ -26,14 +27,15 @@ pub record Reply : Type 0 where
 unfoldable pub askFault : Net → List ℕ → Summary → Bool → Fault
 askFault net m s roomy =
     orElse (refuse (outside (s .places)) 1 0)
-    (orElse (firstFault net m (roomy && eqb (s .places) (net .places))) (shapeFault s))
+    (orElse (markedFault net m (roomy && eqb (s .places) (net .places))) (shapeFault s))
 
 -- yes where no place says no
 abbrev pub saysYes : List Slot → List ℕ → List ℕ → Bool
 saysYes slots caps m = leb (length m) (lowestNo slots caps m)
 
-abbrev pub judged : List Slot → List ℕ → List ℕ → List ℕ → Reply
-judged slots caps m room = cond (saysYes slots caps m) (record { answer = Yes; left = ends slots m }) (record { answer = No; left = room })
+-- the answer of the slots, and the room
+abbrev pub slotsReply : List Slot → List ℕ → List ℕ → List ℕ → Reply
+slotsReply slots caps m room = cond (saysYes slots caps m) (record { answer = Yes; left = ends slots m }) (record { answer = No; left = room })
 
 -- "A refusal leaves lent memory as found."
 abbrev pub replied : Fault → Reply → List ℕ → Reply
@@ -42,20 +44,19 @@ replied (Faulty n at) reply room = record { answer = Refused n at; left = room }
 
 abbrev pub askAnswer : Net → List ℕ → Summary → List ℕ → Reply
 askAnswer net m s room =
-    replied (askFault net m s (eqb (length room) (net .places))) (judged (s .slots) (net .caps) m room) room
+    replied (askFault net m s (eqb (length room) (net .places))) (slotsReply (s .slots) (net .caps) m room) room
 
 -- document 01's numbers for each case: 81 00 yes, 81 01 no; 82, a refusal's number and position
-abbrev pub numbers : Asked → List ℕ
-numbers Yes = 0x81 ∷ 0 ∷ []
-numbers No = 0x81 ∷ 1 ∷ []
-numbers (Refused n at) = 0x82 ∷ n ∷ at ∷ []
-
--- the slots were asked
-pub record Judged (slots : List Slot) (caps m room : List ℕ) (r : Asked) (room′ : List ℕ) : Type 0 where
-  pub answer : r ≡ judged slots caps m room .answer
-  pub left : room′ ≡ judged slots caps m room .left
+abbrev pub askedNumbers : Asked → List ℕ
+askedNumbers Yes = 0x81 ∷ 0 ∷ []
+askedNumbers No = 0x81 ∷ 1 ∷ []
+askedNumbers (Refused n at) = 0x82 ∷ n ∷ at ∷ []
 
 -- what is promised of the answer r and of the room at its end
 pub record Replied (net : Net) (m : List ℕ) (s : Summary) (room : List ℕ) (r : Asked) (room′ : List ℕ) : Type 0 where
-  pub answer : numbers r ≡ numbers (askAnswer net m s room .answer)
+  pub answer : askedNumbers r ≡ askedNumbers (askAnswer net m s room .answer)
   pub left : room′ ≡ askAnswer net m s room .left
+
+-- the marking suffices for a word: at each place it covers the word's need, and with its climb it keeps to the capacity
+pub record SufficesWord (net : Net) (w m : List ℕ) : Type 0 where
+  pub at : (p : ℕ) → p < net .places → SufficesAt (need (letterAt net p) w) (climb (letterAt net p) w) (capacity net p) (tokens m p)

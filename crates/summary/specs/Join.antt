@@ -1,4 +1,4 @@
--- The join of two summaries, with its refusals "in number order": 1, 2, 6, 7; for one number the first summary before the second.
+-- To be believed: the join of two summaries, with its refusals "in number order": 1, 2, 6, 7; for one number the first summary before the second.
 use Prim.Native.Nat.{ℕ, _+_}
 use mathlib.Core.Bool.{_||_}
 use lib.Dec.{ltb}

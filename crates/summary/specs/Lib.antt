@@ -1,3 +1,5 @@
 pub mod Summary
 pub mod Join
 pub mod Ask
+pub mod Allowed
+pub mod Walk

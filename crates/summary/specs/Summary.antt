@@ -1,4 +1,4 @@
--- The summary of a word, the empty summary, and when a summary is well formed (document 01, "Summaries").
+-- To be believed: the summary of a word, the empty summary, and when a summary is well formed (document 01, "Summaries").
 use Prim.Native.Nat.{ℕ, _*_, _≤_, _<_}
 use mathlib.Core.Path.{_≡_}
 use mathlib.Core.Bool.{Bool}
@@ -31,19 +31,23 @@ emptySummary P = record { places = P; letters = 0; slots = replicate countLimit 
 abbrev pub refusal : ℕ → ℕ → Summed
 refusal n at = record { answer = Refused n at; summary = emptySummary 0 }
 
+-- a summary that was made
+abbrev pub made : Summary → Summed
+made s = record { answer = Done; summary = s }
+
 -- an answer: a summary, or where something was at fault a refusal
 abbrev pub summed : Fault → Summary → Summed
-summed Sound s = record { answer = Done; summary = s }
+summed Sound s = made s
 summed (Faulty n at) s = refusal n at
 
 -- document 01's numbers for each case: 81 00; 82, a refusal's number and position
-abbrev pub numbers : Made → List ℕ
-numbers Done = 0x81 ∷ 0 ∷ []
-numbers (Refused n at) = 0x82 ∷ n ∷ at ∷ []
+abbrev pub madeNumbers : Made → List ℕ
+madeNumbers Done = 0x81 ∷ 0 ∷ []
+madeNumbers (Refused n at) = 0x82 ∷ n ∷ at ∷ []
 
 -- what is promised of an answer r, where x is the answer
 pub record Answers (x r : Summed) : Type 0 where
-  pub answer : numbers (r .answer) ≡ numbers (x .answer)
+  pub answer : madeNumbers (r .answer) ≡ madeNumbers (x .answer)
   pub summary : r .summary ≡ x .summary
 
 -- the empty summary's answer: refusal 1
@@ -71,16 +75,27 @@ pub record WellAt (n : ℕ) (s : Slot) : Type 0 where
   pub low : negℤ (pos (s .need)) ≤ℤ s .change
   pub high : s .change ≤ℤ pos (s .climb)
 
--- "It is well formed if n <= 65,535 and at each place .. ; slots past the place count, if the form has any, are zero."
+-- slot p of a summary: at a place as above; "slots past the place count, if the form has any, are zero"
+pub record FormedAt (s : Summary) (p : ℕ) : Type 0 where
+  pub at : p < s .places → WellAt (s .letters) (getD (s .slots) p nil)
+  pub past : s .places ≤ p → getD (s .slots) p nil ≡ nil
+
+pub record SlotsFormed (s : Summary) : Type 0 where
+  pub each : (p : ℕ) → p < countLimit → FormedAt s p
+
+-- "It is well formed if n <= 65,535 and at each place .."
 pub record WellFormed (s : Summary) : Type 0 where
   pub few : s .letters ≤ wordLimit
-  pub at : (p : ℕ) → p < s .places → p < countLimit → WellAt (s .letters) (getD (s .slots) p nil)
-  pub past : (p : ℕ) → s .places ≤ p → p < countLimit → getD (s .slots) p nil ≡ nil
+  pub slots : SlotsFormed s
 
--- a well-formed summary of P places, 1 to 64, as the struct holds one: with 64 slots
-pub record Held (P : ℕ) (s : Summary) : Type 0 where
+-- a place count of 1 to 64
+pub record Count (P : ℕ) : Type 0 where
   pub some : 1 ≤ P
-  pub most : P ≤ countLimit
+  pub few : P ≤ countLimit
+
+-- a well-formed summary of P places as the struct holds one: with 64 slots
+pub record Held (P : ℕ) (s : Summary) : Type 0 where
+  pub range : Count P
   pub count : s .places ≡ P
   pub slots : length (s .slots) ≡ countLimit
   pub formed : WellFormed s

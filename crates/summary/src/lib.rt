@@ -14,10 +14,11 @@ ghost use lib.ListN.{length};
 ghost use Rattle.ground.specs.Limits.{countLimit, wordLimit};
 ghost use Rattle.net.specs.Net.{netOf};
 ghost use Rattle.net.specs.Given.{stretch, inside};
-ghost use Rattle.summary_place.specs.Slots.{slotLimit, Wells};
+ghost use Rattle.summary_place.specs.Walk.{slotLimit, Wells};
 ghost use Rattle.summary.specs.Summary.{emptySummary, refusal, Answers, emptyAnswer, partFault, wordAnswer, shapeFault};
 ghost use Rattle.summary.specs.Join.{laterFault, joinFault, joinAnswer};
-ghost use Rattle.summary.specs.Ask.{askFault, Judged, Replied};
+ghost use Rattle.summary.specs.Ask.{askFault, Replied};
+ghost use Rattle.summary.specs.Walk.{SlotsAsked};
 
 // The place count, the number of letters, and a slot for each place; slots past the places are zero.
 pub struct Summary {
@@ -283,7 +284,7 @@ fn ask_fault(
         return Fault::Faulty(1, 0);
     }
     let fits = same_count(roomy, count, places);
-    let found = net::first_fault(places, transitions, pre, post, caps, marking, fits);
+    let found = net::marked_fault(places, transitions, pre, post, caps, marking, fits);
     match found {
         Fault::Faulty(number, at) => Fault::Faulty(number, at),
         Fault::Sound => shape_fault(summary),
@@ -303,7 +304,7 @@ fn ask_slots(slots: [Slot; COUNT_LIMIT], caps: &[u16], marking: &[u16], room: &m
     requires { ⌜ length (now room) ≡ length (now marking) ⌝ }
     requires { ⌜ length (now marking) ≤ countLimit ⌝ }
     requires { ⌜ Wells slotLimit slots ⌝ }
-    ensures { λ r. ⌜ Judged slots (now (caps .entry)) (now (marking .entry)) (now (room .entry)) r (now (room .exit)) ⌝ }
+    ensures { λ r. ⌜ SlotsAsked slots (now (caps .entry)) (now (marking .entry)) (now (room .entry)) r (now (room .exit)) ⌝ }
 {
     let p = summary_place::lowest_no(slots, caps, marking);
     if p < marking.len() {

@@ -8,7 +8,7 @@ use mir.Syntax.{w32}
 use mir.Val.{SFits, toZ, ofZ}
 use mir.Facts.{toZ-ofZ}
 use Rattle.ground.specs.Parts.{up, dn}
-use Rattle.summary_place.specs.Slots.{slotLimit, Well}
+use Rattle.summary_place.specs.Walk.{slotLimit, Well}
 use Rattle.summary_place.specs.declared.Slot.{Slot}
 
 pub change-fits : (s : Slot) → Well slotLimit s → SFits w32 (s .change)

@@ -4,7 +4,7 @@ use mathlib.Core.List.{List, [], _∷_}
 use native.Mathlib.Decide.{decLe}
 use native.Mathlib.Omega.{arith}
 use Rattle.summary_place.specs.Place.{Move}
-use Rattle.summary_place.specs.Slots.{step}
+use Rattle.summary_place.specs.Walk.{step}
 use Rattle.summary_place.proofs.Steps.{step-x, step-y, step-least}
 use Rattle.summary_place.proofs.Peaks.{peak}
 use Rattle.summary_place.proofs.Words.{Rising, takes, puts, rise}

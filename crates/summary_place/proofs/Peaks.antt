@@ -9,7 +9,7 @@ use lib.ListN.{length, take, getD}
 use lib.Seq.{take-suc}
 use Rattle.ground.specs.Lists.{most}
 use Rattle.ground.proofs.Most.{most-none, most-more, most-at, most-least}
-use Rattle.summary_place.specs.Slots.{step}
+use Rattle.summary_place.specs.Walk.{step}
 use Rattle.summary_place.proofs.Steps.{step-x, step-y, step-least, step-is, step-assoc, step-left}
 
 -- the sum of f over the letters

@@ -14,10 +14,11 @@ use Rattle.ground.specs.Limits.{countLimit, weightLimit}
 use Rattle.ground.specs.Lists.{most}
 use Rattle.ground.proofs.Most.{most-none}
 use Rattle.ground.proofs.Fill.{Filled, table-length, table-at}
-use Rattle.net.specs.Net.{Net}
-use Rattle.net.specs.Given.{Letters}
+use Rattle.net.specs.Net.{Net, Pre, Post, riseOf}
+use Rattle.net.specs.Given.{Light, Letters}
 use Rattle.summary_place.specs.Place.{Move, letterAt}
-use Rattle.summary_place.specs.Slots.{nil, step, slotOf, slotAt, slotsOf}
+use Rattle.summary_place.specs.Slots.{nil, slotOf, slotAt, slotsOf}
+use Rattle.summary_place.specs.Walk.{step}
 use Rattle.summary_place.specs.declared.Slot.{Slot}
 use Rattle.summary_place.proofs.Peaks.{total, total-more, heightAt, peak-more}
 use Rattle.summary_place.proofs.Words.{takes, puts, rise, change-is, need-most, climb-most}
@@ -72,7 +73,15 @@ module _ (at : ℕ → Move) (w : List ℕ) where
           change = (e ∙ ap₂ subℕ (run .gains ∙ ap (total (puts at)) t) (run .losses ∙ ap (total (takes at)) t) ∙ sym (change-is at w)) j;
         }
 
-pub ruleset runs = (cell-inside, run-start, run-next, run-end)
+-- one letter of a net: x and y are its cells, whose limit is the net's
+module _ (net : Net) (light : Light net) (p : ℕ) (w : List ℕ) (g l n k i : ℕ) (run : Running (letterAt net p) w g l n k i) where
+  pub run-letter : (x y r n′ k′ : ℕ) → i < length w → x ≡ Pre net p (getD w i 0) → y ≡ Post net p (getD w i 0) → r ≡ riseOf x y → n′ ≡ step n x l g → k′ ≡ step k r g l → Running (letterAt net p) w (g + y) (l + x) n′ k′ (i + 1)
+  run-letter x y r n′ k′ h ex ey er en ek =
+      let t = getD w i 0 in
+      run-next (letterAt net p) w g l n k i run x y r n′ k′ h ex ey (er ∙ ap₂ riseOf ex ey) en ek
+      (rw ex (light .pre (t * net .places + p))) (rw ey (light .post (t * net .places + p)))
+
+pub ruleset runs = (cell-inside, run-start, run-end)
 
 -- the loop over the places, from slots that are all zero
 module _ (net : Net) (w : List ℕ) (slots₀ : List Slot) (zero-slots : slots₀ ≡ replicate countLimit nil) (p : ℕ) (slots : List Slot) (f : Filled nil (λ k x. slotOf (letterAt net k) w) slots₀ p slots) where

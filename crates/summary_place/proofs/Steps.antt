@@ -3,7 +3,7 @@ use Prim.Native.Nat.{ℕ, _+_, _-_, _≤_, max}
 use mathlib.Core.Path.{_≡_}
 use native.Mathlib.Nat.{le-antisymm}
 use native.Mathlib.Omega.{arith}
-use Rattle.summary_place.specs.Slots.{step}
+use Rattle.summary_place.specs.Walk.{step}
 
 -- it is the least that is not below these two
 pub step-x : (x y l g : ℕ) → x ≤ step x y l g

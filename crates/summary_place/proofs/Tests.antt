@@ -13,8 +13,9 @@ use Rattle.ground.specs.Limits.{countLimit, noCapacity}
 use Rattle.ground.specs.Parts.{up, dn}
 use Rattle.ground.proofs.Tests.{or-false, both-false}
 use Rattle.ground.proofs.Scan.{first-below, first-none}
-use Rattle.summary_place.specs.Slots.{nil, slotBad, badAt, badSlot, Well, Wells}
-use Rattle.summary_place.specs.Asked.{noAt, lowestNo, Covered}
+use Rattle.summary_place.specs.Slots.{nil, slotBad, badAt, badSlot}
+use Rattle.summary_place.specs.Asked.{noAt, lowestNo, SufficesAt, Suffices}
+use Rattle.summary_place.specs.Walk.{Well, Wells, NeedsMet}
 use Rattle.summary_place.specs.declared.Slot.{Slot}
 use Rattle.summary_place.proofs.Border.{up-read, dn-read}
 
@@ -103,20 +104,28 @@ no-free need climb cap tokens h l = rw (le-ltb tokens need h, le-ltb cap noCapac
 
 pub ruleset noes = (no-short, no-capped, no-free)
 
--- a place that does not say no
-pub yes-at : (need climb cap tokens : ℕ) → noAt need climb cap tokens ≡ false → (need ≤ tokens) × (cap < noCapacity → tokens + climb ≤ cap)
+-- a place does not say no exactly where its tokens suffice
+pub yes-at : (need climb cap tokens : ℕ) → noAt need climb cap tokens ≡ false → SufficesAt need climb cap tokens
 yes-at need climb cap tokens e =
     let a = or-false (ltb tokens need) _ e in
-    (ltb-false tokens need (a .0), λ h. ltb-false cap (tokens + climb) (rw (lt-ltb cap noCapacity h) at (a .1)))
+    record { covers = ltb-false tokens need (a .0); keeps = λ h. ltb-false cap (tokens + climb) (rw (lt-ltb cap noCapacity h) at (a .1)) }
 
-pub at-yes : (need climb cap tokens : ℕ) → need ≤ tokens → (cap < noCapacity → tokens + climb ≤ cap) → noAt need climb cap tokens ≡ false
-at-yes need climb cap tokens h l = both-false _ _ (le-ltb tokens need h) (go (ltb cap noCapacity) refl)
+pub at-yes : (need climb cap tokens : ℕ) → SufficesAt need climb cap tokens → noAt need climb cap tokens ≡ false
+at-yes need climb cap tokens s = both-false _ _ (le-ltb tokens need (s .covers)) (go (ltb cap noCapacity) refl)
   where
     go : (b : Bool) → ltb cap noCapacity ≡ b → (b && ltb cap (tokens + climb)) ≡ false
-    go true q = le-ltb cap (tokens + climb) (l (ltb-true cap noCapacity q))
+    go true q = le-ltb cap (tokens + climb) (s .keeps (ltb-true cap noCapacity q))
     go false q = refl
 
--- where no place says no, every need is covered
-pub covered-of : (slots : List Slot) (caps m : List ℕ) (r : ℕ) → r ≡ lowestNo slots caps m → length m ≤ r → Covered slots m
-covered-of slots caps m r e h =
-    record { at = λ p l. yes-at (getD slots p nil .need) (getD slots p nil .climb) (getD caps p 0) (getD m p 0) (first-below (λ p. noAt (getD slots p nil .need) (getD slots p nil .climb) (getD caps p 0) (getD m p 0)) (length m) p (omega arith)) .0 }
+-- no place says no exactly where the marking suffices
+pub suffices-of : (slots : List Slot) (caps m : List ℕ) → length m ≤ lowestNo slots caps m → Suffices slots caps m
+suffices-of slots caps m h =
+    record { at = λ p l. yes-at (getD slots p nil .need) (getD slots p nil .climb) (getD caps p 0) (getD m p 0) (first-below (λ p. noAt (getD slots p nil .need) (getD slots p nil .climb) (getD caps p 0) (getD m p 0)) (length m) p (omega arith)) }
+
+pub of-suffices : (slots : List Slot) (caps m : List ℕ) → Suffices slots caps m → lowestNo slots caps m ≡ length m
+of-suffices slots caps m s =
+    first-none (λ p. noAt (getD slots p nil .need) (getD slots p nil .climb) (getD caps p 0) (getD m p 0)) (length m)
+    (λ p h. at-yes (getD slots p nil .need) (getD slots p nil .climb) (getD caps p 0) (getD m p 0) (s .at p h))
+
+pub needs-met : (slots : List Slot) (caps m : List ℕ) (r : ℕ) → r ≡ lowestNo slots caps m → length m ≤ r → NeedsMet slots m
+needs-met slots caps m r e h = let s = suffices-of slots caps m (omega arith) in record { at = λ p l. s .at p l .covers }

@@ -11,7 +11,8 @@ use Rattle.ground.specs.Parts.{up, dn}
 use Rattle.ground.proofs.Most.{most-at, most-least, most-same}
 use Rattle.ground.proofs.Parts.{up-sub, dn-sub, minus-is, sub-sum, up-sum, pos-minus}
 use Rattle.summary_place.specs.Place.{Move, change, need, climb, prefixClimb}
-use Rattle.summary_place.specs.Slots.{slotOf, joined, step, Well}
+use Rattle.summary_place.specs.Slots.{slotOf, joined}
+use Rattle.summary_place.specs.Walk.{step, Well}
 use Rattle.summary_place.proofs.Steps.{step-is, step-diff}
 use Rattle.summary_place.proofs.Peaks.{total, total-append, total-more, heightAt, peak, peak-is, peak-append, peak-enough, peak-small}
 

@@ -1,4 +1,4 @@
--- "A summary asked against a marking": one place, then all.
+-- To be believed: "A summary asked against a marking", one place, then all.
 use Prim.Native.Nat.{ℕ, _+_, _-_, _≤_, _<_}
 use mathlib.Core.Bool.{Bool, _&&_, _||_}
 use mathlib.Core.List.{List}
@@ -26,6 +26,11 @@ endAt s tokens = tokens + up (s .change) - dn (s .change)
 abbrev pub ends : List Slot → List ℕ → List ℕ
 ends slots m = table (λ p. endAt (getD slots p nil) (getD m p 0)) (length m)
 
--- every place has what its slot needs
-pub record Covered (slots : List Slot) (m : List ℕ) : Type 0 where
-  pub at : (p : ℕ) → p < length m → getD slots p nil .need ≤ getD m p 0
+-- one place says yes: its tokens cover the need, and with the climb they keep to its capacity
+pub record SufficesAt (need climb cap tokens : ℕ) : Type 0 where
+  pub covers : need ≤ tokens
+  pub keeps : cap < noCapacity → tokens + climb ≤ cap
+
+-- every place says yes: the marking suffices for the slots
+pub record Suffices (slots : List Slot) (caps m : List ℕ) : Type 0 where
+  pub at : (p : ℕ) → p < length m → SufficesAt (getD slots p nil .need) (getD slots p nil .climb) (getD caps p 0) (getD m p 0)

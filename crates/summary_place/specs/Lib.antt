@@ -1,3 +1,4 @@
 pub mod Place
 pub mod Slots
 pub mod Asked
+pub mod Walk

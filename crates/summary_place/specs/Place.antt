@@ -1,11 +1,11 @@
--- A word at one place, as document 01 ("Summaries") says it: change, need and climb. A letter is seen there by three numbers.
-use Prim.Native.Nat.{ℕ, suc, _-_}
+-- To be believed: a word at one place, as document 01 ("Summaries") says it: change, need and climb. A letter is seen there by three numbers.
+use Prim.Native.Nat.{ℕ, suc}
 use mathlib.Core.List.{List, [], _∷_}
 use lib.ListN.{length, take, getD}
 use lib.IntN.{ℤ, pos, _+ℤ_, _-ℤ_}
 use Rattle.ground.specs.Lists.{most}
 use Rattle.ground.specs.Parts.{up}
-use Rattle.net.specs.Net.{Net, Pre, Post}
+use Rattle.net.specs.Net.{Net, Pre, Post, rise}
 
 -- what a letter takes from a place and puts there, and how far above its tokens the place rises on the way
 pub record Move : Type 0 where
@@ -13,9 +13,9 @@ pub record Move : Type 0 where
   pub puts : ℕ
   pub rise : ℕ
 
--- letter t at place p of a net. The capacity rule, "m(p) + Change(p,t) <= capacity", lets a place rise by Change, where that is not negative.
+-- letter t at place p of a net; the rise is the capacity rule's
 abbrev pub letterAt : Net → ℕ → ℕ → Move
-letterAt net p t = record { takes = Pre net p t; puts = Post net p t; rise = Post net p t - Pre net p t }
+letterAt net p t = record { takes = Pre net p t; puts = Post net p t; rise = rise net p t }
 
 -- letter number i of a word
 abbrev pub letterOf : (ℕ → Move) → List ℕ → ℕ → Move
@@ -30,7 +30,7 @@ change at (t ∷ w) = (pos (at t .puts) -ℤ pos (at t .takes)) +ℤ change at w
 unfoldable pub need : (ℕ → Move) → List ℕ → ℕ
 need at w = most (length w) (λ i. up (pos (letterOf at w i .takes) -ℤ change at (take i w)))
 
--- the largest of 0 and, for each letter with u before it, change(u) + its rise; for the rise above this is 01's climb, `prefixClimb`
+-- the largest of 0 and, for each letter with u before it, change(u) + its rise; for 001's rule this is 01's climb, `prefixClimb` (`climb-published` in summary)
 unfoldable pub climb : (ℕ → Move) → List ℕ → ℕ
 climb at w = most (length w) (λ i. up (change at (take i w) +ℤ pos (letterOf at w i .rise)))
 

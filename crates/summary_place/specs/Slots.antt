@@ -1,11 +1,11 @@
--- One place of a summary, and all its places: of a word, joined, and judged.
-use Prim.Native.Nat.{ℕ, _+_, _-_, _*_, _≤_, _<_, max}
+-- To be believed: one place of a summary, and all its places: of a word, joined, and tested by refusal 6.
+use Prim.Native.Nat.{ℕ, max}
 use mathlib.Core.Bool.{Bool, cond, _||_}
 use mathlib.Core.List.{List}
 use lib.ListN.{getD}
 use lib.Dec.{ltb}
 use lib.IntN.{pos, _+ℤ_, _-ℤ_}
-use Rattle.ground.specs.Limits.{countLimit, weightLimit, wordLimit}
+use Rattle.ground.specs.Limits.{countLimit}
 use Rattle.ground.specs.Lists.{first, mapAt, table}
 use Rattle.ground.specs.Parts.{up, dn}
 use Rattle.net.specs.Net.{Net}
@@ -27,10 +27,6 @@ slotAt net w p = cond (ltb p (net .places)) (slotOf (letterAt net p) w) nil
 abbrev pub slotsOf : Net → List ℕ → List Slot
 slotsOf net w = table (slotAt net w) countLimit
 
--- the larger of x and y + l - g: the form in which needs and climbs are computed
-unfoldable pub step : ℕ → ℕ → ℕ → ℕ → ℕ
-step x y l g = max x ((y + l) - g)
-
 -- "Join of a then b: .. changes add; need = max(need a, need b - change a); climb = max(climb a, change a + climb b)."
 unfoldable pub joined : Slot → Slot → Slot
 joined a b =
@@ -44,10 +40,6 @@ joined a b =
 abbrev pub joinedAll : List Slot → List Slot → List Slot
 joinedAll a b = mapAt (λ k x. joined x (getD b k nil)) a
 
--- the largest need and climb of a word
-abbrev pub slotLimit : ℕ
-slotLimit = weightLimit * wordLimit
-
 -- not "0 <= need <= 255n, 0 <= climb <= 255n, -need <= change <= climb", where cap is 255n; at cap 0 only the zero slot is well formed
 unfoldable pub slotBad : ℕ → Slot → Bool
 slotBad cap s =
@@ -60,14 +52,3 @@ badAt places cap p s = slotBad (cond (ltb p places) cap 0) s
 -- "the lowest place or slot", or the number of slots
 abbrev pub badSlot : ℕ → ℕ → List Slot → ℕ
 badSlot places cap slots = first (λ p. badAt places cap p (getD slots p nil)) countLimit
-
--- a slot that is well formed, the signed number by its parts
-pub record Well (cap : ℕ) (s : Slot) : Type 0 where
-  pub need : s .need ≤ cap
-  pub climb : s .climb ≤ cap
-  pub down : dn (s .change) ≤ s .need
-  pub top : up (s .change) ≤ s .climb
-
--- all slots are
-pub record Wells (cap : ℕ) (slots : List Slot) : Type 0 where
-  pub at : (p : ℕ) → p < countLimit → Well cap (getD slots p nil)

@@ -4,14 +4,15 @@ use ground::COUNT_LIMIT;
 use ground::NO_CAPACITY;
 use ground::Weight;
 ghost use mathlib.Core.Path.{_≡_};
-ghost use Prim.Native.Nat.{_+_, _-_, _*_, _^_, _<_, _≤_};
+ghost use Prim.Native.Nat.{_+_, _*_, _^_, _<_, _≤_};
 ghost use lib.ListN.{length, getD, replicate};
-ghost use Rattle.ground.specs.Limits.{countLimit, weightLimit, wordLimit};
+ghost use Rattle.ground.specs.Limits.{countLimit, wordLimit};
 ghost use Rattle.net.specs.Net.{netOf};
-ghost use Rattle.net.specs.Given.{Sized, Letters};
+ghost use Rattle.net.specs.Given.{Light, Sized, Letters};
 ghost use Rattle.summary_place.specs.Place.{letterAt};
-ghost use Rattle.summary_place.specs.Slots.{nil, step, slotOf, slotsOf, joined, joinedAll, slotLimit, slotBad, badAt, badSlot, Well, Wells};
-ghost use Rattle.summary_place.specs.Asked.{noAt, lowestNo, endAt, ends, Covered};
+ghost use Rattle.summary_place.specs.Slots.{nil, slotOf, slotsOf, joined, joinedAll, slotBad, badAt, badSlot};
+ghost use Rattle.summary_place.specs.Asked.{noAt, lowestNo, endAt, ends};
+ghost use Rattle.summary_place.specs.Walk.{step, slotLimit, Well, Wells, NeedsMet};
 
 // What a word needs, climbs and changes at one place.
 pub struct Slot {
@@ -43,20 +44,13 @@ fn larger(x: u32, y: u32, l: u32, g: u32) -> u32
     if z - g <= x { x } else { z - g }
 }
 
-// How far a letter makes a place rise.
-fn rise(takes: u32, puts: u32) -> u32
-    ensures { λ r. ⌜ r ≡ puts - takes ⌝ }
-{
-    if takes < puts { puts - takes } else { 0 }
-}
-
 // An entry of a table with a row for each transition.
-fn cell(table: &[Weight], places: usize, t: usize, p: usize) -> u32
+fn cell(table: &[Weight], places: usize, t: u8, p: usize) -> Weight
     requires { ⌜ t * places + p < length (now table) ⌝ }
-    ensures { λ r. ⌜ (r ≡ getD (now (table .entry)) (t * places + p) 0) × (r ≤ weightLimit) ⌝ }
+    ensures { λ r. ⌜ r ≡ getD (now (table .entry)) (t * places + p) 0 ⌝ }
 {
-    let i = t * places + p;
-    table[i] as u32
+    let i = t as usize * places + p;
+    table[i]
 }
 
 // One place of a word's summary, from what the letters so far have lost and gained there.
@@ -70,6 +64,7 @@ fn slot_of(
     word: &[u8],
 ) -> Slot
     requires { ⌜ Sized (netOf places transitions (now pre) (now post) (now caps)) ⌝ }
+    requires { ⌜ Light (netOf places transitions (now pre) (now post) (now caps)) ⌝ }
     requires { ⌜ p < places ⌝ }
     requires { ⌜ length (now word) ≤ wordLimit ⌝ }
     requires { ⌜ Letters transitions (now word) ⌝ }
@@ -81,13 +76,15 @@ fn slot_of(
     let mut climb: u32 = 0;
     let mut i: usize = 0;
     while i < word.len() {
-        let t = word[i] as usize;
+        let t = word[i];
         let takes = cell(pre, places, t, p);
         let puts = cell(post, places, t, p);
-        need = larger(need, takes, lost, gained);
-        climb = larger(climb, rise(takes, puts), gained, lost);
-        gained += puts;
-        lost += takes;
+        let rises = net::rise(takes, puts);
+        let taken = takes as u32;
+        need = larger(need, taken, lost, gained);
+        climb = larger(climb, rises as u32, gained, lost);
+        gained += puts as u32;
+        lost += taken;
         i += 1;
     }
     let change = ground::less(gained, lost);
@@ -108,6 +105,7 @@ pub fn word_slots(
     word: &[u8],
 ) -> [Slot; COUNT_LIMIT]
     requires { ⌜ Sized (netOf places transitions (now pre) (now post) (now caps)) ⌝ }
+    requires { ⌜ Light (netOf places transitions (now pre) (now post) (now caps)) ⌝ }
     requires { ⌜ length (now word) ≤ wordLimit ⌝ }
     requires { ⌜ Letters transitions (now word) ⌝ }
     ensures { λ r. ⌜ r ≡ slotsOf (netOf places transitions (now (pre .entry)) (now (post .entry)) (now (caps .entry))) (now (word .entry)) ⌝ }
@@ -248,7 +246,7 @@ pub fn write_end(slots: [Slot; COUNT_LIMIT], marking: &[u16], room: &mut [u32])
     requires { ⌜ length (now room) ≡ length (now marking) ⌝ }
     requires { ⌜ length (now marking) ≤ countLimit ⌝ }
     requires { ⌜ Wells slotLimit slots ⌝ }
-    requires { ⌜ Covered slots (now marking) ⌝ }
+    requires { ⌜ NeedsMet slots (now marking) ⌝ }
     ensures { λ r. ⌜ now (room .exit) ≡ ends slots (now (marking .entry)) ⌝ }
 {
     let mut p: usize = 0;

@@ -12,7 +12,7 @@ use Rattle.file_line.specs.declared.Reading.{Reading}
 use Rattle.file_line.specs.Read.{Rooms}
 use Rattle.file_parts.specs.declared.Case.{Case}
 use Rattle.file_parts.specs.declared.Case.the-variants as file
-use Rattle.file_parts.specs.File.{GoodCase}
+use Rattle.file_parts.specs.Held.{GoodCase}
 use Rattle.net.specs.Net.{Net}
 use Rattle.net.specs.Firing.{Names, causePlace}
 use Rattle.net.specs.declared.Cause.{Cause}
@@ -24,7 +24,8 @@ use Rattle.replay.specs.Entry.{replayFault, replayOf, answered, Replayed}
 use Rattle.replay.specs.declared.Replay.{Replay}
 use Rattle.replay.specs.declared.Replay.the-variants.{Fired, Blocked, Refused}
 use Rattle.replay.proofs.Meaning.{numbers-apart, answered-allowed, blocked-cause}
-use Rattle.verdict_text.specs.Verdict.{bytesOf, answerLimit, Placed, WrittenBytes}
+use Rattle.verdict_text.specs.Verdict.{bytesOf, answerLimit, WrittenBytes}
+use Rattle.verdict_text.specs.Walk.{Placed}
 use Rattle.verdict_text.proofs.Answers.{line-few}
 use Rattle.file_text.specs.Text.{netIn, markingIn, wordIn}
 use Rattle.verdict_line.specs.Answer.{roomFor, answerFor}

@@ -6,10 +6,11 @@ use mathlib.Core.List.{List, [], _∷_, _++_, append-nil}
 use native.Mathlib.Omega.{arith}
 use lib.ListN.{length}
 use Rattle.ground.proofs.Fill.{table-length}
-use Rattle.file_digits.specs.Frame.{allDigits, digitsOf, lineFeed, lineText}
+use Rattle.file_digits.specs.Frame.{allDigits, digitsOf, lineFeed, lineText, four, fours}
 use Rattle.file_digits.proofs.Round.{Below, none, more}
 use Rattle.file_line.specs.declared.Reading.{Reading}
-use Rattle.file_line.specs.Read.{Rooms, Large, fresh}
+use Rattle.file_line.specs.Read.{Rooms, fresh}
+use Rattle.file_line.specs.Walk.{Large}
 use Rattle.file_parts.specs.declared.Case.{Case}
 use Rattle.file_parts.specs.declared.Case.the-variants as file
 use Rattle.file_parts.specs.File.{Both, both, going, stopped, feedAll, readOf, together, feedParts, caseOf}
@@ -20,9 +21,10 @@ use Rattle.replay.specs.Entry.{Replayed, Allowed}
 use Rattle.replay.specs.declared.Replay.{Replay}
 use Rattle.replay.specs.declared.Replay.the-variants.{Fired, Blocked, Refused}
 use Rattle.replay.proofs.Meaning.{allowed-answered, fires-fired}
-use Rattle.verdict_text.specs.Verdict.{four, fours, bytesOf, Placed}
+use Rattle.verdict_text.specs.Verdict.{bytesOf}
+use Rattle.verdict_text.specs.Walk.{Placed}
 use Rattle.file_text.specs.Text.{netIn, markingIn, wordIn}
-use Rattle.file_text.proofs.Bytes.{digits-all}
+use Rattle.file_digits.proofs.Bytes.{digits-all}
 use Rattle.file_text.proofs.Meaning.{limited-allowed, read-file}
 use Rattle.verdict_line.specs.Answer.{roomFor, ranRead, answerFor, lineFor, lineAt, fileLine}
 use Rattle.verdict_line.proofs.Lines.{placed}

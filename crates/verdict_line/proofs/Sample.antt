@@ -4,15 +4,14 @@ use mathlib.Core.Path.{_≡_, refl, sym, ap, _∙_}
 use mathlib.Core.List.{List, [], _∷_, _++_}
 use Rattle.ground.specs.Lists.{first, tally, mapAt, table}
 use Rattle.net.specs.Given.{countsFault, netFault, markingFault, startFault, markedFault, wordFault}
-use Rattle.file_digits.specs.Frame.{lineFeed, valueOf, isDigit, allDigits, digitOf, digitsOf, byteAt, bytesFrom, wordsFrom}
+use Rattle.file_digits.specs.Frame.{lineFeed, valueOf, isDigit, allDigits, digitOf, digitsOf, byteAt, bytesFrom, wordsFrom, four, fours}
 use Rattle.file_line.specs.declared.Reading.{Reading}
 use Rattle.file_line.specs.declared.Took.the-variants.{Next}
-use Rattle.file_line.specs.Read.{Rooms, fresh, ruleOf, countsOf, capsOf, fitTokens, tokensOf, rowOf, fitLetters, lettersOf, judgeKind, judgeOf, advancedKind, storedKind, lineOf, roomsOf, rooms}
+use Rattle.file_line.specs.Read.{Rooms, fresh, ruleOf, formedKind, formedOf, judgeOf, advancedKind, storedKind, lineOf, roomsOf, rooms}
 use Rattle.file_parts.specs.File.{both, going, feedAll, finishOf, caseOf, lineLen, NoFeed}
 use Rattle.file_parts.proofs.Line.{next-line}
 use Rattle.replay.specs.Replay.{playFrom}
 use Rattle.replay.specs.Entry.{replayFault}
-use Rattle.verdict_text.specs.Verdict.{four, fours}
 use Rattle.verdict_line.specs.Answer.{lineAt, fileLine}
 
 -- "One whole case", a line of it in each row
@@ -45,7 +44,7 @@ abbrev pub answer : List ℕ
 answer = 56 ∷ 49 ∷ 48 ∷ 48 ∷ 48 ∷ 48 ∷ 48 ∷ 48 ∷ 48 ∷ 48 ∷ 48 ∷ 53 ∷ 48 ∷ 48 ∷ 48 ∷ 48 ∷ 48 ∷ 48 ∷ 48 ∷ 49 ∷ 48 ∷ 48 ∷ 48 ∷ 48 ∷ 48 ∷ 48 ∷ 48 ∷ 48 ∷ 48 ∷ 48 ∷ 48 ∷ 48 ∷ 48 ∷ 48 ∷ 48 ∷ 49 ∷ 10 ∷ []
 
 -- a line is read to the state u and the rooms y
-step : (s u : Reading) (x y : Rooms) (d rest : List ℕ) → NoFeed d → Next u ≡ lineOf s d (x .caps) → y ≡ roomsOf s d x → feedAll (both (going s []) x) (d ++ lineFeed ∷ rest) ≡ feedAll (both (going u []) y) rest
+step : (s u : Reading) (x y : Rooms) (d rest : List ℕ) → NoFeed d → Next u ≡ lineOf s d x → y ≡ roomsOf s d x → feedAll (both (going s []) x) (d ++ lineFeed ∷ rest) ≡ feedAll (both (going u []) y) rest
 step s u x y d rest n e f = next-line s x d rest n u e ∙ ap (λ (z : Rooms). feedAll (both (going u []) z) rest) (sym f)
 
 module _ (caps initial pre post word : List ℕ) where
@@ -95,31 +94,31 @@ module _ (caps initial pre post word : List ℕ) where
   rooms7 = rooms (65535 ∷ 65535 ∷ 5 ∷ caps) (1 ∷ 0 ∷ 0 ∷ initial) (1 ∷ 0 ∷ 0 ∷ 0 ∷ 1 ∷ 0 ∷ 0 ∷ 0 ∷ 3 ∷ pre) (0 ∷ 1 ∷ 0 ∷ 1 ∷ 0 ∷ 2 ∷ 0 ∷ 0 ∷ 0 ∷ post) (0 ∷ 1 ∷ 0 ∷ 1 ∷ 2 ∷ word)
 
   read1 : feedAll (both (going fresh []) rooms0) (line1 ++ lineFeed ∷ (line2 ++ lineFeed ∷ (line3 ++ lineFeed ∷ (line4 ++ lineFeed ∷ (line5 ++ lineFeed ∷ (line6 ++ lineFeed ∷ (line7 ++ lineFeed ∷ []))))))) ≡ feedAll (both (going state1 []) rooms1) (line2 ++ lineFeed ∷ (line3 ++ lineFeed ∷ (line4 ++ lineFeed ∷ (line5 ++ lineFeed ∷ (line6 ++ lineFeed ∷ (line7 ++ lineFeed ∷ []))))))
-  unfolding lineLen valueOf isDigit allDigits byteAt bytesFrom wordsFrom ruleOf countsOf capsOf fitTokens tokensOf rowOf fitLetters lettersOf judgeKind judgeOf advancedKind storedKind lineOf roomsOf
+  unfolding lineLen valueOf isDigit allDigits byteAt bytesFrom wordsFrom first ruleOf formedKind formedOf judgeOf advancedKind storedKind lineOf roomsOf
   read1 = step fresh state1 rooms0 rooms1 line1 (line2 ++ lineFeed ∷ (line3 ++ lineFeed ∷ (line4 ++ lineFeed ∷ (line5 ++ lineFeed ∷ (line6 ++ lineFeed ∷ (line7 ++ lineFeed ∷ [])))))) refl refl refl
 
   read2 : feedAll (both (going state1 []) rooms1) (line2 ++ lineFeed ∷ (line3 ++ lineFeed ∷ (line4 ++ lineFeed ∷ (line5 ++ lineFeed ∷ (line6 ++ lineFeed ∷ (line7 ++ lineFeed ∷ [])))))) ≡ feedAll (both (going state2 []) rooms2) (line3 ++ lineFeed ∷ (line4 ++ lineFeed ∷ (line5 ++ lineFeed ∷ (line6 ++ lineFeed ∷ (line7 ++ lineFeed ∷ [])))))
-  unfolding lineLen valueOf isDigit allDigits byteAt bytesFrom wordsFrom ruleOf countsOf capsOf fitTokens tokensOf rowOf fitLetters lettersOf judgeKind judgeOf advancedKind storedKind lineOf roomsOf
+  unfolding lineLen valueOf isDigit allDigits byteAt bytesFrom wordsFrom first ruleOf formedKind formedOf judgeOf advancedKind storedKind lineOf roomsOf
   read2 = step state1 state2 rooms1 rooms2 line2 (line3 ++ lineFeed ∷ (line4 ++ lineFeed ∷ (line5 ++ lineFeed ∷ (line6 ++ lineFeed ∷ (line7 ++ lineFeed ∷ []))))) refl refl refl
 
   read3 : feedAll (both (going state2 []) rooms2) (line3 ++ lineFeed ∷ (line4 ++ lineFeed ∷ (line5 ++ lineFeed ∷ (line6 ++ lineFeed ∷ (line7 ++ lineFeed ∷ []))))) ≡ feedAll (both (going state3 []) rooms3) (line4 ++ lineFeed ∷ (line5 ++ lineFeed ∷ (line6 ++ lineFeed ∷ (line7 ++ lineFeed ∷ []))))
-  unfolding lineLen valueOf isDigit allDigits byteAt bytesFrom wordsFrom ruleOf countsOf capsOf fitTokens tokensOf rowOf fitLetters lettersOf judgeKind judgeOf advancedKind storedKind lineOf roomsOf
+  unfolding lineLen valueOf isDigit allDigits byteAt bytesFrom wordsFrom first ruleOf formedKind formedOf judgeOf advancedKind storedKind lineOf roomsOf
   read3 = step state2 state3 rooms2 rooms3 line3 (line4 ++ lineFeed ∷ (line5 ++ lineFeed ∷ (line6 ++ lineFeed ∷ (line7 ++ lineFeed ∷ [])))) refl refl refl
 
   read4 : feedAll (both (going state3 []) rooms3) (line4 ++ lineFeed ∷ (line5 ++ lineFeed ∷ (line6 ++ lineFeed ∷ (line7 ++ lineFeed ∷ [])))) ≡ feedAll (both (going state4 []) rooms4) (line5 ++ lineFeed ∷ (line6 ++ lineFeed ∷ (line7 ++ lineFeed ∷ [])))
-  unfolding lineLen valueOf isDigit allDigits byteAt bytesFrom wordsFrom ruleOf countsOf capsOf fitTokens tokensOf rowOf fitLetters lettersOf judgeKind judgeOf advancedKind storedKind lineOf roomsOf
+  unfolding lineLen valueOf isDigit allDigits byteAt bytesFrom wordsFrom first ruleOf formedKind formedOf judgeOf advancedKind storedKind lineOf roomsOf
   read4 = step state3 state4 rooms3 rooms4 line4 (line5 ++ lineFeed ∷ (line6 ++ lineFeed ∷ (line7 ++ lineFeed ∷ []))) refl refl refl
 
   read5 : feedAll (both (going state4 []) rooms4) (line5 ++ lineFeed ∷ (line6 ++ lineFeed ∷ (line7 ++ lineFeed ∷ []))) ≡ feedAll (both (going state5 []) rooms5) (line6 ++ lineFeed ∷ (line7 ++ lineFeed ∷ []))
-  unfolding lineLen valueOf isDigit allDigits byteAt bytesFrom wordsFrom ruleOf countsOf capsOf fitTokens tokensOf rowOf fitLetters lettersOf judgeKind judgeOf advancedKind storedKind lineOf roomsOf
+  unfolding lineLen valueOf isDigit allDigits byteAt bytesFrom wordsFrom first ruleOf formedKind formedOf judgeOf advancedKind storedKind lineOf roomsOf
   read5 = step state4 state5 rooms4 rooms5 line5 (line6 ++ lineFeed ∷ (line7 ++ lineFeed ∷ [])) refl refl refl
 
   read6 : feedAll (both (going state5 []) rooms5) (line6 ++ lineFeed ∷ (line7 ++ lineFeed ∷ [])) ≡ feedAll (both (going state6 []) rooms6) (line7 ++ lineFeed ∷ [])
-  unfolding lineLen valueOf isDigit allDigits byteAt bytesFrom wordsFrom ruleOf countsOf capsOf fitTokens tokensOf rowOf fitLetters lettersOf judgeKind judgeOf advancedKind storedKind lineOf roomsOf
+  unfolding lineLen valueOf isDigit allDigits byteAt bytesFrom wordsFrom first ruleOf formedKind formedOf judgeOf advancedKind storedKind lineOf roomsOf
   read6 = step state5 state6 rooms5 rooms6 line6 (line7 ++ lineFeed ∷ []) refl refl refl
 
   read7 : feedAll (both (going state6 []) rooms6) (line7 ++ lineFeed ∷ []) ≡ feedAll (both (going state7 []) rooms7) []
-  unfolding lineLen valueOf isDigit allDigits byteAt bytesFrom wordsFrom ruleOf countsOf capsOf fitTokens tokensOf rowOf fitLetters lettersOf judgeKind judgeOf advancedKind storedKind lineOf roomsOf
+  unfolding lineLen valueOf isDigit allDigits byteAt bytesFrom wordsFrom first ruleOf formedKind formedOf judgeOf advancedKind storedKind lineOf roomsOf
   read7 = step state6 state7 rooms6 rooms7 line7 [] refl refl refl
 
   -- whatever the rooms hold beyond the case

@@ -1,4 +1,4 @@
--- The line that the program writes, as a function of what a case file comes to.
+-- To be believed: the line that the program writes, as a function of what a case file comes to.
 use Prim.Native.Nat.{ℕ}
 use mathlib.Core.Bool.{true}
 use mathlib.Core.List.{List, []}

@@ -9,8 +9,10 @@ ghost use mathlib.Core.Path.{_≡_};
 ghost use Prim.Native.Nat.{_≤_};
 ghost use lib.ListN.{length};
 ghost use Rattle.ground.specs.Limits.{countLimit};
-ghost use Rattle.file_line.specs.Read.{Good, rooms, Large};
-ghost use Rattle.file_parts.specs.File.{caseOf, abs, Sound};
+ghost use Rattle.file_line.specs.Read.{rooms};
+ghost use Rattle.file_line.specs.Walk.{Good, Large};
+ghost use Rattle.file_parts.specs.File.{caseOf};
+ghost use Rattle.file_parts.specs.Held.{abs, Sound};
 ghost use Rattle.verdict_text.specs.Verdict.{answerLimit, WrittenBytes};
 ghost use Rattle.verdict_line.specs.Answer.{answerFor};
 

@@ -1,43 +1,17 @@
--- Laws of bytes put one after another. Assumes nothing.
+-- Laws of a marking put place by place, and of a line at the front of a room. Assumes nothing.
 use mathlib.Core.Path.{_≡_, refl, sym, _∙_, ap}
-use mathlib.Core.List.{List, [], _∷_, _++_}
-use Prim.Native.Nat.{ℕ, zero, suc, _+_, _*_, _/_, _%_, _≤_, _<_}
+use mathlib.Core.List.{List, [], _∷_}
+use Prim.Native.Nat.{ℕ, zero, suc, _+_, _*_, _≤_, _<_}
 use native.Mathlib.Omega.{arith}
 use native.Mathlib.Numerals.{add-one}
 use native.Mathlib.Nat.{not-suc-le-zero}
-use lib.ListN.{length, getD, drop, set, length-append}
-use lib.Seq.{sets, drop-cons, length-sets}
+use lib.ListN.{length, getD, drop}
+use lib.Seq.{sets, drop-cons}
 use Rattle.ground.proofs.Stores.{sets-both}
-use Rattle.file_digits.specs.Frame.{digitOf, digitsOf, lineFeed}
+use Rattle.file_digits.specs.Frame.{digitsOf, lineFeed, four, fours, Put}
 use Rattle.file_digits.proofs.Round.{digits-then, digits-long}
-use Rattle.verdict_text.specs.Verdict.{four, fours, Put, WrittenBytes}
-
-pub put-then : (l : List ℕ) (at : ℕ) (a b : List ℕ) (r s : ℕ) (m n : List ℕ) → Put l at a r m → Put m r b s n → Put l at (a ++ b) s n
-put-then l at a b r s m n p q =
-    let e : r ≡ at + length (digitsOf a) = p .next ∙ rw (digits-long a) in
-    record {
-      made = q .made ∙ rw (p .made, e) (sets-both (digitsOf a) (digitsOf b) l at ∙ ap (sets l at) (sym (digits-then a b)));
-      next = omega (arith, p .next, q .next, length-append a b);
-    }
-
-pub put-one : (l : List ℕ) (at b x y : ℕ) → x ≡ digitOf (b / 16) → y ≡ digitOf (b % 16) → Put l at (b ∷ []) (at + 2) (set (set l at x) (at + 1) y)
-unfolding digitsOf
-put-one l at b x y e f = record { made = rw (e, f, add-one at); next = omega arith }
-
-pub put-long : (l : List ℕ) (at : ℕ) (a : List ℕ) (r : ℕ) (m : List ℕ) → Put l at a r m → length m ≡ length l
-put-long l at a r m p = rw (p .made, length-sets)
-
-pub four-long : (n : ℕ) → length (four n) ≡ 4
-unfolding four
-four-long n = refl
-
-pub fours-long : (w : List ℕ) → length (fours w) ≡ 4 * length w
-unfolding fours
-fours-long [] = refl
-fours-long (x ∷ w) =
-    let e = length-append (four x) (fours w) in
-    let f = fours-long w in
-    omega (arith, four-long x)
+use Rattle.file_digits.proofs.Puts.{put-long, four-long, fours-long, line-put}
+use Rattle.verdict_text.specs.Verdict.{WrittenBytes}
 
 -- the marking is put up to place i
 pub record Putting (l : List ℕ) (at : ℕ) (m : List ℕ) (i r : ℕ) (o : List ℕ) : Type 0 where
@@ -83,8 +57,5 @@ pub ruleset puttings = (putting-start, putting-next, putting-end, putting-long)
 -- the line feed after the bytes
 pub fed : (l a : List ℕ) (r s : ℕ) (m n : List ℕ) → Put l 0 a r m → n ≡ sets m r (lineFeed ∷ []) → s ≡ r + 1 → WrittenBytes l a s n
 fed l a r s m n p e f =
-    let k : r ≡ 0 + length (digitsOf a) = p .next ∙ rw (digits-long a) in
-    record {
-      made = e ∙ rw (p .made, k) (sets-both (digitsOf a) (lineFeed ∷ []) l 0);
-      long = let z = length-append (digitsOf a) (lineFeed ∷ []) in omega (arith, k);
-    }
+    let q = line-put l 0 a r s m n p e f in
+    record { made = q .made; long = omega (arith, q .next) }

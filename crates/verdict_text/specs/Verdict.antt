@@ -1,23 +1,14 @@
--- The verdict line ("Output, one such line with its line feed").
-use Prim.Native.Nat.{ℕ, _+_, _*_, _/_, _%_, _<_}
+-- To be believed: the verdict line ("Output, one such line with its line feed").
+use Prim.Native.Nat.{ℕ, _+_, _*_}
 use mathlib.Core.Path.{_≡_}
 use mathlib.Core.List.{List, [], _∷_, _++_}
 use lib.ListN.{length}
 use lib.Seq.{sets}
 use Rattle.ground.specs.Limits.{countLimit}
-use Rattle.file_digits.specs.Frame.{digitsOf, lineText}
+use Rattle.file_digits.specs.Frame.{four, fours, lineText}
 use Rattle.net.specs.Firing.{causeNumber, causePlace}
 use Rattle.replay.specs.declared.Replay.{Replay}
 use Rattle.replay.specs.declared.Replay.the-variants.{Fired, Blocked, Refused}
-
--- "numbers of two or four bytes have the high byte first"
-unfoldable pub four : ℕ → List ℕ
-four n = n / 16777216 % 256 ∷ n / 65536 % 256 ∷ n / 256 % 256 ∷ n % 256 ∷ []
-
--- "P tokens (4 bytes each)"
-unfoldable pub fours : List ℕ → List ℕ
-fours [] = []
-fours (m ∷ ms) = four m ++ fours ms
 
 -- "81 00, letters fired (4 bytes), P tokens (4 bytes each); or 81 01 (short) or 81 02 (over), position (4 bytes, from 0), place (1 byte);
 -- or 82, refusal number, line from 1 (4 bytes)"
@@ -34,17 +25,6 @@ verdict r marking = lineText (bytesOf r marking)
 -- a block's 14 digits and a refusal's 12 are fewer
 abbrev pub answerLimit : ℕ
 answerLimit = 13 + 8 * countLimit
-
--- a place that an answer names is one of at most 64, so that it is one byte
-abbrev pub Placed : Replay → Type 0
-Placed (Fired n) = Unit {0}
-Placed (Blocked i why) = causePlace why < countLimit
-Placed (Refused n at) = Unit {0}
-
--- bytes were put into the room at number at, as digits; r is the number after them
-pub record Put (room : List ℕ) (at : ℕ) (bytes : List ℕ) (r : ℕ) (room′ : List ℕ) : Type 0 where
-  pub made : room′ ≡ sets room at (digitsOf bytes)
-  pub next : r ≡ at + 2 * length bytes
 
 -- the line of these bytes stands at the front of the room; r is its length
 pub record WrittenBytes (room bytes : List ℕ) (r : ℕ) (room′ : List ℕ) : Type 0 where

@@ -6,35 +6,14 @@ ghost use mathlib.Core.Path.{_≡_};
 ghost use mathlib.Core.List.{[], _∷_, _++_};
 ghost use Prim.Native.Nat.{_+_, _*_, _≤_};
 ghost use lib.ListN.{length};
-ghost use lib.Seq.{sets};
 ghost use Rattle.ground.specs.Limits.{countLimit};
-ghost use Rattle.file_digits.specs.Frame.{lineFeed};
-ghost use Rattle.verdict_text.specs.Verdict.{four, fours, bytesOf, answerLimit, Placed, Put, WrittenBytes};
+ghost use Rattle.file_digits.specs.Frame.{four, fours, Put};
+ghost use Rattle.verdict_text.specs.Verdict.{bytesOf, answerLimit, WrittenBytes};
+ghost use Rattle.verdict_text.specs.Walk.{Placed};
 
 // The most bytes of a verdict line: 81 00 and the letters fired are 12 digits, each of at most 64
 // places has 8 more, and the line feed ends it.
 pub const ANSWER_LIMIT: usize = 13 + 8 * COUNT_LIMIT;
-
-// A byte, as its two digits; answers the number after them.
-fn put_byte(out: &mut [u8], at: usize, b: u8) -> usize
-    requires { ⌜ at + 2 ≤ length (now out) ⌝ }
-    ensures { λ r. ⌜ Put (now (out .entry)) at (b ∷ []) r (now (out .exit)) ⌝ }
-{
-    out[at] = file_digits::digit(b / 16);
-    out[at + 1] = file_digits::digit(b % 16);
-    at + 2
-}
-
-// A number of four bytes, the high byte first.
-fn put_four(out: &mut [u8], at: usize, n: usize) -> usize
-    requires { ⌜ at + 8 ≤ length (now out) ⌝ }
-    ensures { λ r. ⌜ Put (now (out .entry)) at (four n) r (now (out .exit)) ⌝ }
-{
-    let a = put_byte(out, at, (n / 16777216 % 256) as u8);
-    let b = put_byte(out, a, (n / 65536 % 256) as u8);
-    let c = put_byte(out, b, (n / 256 % 256) as u8);
-    put_byte(out, c, (n % 256) as u8)
-}
 
 // Tokens as a number of the machine's own size.
 fn wide(tokens: u32) -> usize
@@ -51,20 +30,10 @@ fn put_marking(out: &mut [u8], at: usize, marking: &[u32]) -> usize
     let mut r = at;
     let mut p = 0;
     while p < marking.len() {
-        r = put_four(out, r, wide(marking[p]));
+        r = file_digits::put_four(out, r, wide(marking[p]));
         p += 1;
     }
     r
-}
-
-// The line feed after the bytes.
-fn put_feed(out: &mut [u8], at: usize) -> usize
-    requires { ⌜ at + 1 ≤ length (now out) ⌝ }
-    ensures room { λ r. ⌜ now (out .exit) ≡ sets (now (out .entry)) at (lineFeed ∷ []) ⌝ }
-    ensures next { λ r. ⌜ r ≡ at + 1 ⌝ }
-{
-    out[at] = b'\n';
-    at + 1
 }
 
 // 81 00, the letters fired, and the marking left.
@@ -72,11 +41,11 @@ pub fn write_fired(out: &mut [u8], n: usize, marking: &[u32]) -> usize
     requires { ⌜ 13 + 8 * length (now marking) ≤ length (now out) ⌝ }
     ensures { λ r. ⌜ WrittenBytes (now (out .entry)) ((0x81 ∷ []) ++ ((0 ∷ []) ++ (four n ++ fours (now (marking .entry))))) r (now (out .exit)) ⌝ }
 {
-    let a = put_byte(out, 0, 0x81);
-    let b = put_byte(out, a, 0);
-    let c = put_four(out, b, n);
+    let a = file_digits::put_byte(out, 0, 0x81);
+    let b = file_digits::put_byte(out, a, 0);
+    let c = file_digits::put_four(out, b, n);
     let d = put_marking(out, c, marking);
-    put_feed(out, d)
+    file_digits::put_feed(out, d)
 }
 
 // 81 and the cause, the letter's position, and the place.
@@ -84,11 +53,11 @@ pub fn write_blocked(out: &mut [u8], i: usize, cause: u8, place: u8) -> usize
     requires { ⌜ 15 ≤ length (now out) ⌝ }
     ensures { λ r. ⌜ WrittenBytes (now (out .entry)) ((0x81 ∷ []) ++ ((cause ∷ []) ++ (four i ++ (place ∷ [])))) r (now (out .exit)) ⌝ }
 {
-    let a = put_byte(out, 0, 0x81);
-    let b = put_byte(out, a, cause);
-    let c = put_four(out, b, i);
-    let d = put_byte(out, c, place);
-    put_feed(out, d)
+    let a = file_digits::put_byte(out, 0, 0x81);
+    let b = file_digits::put_byte(out, a, cause);
+    let c = file_digits::put_four(out, b, i);
+    let d = file_digits::put_byte(out, c, place);
+    file_digits::put_feed(out, d)
 }
 
 // 82, the refusal's number, and its line.
@@ -96,10 +65,10 @@ pub fn write_refused(out: &mut [u8], number: u8, line: usize) -> usize
     requires { ⌜ 13 ≤ length (now out) ⌝ }
     ensures { λ r. ⌜ WrittenBytes (now (out .entry)) ((0x82 ∷ []) ++ ((number ∷ []) ++ four line)) r (now (out .exit)) ⌝ }
 {
-    let a = put_byte(out, 0, 0x82);
-    let b = put_byte(out, a, number);
-    let c = put_four(out, b, line);
-    put_feed(out, c)
+    let a = file_digits::put_byte(out, 0, 0x82);
+    let b = file_digits::put_byte(out, a, number);
+    let c = file_digits::put_four(out, b, line);
+    file_digits::put_feed(out, c)
 }
 
 // A block's line, by its cause.

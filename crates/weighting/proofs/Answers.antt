@@ -1,88 +1,37 @@
 -- Which refusal and which answer is given, from what the code has found. Assumes nothing.
 use Prim.Native.Nat.{ℕ, _≤_, _<_, _/_}
 use mathlib.Core.Path.{_≡_, sym, ap, _∙_}
-use mathlib.Core.Bool.{Bool, true, false}
+use mathlib.Core.Bool.{true, false}
 use mathlib.Core.List.{List}
 use lib.ListN.{length}
-use lib.Dec.{leb, eqb}
 use lib.IntN.{ℤ}
-use borrow.Author.Tests.{lt-ltb, le-ltb, le-leb, lt-leb, leb-false, eq-eqb, eqb-true}
+use borrow.Author.Tests.{lt-ltb, le-ltb, le-leb, lt-leb}
 use Rattle.ground.specs.Parts.{up}
 use Rattle.net.specs.Net.{Net}
-use Rattle.net.specs.Given.{refuse, orElse, netFault, firstFault, Sized, Fine}
+use Rattle.net.specs.Given.{refuse}
 use Rattle.net.specs.declared.Fault.{Fault}
 use Rattle.net.specs.declared.Fault.the-variants.{Sound, Faulty}
-use Rattle.net.proofs.Refusals.{or-sound, sound-or, refuse-sound, sound-refuse, sized-of, first-sound, sound-first}
-use Rattle.weighting.specs.Weighting.{entry, weight, lowestTransition, lowestPlace, lowestEntry, allZero, weightingFault}
-use Rattle.weighting.specs.Lines.{total, held}
+use Rattle.weighting.specs.Weighting.{entry, weight}
+use Rattle.weighting.specs.Tests.{lowestTransition, lowestPlace, lowestEntry, allZero, weightingFault}
+use Rattle.weighting.specs.Walk.{total, held}
 use Rattle.weighting.specs.Place.{placeOf, placeNumbers}
 use Rattle.weighting.specs.declared.PlaceWeighting.the-variants as place
 use Rattle.weighting.specs.Transition.{transitionOf, transitionNumbers}
 use Rattle.weighting.specs.declared.TransitionWeighting.the-variants as transition
-use Rattle.weighting.specs.Bound.{boundFault, foundBound, boundOf, boundNumbers}
+use Rattle.weighting.specs.Bound.{foundBound, boundOf, boundNumbers}
+use Rattle.weighting.specs.Tests.{boundFault}
 use Rattle.weighting.specs.declared.NoBoundCause.the-variants.{NotInvariant, Negative, NotPositive}
 use Rattle.weighting.specs.declared.Bound.{Bound}
 use Rattle.weighting.specs.declared.Bound.the-variants.{Bounded, NoBound, Refused}
 use Rattle.weighting.proofs.Entries.{no-negative, weight-is}
 
--- ---- refusals
--- a chain gives its first part's fault, else its second part
-pub chain-first : (f g found : Fault) (n at : ℕ) → found ≡ f → found ≡ Faulty n at → Faulty n at ≡ orElse f g
-chain-first f g found n at e q = rw (← e, q)
-
-pub chain-next : (f g found r : Fault) → found ≡ f → found ≡ Sound → r ≡ g → r ≡ orElse f g
-chain-next f g found r e q k = rw (← e, q) k
-
-pub ruleset chains = (chain-first, chain-next)
-
+-- ---- refusal 8
 module _ (y : List ℤ) (k : ℕ) (e : k ≡ lowestEntry false y) where
   pub zero-all : length y ≤ k → Faulty 8 0 ≡ refuse (allZero y) 8 0
   zero-all h = rw (← e, le-leb (length y) k h)
 
   pub zero-some : k < length y → Sound ≡ refuse (allZero y) 8 0
   zero-some h = rw (← e, lt-leb (length y) k h)
-
-pub refused : (b : Bool) (n at : ℕ) → b ≡ true → Faulty n at ≡ refuse b n at
-refused b n at e = rw e
-
-pub passed : (b : Bool) (n at : ℕ) → b ≡ false → Sound ≡ refuse b n at
-passed b n at e = rw e
-
--- what holds where nothing is refused
-pub weighting-sound : (net : Net) (n : ℕ) (y : List ℤ) → weightingFault net n y ≡ Sound → Sized net × (length y ≡ n) × (allZero y ≡ false)
-weighting-sound net n y e =
-    let a = or-sound (netFault net (eqb (length y) n)) (refuse (allZero y) 8 0) e in
-    let s = sized-of net (eqb (length y) n) (a .0) in
-    (s .0, eqb-true (length y) n (s .1), refuse-sound (allZero y) 8 0 (a .1))
-
--- the same for a bound: all that document 01 asks holds
-pub record Asked (net : Net) (initial : List ℕ) (y : List ℤ) (p : ℕ) : Type 0 where
-  pub sized : Sized net
-  pub initial-long : length initial ≡ net .places
-  pub y-long : length y ≡ net .places
-  pub fine : Fine (net .caps) initial
-  pub some : allZero y ≡ false
-  pub here : p < net .places
-
-pub bound-sound : (net : Net) (initial : List ℕ) (y : List ℤ) (p : ℕ) → boundFault net initial y p ≡ Sound → Asked net initial y p
-bound-sound net initial y p e =
-    let a = or-sound (firstFault net initial (eqb (length y) (net .places))) (orElse (refuse (allZero y) 8 0) (refuse (leb (net .places) p) 13 0)) e in
-    let b = or-sound (refuse (allZero y) 8 0) (refuse (leb (net .places) p) 13 0) (a .1) in
-    let f = first-sound net initial (eqb (length y) (net .places)) (a .0) in
-    record {
-      sized = f .0;
-      initial-long = f .1;
-      y-long = eqb-true (length y) (net .places) (f .2);
-      fine = f .3;
-      some = refuse-sound (allZero y) 8 0 (b .0);
-      here = leb-false (net .places) p (refuse-sound (leb (net .places) p) 13 0 (b .1));
-    }
-
-pub sound-bound : (net : Net) (initial : List ℕ) (y : List ℤ) (p : ℕ) → Asked net initial y p → boundFault net initial y p ≡ Sound
-sound-bound net initial y p a =
-    sound-or (firstFault net initial (eqb (length y) (net .places))) (orElse (refuse (allZero y) 8 0) (refuse (leb (net .places) p) 13 0))
-    (sound-first net initial (eqb (length y) (net .places)) (a .sized) (a .initial-long) (eq-eqb (length y) (net .places) (a .y-long)) (a .fine))
-    (sound-or (refuse (allZero y) 8 0) (refuse (leb (net .places) p) 13 0) (sound-refuse (allZero y) 8 0 (a .some)) (sound-refuse (leb (net .places) p) 13 0 (lt-leb (net .places) p (a .here))))
 
 -- ---- answers
 module _ (net : Net) (y : List ℤ) (found : Fault) (e : found ≡ weightingFault net (net .places) y) where

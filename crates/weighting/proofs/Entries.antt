@@ -14,9 +14,10 @@ use Rattle.ground.proofs.Tests.{never}
 use Rattle.ground.proofs.Scan.{first-below}
 use Rattle.ground.proofs.Parts.{parts-eq}
 use Rattle.net.specs.Net.{Net, tokens}
-use Rattle.weighting.specs.Weighting.{entry, weight, isZero, isNegative, picks, lowestEntry}
-use Rattle.weighting.specs.Lines.{total, held}
-use Rattle.weighting.proofs.Sums.{sum-same, sum-pos}
+use Rattle.weighting.specs.Weighting.{entry, weight}
+use Rattle.weighting.specs.Tests.{isZero, isNegative, picks, lowestEntry}
+use Rattle.weighting.specs.Walk.{total, held}
+use Rattle.weighting.proofs.Sum.{sum-same, sum-pos}
 
 -- an entry's sign by its parts u and d
 pub negative-is : (z : ℤ) (d : ℕ) → d ≡ dn z → ltb 0 d ≡ isNegative z

@@ -1,8 +1,10 @@
-pub mod Sums
+pub mod Sum
 pub mod Shares
 pub mod Nets
 pub mod Entries
+pub mod Lowest
+pub mod Allowed
 pub mod Answers
 pub mod Numbers
-pub mod Lowest
 pub mod Meaning
+pub mod Exactly

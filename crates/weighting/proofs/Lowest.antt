@@ -1,28 +1,22 @@
--- The tests of a weighting say what is published: which numbers are 0, which is the lowest that is not, which entries are negative,
--- and when nothing is refused. Assumes nothing.
+-- The tests of a weighting say what is published: which numbers are 0, which is the lowest that is not, which entries are negative. Assumes nothing.
 use Prim.Native.Nat.{ℕ, _≤_, _<_}
 use mathlib.Core.Path.{_≡_, refl, sym, ap, _∙_}
 use mathlib.Core.Bool.{Bool, true, false, not, cond}
 use mathlib.Core.Logic.{_↔_}
 use mathlib.Core.List.{List}
 use native.Mathlib.Omega.{arith}
-use native.Mathlib.Decide.{decLt}
-use lib.ListN.{length, List·getD-eq-default}
+use lib.ListN.{length}
 use lib.Dec.{ltb, eqb}
 use lib.IntN.{ℤ, pos, negsuc}
-use borrow.Author.Tests.{ltb-true, ltb-false, lt-ltb, le-ltb, lt-leb, leb-false, eq-eqb, eqb-true}
+use borrow.Author.Tests.{ltb-true, ltb-false, lt-ltb, le-ltb, eqb-true}
 use Rattle.ground.specs.Parts.{dn}
 use Rattle.ground.specs.Lists.{first}
 use Rattle.ground.proofs.Tests.{never}
 use Rattle.ground.proofs.Scan.{first-at, first-none, first-below, first-passes}
 use Rattle.ground.proofs.Parts.{neg-le}
-use Rattle.net.specs.Net.{Net}
-use Rattle.net.specs.Given.{refuse, netFault}
-use Rattle.net.specs.declared.Fault.the-variants.{Sound}
-use Rattle.net.proofs.Refusals.{sound-or, sound-refuse, sized-is}
-use Rattle.weighting.specs.Weighting.{entry, NoNegative, Lowest, Allowed, isZero, isNegative, picks, lowestEntry, hasNegative, allZero, weightingFault}
+use Rattle.weighting.specs.Weighting.{entry, NoNegative, Lowest}
+use Rattle.weighting.specs.Tests.{isZero, isNegative, picks, lowestEntry, hasNegative}
 use Rattle.weighting.proofs.Entries.{no-negative}
-use Rattle.weighting.proofs.Answers.{weighting-sound}
 
 zero-of : (z : ℤ) → not (isZero z) ≡ false → z ≡ pos 0
 zero-of (pos n) e = ap pos (go n (eqb n 0) refl e)
@@ -35,7 +29,7 @@ zero-of (negsuc n) e = never e
 of-zero : (z : ℤ) → z ≡ pos 0 → not (isZero z) ≡ false
 of-zero z e = ap (λ (z : ℤ). not (isZero z)) e
 
-not-zero : (z : ℤ) → not (isZero z) ≡ true → z ≡ pos 0 → ⊥
+pub not-zero : (z : ℤ) → not (isZero z) ≡ true → z ≡ pos 0 → ⊥
 not-zero z e q = never (sym e ∙ of-zero z q)
 
 fails-of : (z : ℤ) → (z ≡ pos 0 → ⊥) → not (isZero z) ≡ true
@@ -100,24 +94,3 @@ of-no-negative y h =
     plain : (z : ℤ) → dn z ≤ 0 → isNegative z ≡ false
     plain (pos n) h = refl
     plain (negsuc n) h = absurd (omega arith)
-
--- nothing is refused exactly where the weighting is allowed
-module _ (net : Net) (n : ℕ) (y : List ℤ) where
-  pub allowed-of : weightingFault net n y ≡ Sound → Allowed net n y
-  allowed-of e =
-      let w = weighting-sound net n y e in
-      let l = leb-false (length y) (lowestEntry false y) (w .2) in
-      record { sized = w .0; long = w .1; some = λ h. not-zero _ (first-passes (λ k. picks false (entry y k)) (length y) l) (h _) }
-
-  pub of-allowed : Allowed net n y → weightingFault net n y ≡ Sound
-  of-allowed a =
-      sound-or (netFault net (eqb (length y) n)) (refuse (allZero y) 8 0) (sized-is net (eqb (length y) n) (a .sized) (eq-eqb (length y) n (a .long)))
-      (sound-refuse (allZero y) 8 0 (go (decLt (lowestEntry false y) (length y))))
-    where
-      zero-at : length y ≤ lowestEntry false y → (k : ℕ) → Dec (k < length y) → entry y k ≡ pos 0
-      zero-at h k (yes l) = all-zero (entry y) (length y) h k l
-      zero-at h k (no l) = List·getD-eq-default y (pos 0) {n = k} (omega arith)
-
-      go : Dec (lowestEntry false y < length y) → allZero y ≡ false
-      go (yes h) = lt-leb (length y) (lowestEntry false y) h
-      go (no h) = absurd (a .some (λ k. zero-at (omega arith) k (decLt k (length y))))

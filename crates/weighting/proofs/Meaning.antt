@@ -9,6 +9,7 @@ use native.Mathlib.Omega.{arith}
 use lib.ListN.{length}
 use lib.Seq.{ext-getD}
 use lib.Dec.{ltb, eqb}
+use lib.Signed.{_≤ℤ_, ≤ℤ-refl}
 use lib.IntN.{ℤ, pos, _+ℤ_, _*ℤ_, +ℤ-assoc, +ℤ-idr, *ℤ-zero, pos-+ℤ-pos}
 use borrow.Author.Tests.{le-ltb, ltb-true, ltb-false}
 use Rattle.ground.specs.Lists.{bit}
@@ -20,18 +21,21 @@ use Rattle.net.specs.Firing.{Gives, Fires, nothing, letter, Reachable}
 use Rattle.net.specs.declared.Fault.{Fault}
 use Rattle.net.specs.declared.Fault.the-variants.{Sound, Faulty}
 use Rattle.net.proofs.Meaning.{kept}
-use Rattle.weighting.specs.Weighting.{sum, entry, placeSum, PlaceInvariant, transitionSum, TransitionInvariant, NoNegative, weight, count, Lowest, Allowed, lowestTransition, lowestPlace, lowestEntry, hasNegative}
-use Rattle.weighting.specs.Lines.{total, held}
+use Rattle.weighting.specs.Weighting.{sum, entry, placeSum, PlaceInvariant, transitionSum, TransitionInvariant, NoNegative, weight, count, Lowest}
+use Rattle.weighting.specs.Tests.{lowestTransition, lowestPlace, lowestEntry, hasNegative}
+use Rattle.weighting.specs.Allowed.{Allowed}
+use Rattle.weighting.specs.Walk.{total, held}
 use Rattle.weighting.specs.Place.{placeOf}
 use Rattle.weighting.specs.declared.PlaceWeighting.the-variants as place
 use Rattle.weighting.specs.Transition.{transitionOf}
 use Rattle.weighting.specs.declared.TransitionWeighting.the-variants as transition
-use Rattle.weighting.specs.Bound.{WholePart, Judged, boundFault, foundBound, boundOf}
+use Rattle.weighting.specs.Bound.{WholePart, Judged, foundBound, boundOf}
+use Rattle.weighting.specs.Tests.{boundFault}
 use Rattle.weighting.specs.declared.Bound.the-variants.{Bounded, Refused}
-use Rattle.weighting.proofs.Sums.{mul-plus, sum-same, sum-both, sum-none, sum-at, total-at}
+use Rattle.weighting.proofs.Sum.{mul-plus, sum-same, sum-both, sum-none, sum-at, total-at}
 use Rattle.weighting.proofs.Entries.{no-negative, weight-is}
-use Rattle.weighting.proofs.Answers.{bound-sound}
-use Rattle.weighting.proofs.Lowest.{all-zero, none-found, named, unnamed, no-negative-of, of-no-negative, of-allowed}
+use Rattle.weighting.proofs.Allowed.{of-allowed, bound-allowed-of}
+use Rattle.weighting.proofs.Lowest.{all-zero, none-found, named, unnamed, no-negative-of, of-no-negative}
 
 -- ---- accepted exactly if the published definition holds, and the named one is the lowest at which it fails
 module _ (net : Net) (y : List ℤ) (ok : Allowed net (net .places) y) where
@@ -84,7 +88,7 @@ module _ (net : Net) (x : List ℤ) (ok : Allowed net (net .transitions) x) wher
 
 -- ---- along any firing word
 -- one firing adds the published sum of its transition
-weight-firing : {net : Net} {m m′ : List ℕ} {t : ℕ} (y : List ℤ) → Gives net m t m′ → weight net y m′ ≡ weight net y m +ℤ placeSum net y t
+pub weight-firing : {net : Net} {m m′ : List ℕ} {t : ℕ} (y : List ℤ) → Gives net m t m′ → weight net y m′ ≡ weight net y m +ℤ placeSum net y t
 weight-firing {net} {m} {m′} {t} y g =
     sum-same (net .places) (λ p. entry y p *ℤ pos (tokens m′ p)) (λ p. entry y p *ℤ pos (tokens m p) +ℤ entry y p *ℤ Change net p t)
     (λ p h. ap (λ (z : ℤ). entry y p *ℤ z) (g .at p h) ∙ mul-plus (entry y p) (pos (tokens m p)) (Change net p t))
@@ -163,19 +167,27 @@ bound-judged net initial y p = go (ltb (lowestTransition net y) (net .transition
     go false q false k true l = rw (q, k, l) (invariant q, no-negative-of y k, pos-lt (entry y p) 0 .1 (ltb-true 0 (up (entry y p)) l), whole k l)
     go false q false k false l = rw (q, k, l) (invariant q, no-negative-of y k, le-pos (entry y p) 0 .1 (ltb-false 0 (up (entry y p)) l))
 
--- "An invariant place weighting with no negative entry and y(p) > 0 bounds p by the whole part of (sum of y x initial marking) / y(p)."
-pub bounds-place : {net : Net} {initial m : List ℕ} (y : List ℤ) (p b : ℕ) → PlaceInvariant net y → NoNegative y → WholePart (weight net y initial) (entry y p) b → p < net .places → Reachable net initial m → tokens m p ≤ b
-bounds-place {net} {initial} {m} y p b i n w h r =
+-- a weighting with no negative entry and y(p) > 0 bounds p by the whole part of (sum of y x marking) / y(p) wherever its sum has not risen. That y(p) > 0
+-- is no premise of its own: without it nothing is a whole part.
+pub bounds-place : (net : Net) (m m′ : List ℕ) (y : List ℤ) (p b : ℕ) → NoNegative y → WholePart (weight net y m) (entry y p) b → p < net .places → weight net y m′ ≤ℤ weight net y m → tokens m′ p ≤ b
+bounds-place net m m′ y p b n w h l =
     let S = total (net .places) (held y m) in
+    let S′ = total (net .places) (held y m′) in
     let D = up (entry y p) in
-    let s : weight net y initial ≡ pos S = sym (keeps-sum y i (r .fires)) ∙ weight-is net y m down in
+    let s : weight net y m ≡ pos S = weight-is net y m down in
+    let s′ : weight net y m′ ≡ pos S′ = weight-is net y m′ down in
     let e : entry y p ≡ pos D = parts-eq (entry y p) (pos D) refl (down p) in
+    let f : S′ ≤ S = le-pos (pos S′) S .0 (rw (s, s′) at l) in
     let k : S < (b + 1) * D = pos-lt (pos ((b + 1) * D)) S .0 (rw (s, e) at (w .high)) in
-    let l : tokens m p < b + 1 = lt-of-mul-lt-mul-right D (omega (arith, total-at (net .places) (held y m) p h, mul-comm D (tokens m p))) in
+    let o : tokens m′ p < b + 1 = lt-of-mul-lt-mul-right D (omega (arith, total-at (net .places) (held y m′) p h, mul-comm D (tokens m′ p))) in
     omega arith
   where
     down : (k : ℕ) → dn (entry y k) ≡ 0
     down k = omega (arith, neg-le (entry y k) 0 .0 (n .at k))
+
+-- "An invariant place weighting with no negative entry and y(p) > 0 bounds p by the whole part of (sum of y x initial marking) / y(p)."
+pub invariant-bounds : {net : Net} {initial m : List ℕ} (y : List ℤ) (p b : ℕ) → PlaceInvariant net y → NoNegative y → WholePart (weight net y initial) (entry y p) b → p < net .places → Reachable net initial m → tokens m p ≤ b
+invariant-bounds {net} {initial} {m} y p b i n w h r = bounds-place net initial m y p b n w h (rw (keeps-sum y i (r .fires)) (≤ℤ-refl (weight net y initial)))
 
 -- where a bound is answered, every reachable marking keeps to it
 pub bound-holds : {net : Net} {initial m : List ℕ} (y : List ℤ) (p b : ℕ) → boundOf net initial y p ≡ Bounded b → Reachable net initial m → tokens m p ≤ b
@@ -186,4 +198,4 @@ bound-holds {net} {initial} {m} y p b e r = go (boundFault net initial y p) refl
     go Sound q =
         let z : foundBound net initial y p ≡ Bounded b = rw q at e in
         let j : Judged net initial y p (Bounded b) = rw z at (bound-judged net initial y p) in
-        bounds-place y p b (j .0) (j .1) (j .3) (bound-sound net initial y p q .here) r
+        invariant-bounds y p b (j .0) (j .1) (j .3) (bound-allowed-of net initial y p q .below) r

@@ -10,9 +10,10 @@ use Rattle.ground.specs.Lists.{first}
 use Rattle.net.specs.Net.{Net, Change}
 use Rattle.net.specs.Given.{Sized}
 use Rattle.net.proofs.Rows.{pre-end}
-use Rattle.weighting.specs.Weighting.{sum, entry, isZero, placeSum, transitionSum, lowestTransition, lowestPlace}
-use Rattle.weighting.specs.Lines.{cell, lineFails, Lines}
-use Rattle.weighting.proofs.Sums.{sum-same}
+use Rattle.weighting.specs.Weighting.{sum, entry, placeSum, transitionSum}
+use Rattle.weighting.specs.Tests.{isZero, lowestTransition, lowestPlace}
+use Rattle.weighting.specs.Walk.{cell, lineSum, lineFails, Lines}
+use Rattle.weighting.proofs.Sum.{sum-same}
 
 module _ (net : Net) (sized : Sized net) (y : List ℤ) where
   pub rows-inside : length y ≡ net .places → Lines (net .transitions) (net .places) 1 (length y) (length (net .pre))
@@ -36,24 +37,23 @@ module _ (net : Net) (y : List ℤ) where
   change-at : (a b : ℕ) → a ≡ b → pos (getD (net .post) a 0) -ℤ pos (getD (net .pre) a 0) ≡ pos (getD (net .post) b 0) -ℤ pos (getD (net .pre) b 0)
   change-at a b e = ap (λ (n : ℕ). pos (getD (net .post) n 0) -ℤ pos (getD (net .pre) n 0)) e
 
-  row-is : length y ≡ net .places → (t : ℕ) → lineFails (net .pre) (net .post) y (t * net .places) 1 ≡ not (isZero (placeSum net y t))
-  unfolding lineFails
+  -- the sum of a row is a transition's, the sum of a column a place's
+  pub row-is : length y ≡ net .places → (t : ℕ) → lineSum (net .pre) (net .post) y (t * net .places) 1 ≡ placeSum net y t
+  unfolding lineSum
   row-is long t =
-      ap (λ (z : ℤ). not (isZero z))
-      (ap (λ (n : ℕ). sum n (λ k. entry y k *ℤ (pos (cell (net .post) (t * net .places) 1 k) -ℤ pos (cell (net .pre) (t * net .places) 1 k)))) long
+      ap (λ (n : ℕ). sum n (λ k. entry y k *ℤ (pos (cell (net .post) (t * net .places) 1 k) -ℤ pos (cell (net .pre) (t * net .places) 1 k)))) long
       ∙ sum-same (net .places) _ (λ p. entry y p *ℤ Change net p t)
-      (λ k h. ap (λ (z : ℤ). entry y k *ℤ z) (change-at (t * net .places + k * 1) (t * net .places + k) (omega arith))))
+      (λ k h. ap (λ (z : ℤ). entry y k *ℤ z) (change-at (t * net .places + k * 1) (t * net .places + k) (omega arith)))
 
-  column-is : length y ≡ net .transitions → (p : ℕ) → lineFails (net .pre) (net .post) y (p * 1) (net .places) ≡ not (isZero (transitionSum net y p))
-  unfolding lineFails
+  pub column-is : length y ≡ net .transitions → (p : ℕ) → lineSum (net .pre) (net .post) y (p * 1) (net .places) ≡ transitionSum net y p
+  unfolding lineSum
   column-is long p =
-      ap (λ (z : ℤ). not (isZero z))
-      (ap (λ (n : ℕ). sum n (λ k. entry y k *ℤ (pos (cell (net .post) (p * 1) (net .places) k) -ℤ pos (cell (net .pre) (p * 1) (net .places) k)))) long
+      ap (λ (n : ℕ). sum n (λ k. entry y k *ℤ (pos (cell (net .post) (p * 1) (net .places) k) -ℤ pos (cell (net .pre) (p * 1) (net .places) k)))) long
       ∙ sum-same (net .transitions) _ (λ t. Change net p t *ℤ entry y t)
-      (λ k h. ap (λ (z : ℤ). entry y k *ℤ z) (change-at (p * 1 + k * net .places) (k * net .places + p) (omega arith)) ∙ *ℤ-comm (entry y k) (Change net p k)))
+      (λ k h. ap (λ (z : ℤ). entry y k *ℤ z) (change-at (p * 1 + k * net .places) (k * net .places + p) (omega arith)) ∙ *ℤ-comm (entry y k) (Change net p k))
 
   pub rows-first : (r : ℕ) → length y ≡ net .places → r ≡ first (λ i. lineFails (net .pre) (net .post) y (i * net .places) 1) (net .transitions) → r ≡ lowestTransition net y
-  rows-first r long e = e ∙ ap (λ (f : ℕ → Bool). first f (net .transitions)) (λ j t. row-is long t j)
+  rows-first r long e = e ∙ ap (λ (f : ℕ → Bool). first f (net .transitions)) (λ j t. not (isZero (row-is long t j)))
 
   pub columns-first : (r : ℕ) → length y ≡ net .transitions → r ≡ first (λ i. lineFails (net .pre) (net .post) y (i * 1) (net .places)) (net .places) → r ≡ lowestPlace net y
-  columns-first r long e = e ∙ ap (λ (f : ℕ → Bool). first f (net .places)) (λ j p. column-is long p j)
+  columns-first r long e = e ∙ ap (λ (f : ℕ → Bool). first f (net .places)) (λ j p. not (isZero (column-is long p j)))

@@ -13,9 +13,10 @@ use mir.Val.{Fits}
 use Rattle.ground.specs.Limits.{countLimit, noCapacity, entryLimit}
 use Rattle.ground.specs.Parts.{up, dn}
 use Rattle.ground.proofs.Parts.{minus-is}
-use Rattle.weighting.specs.Weighting.{sum, entry, isZero}
-use Rattle.weighting.specs.Lines.{total, productLimit, share, shareLimit, cell, lineFails, held}
-use Rattle.weighting.proofs.Sums.{mul-sub, zero-sub, sum-same, two-sums, total-none, total-more}
+use Rattle.weighting.specs.Weighting.{sum, entry}
+use Rattle.weighting.specs.Tests.{isZero}
+use Rattle.weighting.specs.Walk.{total, productLimit, share, shareLimit, cell, lineSum, held}
+use Rattle.weighting.proofs.Sum.{mul-sub, zero-sub, sum-same, two-sums, total-none, total-more}
 
 -- an entry's part times a number of 16 bits
 pub product-small : (u n : ℕ) → u ≤ entryLimit → n ≤ noCapacity → u * n ≤ productLimit
@@ -26,14 +27,14 @@ pub share-is : (x : ℤ) (takes puts u d a b : ℕ) → u ≡ up x → d ≡ dn 
 share-is x takes puts u d a b p q e f = rw (e, f, p, q)
 
 -- the two sums of a line's first k entries
-pub record Sums (pre post : List ℕ) (y : List ℤ) (start step k gained lost : ℕ) : Type 0 where
+pub record Summed (pre post : List ℕ) (y : List ℤ) (start step k gained lost : ℕ) : Type 0 where
   pub gained-is : gained ≡ total k (λ j. share (entry y j) (cell pre start step j) (cell post start step j))
   pub lost-is : lost ≡ total k (λ j. share (entry y j) (cell post start step j) (cell pre start step j))
   pub gained-small : gained ≤ shareLimit * k
   pub lost-small : lost ≤ shareLimit * k
 
 module _ (pre post : List ℕ) (y : List ℤ) (start step : ℕ) where
-  pub sums-start : Sums pre post y start step 0 0 0
+  pub sums-start : Summed pre post y start step 0 0 0
   sums-start =
       record {
         gained-is = total-none (λ j. share (entry y j) (cell pre start step j) (cell post start step j));
@@ -42,8 +43,8 @@ module _ (pre post : List ℕ) (y : List ℤ) (start step : ℕ) where
         lost-small = omega arith;
       }
 
-  module _ (k gained lost : ℕ) (s : Sums pre post y start step k gained lost) where
-    pub sums-next : (a b : ℕ) → a ≡ share (entry y k) (cell pre start step k) (cell post start step k) → b ≡ share (entry y k) (cell post start step k) (cell pre start step k) → a ≤ shareLimit → b ≤ shareLimit → Sums pre post y start step (k + 1) (gained + a) (lost + b)
+  module _ (k gained lost : ℕ) (s : Summed pre post y start step k gained lost) where
+    pub sums-next : (a b : ℕ) → a ≡ share (entry y k) (cell pre start step k) (cell post start step k) → b ≡ share (entry y k) (cell post start step k) (cell pre start step k) → a ≤ shareLimit → b ≤ shareLimit → Summed pre post y start step (k + 1) (gained + a) (lost + b)
     sums-next a b p q h l =
         record {
           gained-is = ap₂ _+_ (s .gained-is) p ∙ total-more k (λ j. share (entry y j) (cell pre start step j) (cell post start step j));
@@ -59,20 +60,23 @@ module _ (pre post : List ℕ) (y : List ℤ) (start step : ℕ) where
     pub lost-fits : (n a : ℕ) → a ≤ shareLimit → k < n → n ≤ countLimit → Fits w64 (lost + a)
     lost-fits n a h l f = record { fits = omega (arith, s .lost-small) }
 
-  -- the two sums differ exactly where the signed sum is not 0
-  pub line-is : not (eqb (total (length y) (λ j. share (entry y j) (cell pre start step j) (cell post start step j))) (total (length y) (λ j. share (entry y j) (cell post start step j) (cell pre start step j)))) ≡ lineFails pre post y start step
-  unfolding lineFails
+  -- the signed sum is the one less the other
+  pub line-is : subℕ (total (length y) (λ j. share (entry y j) (cell pre start step j) (cell post start step j))) (total (length y) (λ j. share (entry y j) (cell post start step j) (cell pre start step j))) ≡ lineSum pre post y start step
+  unfolding lineSum
   line-is =
-      sym (ap (λ (z : ℤ). not (isZero z))
+      sym
       (sum-same (length y) (λ k. entry y k *ℤ (pos (cell post start step k) -ℤ pos (cell pre start step k))) (λ j. subℕ (share (entry y j) (cell pre start step j) (cell post start step j)) (share (entry y j) (cell post start step j) (cell pre start step j)))
       (λ k h. ap (λ (z : ℤ). entry y k *ℤ z) (minus-is (cell post start step k) (cell pre start step k)) ∙ mul-sub (entry y k) (cell post start step k) (cell pre start step k))
       ∙ two-sums (length y) (λ j. share (entry y j) (cell pre start step j) (cell post start step j)) (λ j. share (entry y j) (cell post start step j) (cell pre start step j)))
-      ∙ ap not (zero-sub (total (length y) (λ j. share (entry y j) (cell pre start step j) (cell post start step j))) (total (length y) (λ j. share (entry y j) (cell post start step j) (cell pre start step j)))))
 
-  pub sums-end : (k gained lost : ℕ) → Sums pre post y start step k gained lost → k ≤ length y → length y ≤ k → not (eqb gained lost) ≡ lineFails pre post y start step
-  sums-end k gained lost s h l = let e : k ≡ length y = omega arith in rw (s .gained-is, s .lost-is, e) line-is
+  pub sums-end : (k gained lost : ℕ) → Summed pre post y start step k gained lost → k ≤ length y → length y ≤ k → pos gained -ℤ pos lost ≡ lineSum pre post y start step
+  sums-end k gained lost s h l = let e : k ≡ length y = omega arith in minus-is gained lost ∙ rw (s .gained-is, s .lost-is, e) line-is
 
 pub ruleset line-sums = (sums-start, sums-next, gained-fits, lost-fits, sums-end)
+
+-- the two sums differ exactly where the signed one is not 0
+pub fails-is : (gained lost : ℕ) → not (eqb gained lost) ≡ not (isZero (pos gained -ℤ pos lost))
+fails-is gained lost = ap not (sym (ap isZero (minus-is gained lost) ∙ zero-sub gained lost))
 
 -- the sum of y x marking over the first p places, no entry being negative
 pub record Weighed (y : List ℤ) (m : List ℕ) (p sum : ℕ) : Type 0 where

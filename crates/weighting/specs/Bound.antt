@@ -1,17 +1,16 @@
--- The answer for the bound that a place weighting gives to a place.
+-- To be believed: the answer for the bound that a place weighting gives to a place.
 use Prim.Native.Nat.{ℕ, _+_, _/_}
 use mathlib.Core.Bool.{cond}
 use mathlib.Core.List.{List, [], _∷_}
-use lib.ListN.{length}
-use lib.Dec.{ltb, leb, eqb}
+use lib.Dec.{ltb}
 use lib.IntN.{ℤ, pos, _*ℤ_}
 use lib.Signed.{_≤ℤ_, _<ℤ_}
 use Rattle.ground.specs.Parts.{up}
 use Rattle.net.specs.Net.{Net}
-use Rattle.net.specs.Given.{refuse, orElse, firstFault}
 use Rattle.net.specs.declared.Fault.{Fault}
 use Rattle.net.specs.declared.Fault.the-variants.{Sound, Faulty}
-use Rattle.weighting.specs.Weighting.{entry, weight, PlaceInvariant, NoNegative, lowestTransition, hasNegative, allZero}
+use Rattle.weighting.specs.Weighting.{entry, weight, PlaceInvariant, NoNegative}
+use Rattle.weighting.specs.Tests.{lowestTransition, hasNegative, boundFault}
 use Rattle.weighting.specs.declared.NoBoundCause.{NoBoundCause}
 use Rattle.weighting.specs.declared.NoBoundCause.the-variants.{NotInvariant, Negative, NotPositive}
 use Rattle.weighting.specs.declared.Bound.{Bound}
@@ -29,11 +28,6 @@ Judged net initial y p (NoBound NotInvariant) = PlaceInvariant net y → ⊥
 Judged net initial y p (NoBound Negative) = PlaceInvariant net y × (NoNegative y → ⊥)
 Judged net initial y p (NoBound NotPositive) = PlaceInvariant net y × NoNegative y × (entry y p ≤ℤ pos 0)
 Judged net initial y p (Refused n at) = ⊥
-
--- refusals 1, 2 and 3, then 8, then 13: "a place number not below P"
-abbrev pub boundFault : Net → List ℕ → List ℤ → ℕ → Fault
-boundFault net initial y p =
-    orElse (firstFault net initial (eqb (length y) (net .places))) (orElse (refuse (allZero y) 8 0) (refuse (leb (net .places) p) 13 0))
 
 -- "the whole part of (sum of y x initial marking) / y(p). Otherwise the answer is no bound, with its cause: not invariant,
 -- a negative entry, or y(p) not positive, tried in that order."

@@ -1,5 +1,7 @@
 pub mod Weighting
-pub mod Lines
+pub mod Tests
+pub mod Allowed
 pub mod Place
 pub mod Transition
 pub mod Bound
+pub mod Walk

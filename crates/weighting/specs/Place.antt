@@ -1,4 +1,4 @@
--- The answer for a place weighting.
+-- To be believed: the answer for a place weighting.
 use Prim.Native.Nat.{ℕ}
 use mathlib.Core.Bool.{cond}
 use mathlib.Core.List.{List, [], _∷_}
@@ -7,7 +7,7 @@ use lib.IntN.{ℤ}
 use Rattle.net.specs.Net.{Net}
 use Rattle.net.specs.declared.Fault.{Fault}
 use Rattle.net.specs.declared.Fault.the-variants.{Sound, Faulty}
-use Rattle.weighting.specs.Weighting.{lowestTransition, weightingFault}
+use Rattle.weighting.specs.Tests.{lowestTransition, weightingFault}
 use Rattle.weighting.specs.declared.PlaceWeighting.{PlaceWeighting}
 use Rattle.weighting.specs.declared.PlaceWeighting.the-variants.{Invariant, NotInvariant, Refused}
 

@@ -1,4 +1,4 @@
--- The answer for a transition weighting.
+-- To be believed: the answer for a transition weighting.
 use Prim.Native.Nat.{ℕ}
 use mathlib.Core.Bool.{Bool, cond}
 use mathlib.Core.List.{List, [], _∷_}
@@ -7,7 +7,7 @@ use lib.IntN.{ℤ}
 use Rattle.net.specs.Net.{Net}
 use Rattle.net.specs.declared.Fault.{Fault}
 use Rattle.net.specs.declared.Fault.the-variants.{Sound, Faulty}
-use Rattle.weighting.specs.Weighting.{lowestPlace, hasNegative, weightingFault}
+use Rattle.weighting.specs.Tests.{lowestPlace, hasNegative, weightingFault}
 use Rattle.weighting.specs.declared.TransitionWeighting.{TransitionWeighting}
 use Rattle.weighting.specs.declared.TransitionWeighting.the-variants.{NotInvariant, Invariant, Proper, Refused}
 

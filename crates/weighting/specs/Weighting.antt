@@ -1,16 +1,13 @@
--- Weightings as document 01 defines them ("Weightings, siphons, traps", after 001), in signed numbers; and the tests for them, by number.
+-- To be believed: weightings as document 01 defines them ("Weightings, siphons, traps", after 001), in signed numbers.
 use Prim.Native.Nat.{ℕ, zero, suc, _+_, _<_}
 use mathlib.Core.Path.{_≡_}
-use mathlib.Core.Bool.{Bool, true, false, not}
 use mathlib.Core.List.{List, [], _∷_}
-use lib.ListN.{length, getD}
-use lib.Dec.{ltb, leb, eqb}
-use lib.IntN.{ℤ, pos, negsuc, _+ℤ_, _*ℤ_}
+use lib.ListN.{getD}
+use lib.Dec.{eqb}
+use lib.IntN.{ℤ, pos, _+ℤ_, _*ℤ_}
 use lib.Signed.{_≤ℤ_}
-use Rattle.ground.specs.Lists.{first, bit}
+use Rattle.ground.specs.Lists.{bit}
 use Rattle.net.specs.Net.{Net, Change, tokens}
-use Rattle.net.specs.Given.{refuse, orElse, netFault, Sized}
-use Rattle.net.specs.declared.Fault.{Fault}
 
 -- the sum over k < n of f k
 unfoldable pub sum : ℕ → (ℕ → ℤ) → ℤ
@@ -55,45 +52,3 @@ pub record Lowest (f : ℕ → ℤ) (n i : ℕ) : Type 0 where
   pub here : i < n
   pub fails : f i ≡ pos 0 → ⊥
   pub lowest : (k : ℕ) → k < i → f k ≡ pos 0
-
--- a weighting of n entries that no refusal meets
-pub record Allowed (net : Net) (n : ℕ) (y : List ℤ) : Type 0 where
-  pub sized : Sized net
-  pub long : length y ≡ n
-  pub some : ((k : ℕ) → entry y k ≡ pos 0) → ⊥
-
--- ---- the tests
-abbrev pub isZero : ℤ → Bool
-isZero (pos n) = eqb n 0
-isZero (negsuc n) = false
-
-abbrev pub isNegative : ℤ → Bool
-isNegative (pos n) = false
-isNegative (negsuc n) = true
-
--- "A no .. names the lowest failing transition or place", or the number of them where none fails
-abbrev pub lowestTransition : Net → List ℤ → ℕ
-lowestTransition net y = first (λ t. not (isZero (placeSum net y t))) (net .transitions)
-
-abbrev pub lowestPlace : Net → List ℤ → ℕ
-lowestPlace net x = first (λ p. not (isZero (transitionSum net x p))) (net .places)
-
--- the lowest entry that is negative, or (false) that is not 0, or the number of entries
-abbrev pub picks : Bool → ℤ → Bool
-picks true z = isNegative z
-picks false z = not (isZero z)
-
-abbrev pub lowestEntry : Bool → List ℤ → ℕ
-lowestEntry negative y = first (λ k. picks negative (entry y k)) (length y)
-
--- "a negative entry"
-abbrev pub hasNegative : List ℤ → Bool
-hasNegative y = ltb (lowestEntry true y) (length y)
-
--- 8: "a weighting all zero"
-abbrev pub allZero : List ℤ → Bool
-allZero y = leb (length y) (lowestEntry false y)
-
--- refusals 1 and 2, then 8, for a weighting that has n entries
-abbrev pub weightingFault : Net → ℕ → List ℤ → Fault
-weightingFault net n y = orElse (netFault net (eqb (length y) n)) (refuse (allZero y) 8 0)

@@ -5,17 +5,18 @@ use ground::down_entry;
 use ground::up_entry;
 use net::Fault;
 ghost use mathlib.Core.Path.{_≡_};
+ghost use mathlib.Core.Bool.{not};
 ghost use Prim.Native.Nat.{_+_, _*_, _≤_, _<_};
 ghost use lib.ListN.{length};
 ghost use Rattle.ground.specs.Limits.{countLimit, entryLimit};
 ghost use Rattle.ground.specs.Lists.{first};
 ghost use Rattle.net.specs.Net.{netOf};
 ghost use Rattle.net.specs.Given.{Sized, refuse};
-ghost use Rattle.weighting.specs.Weighting.{picks, lowestEntry, lowestTransition, lowestPlace, allZero, weightingFault};
-ghost use Rattle.weighting.specs.Lines.{productLimit, share, shareLimit, total, lineFails, Line, Lines, held};
+ghost use Rattle.weighting.specs.Tests.{isZero, picks, lowestEntry, lowestTransition, lowestPlace, allZero, weightingFault, boundFault};
+ghost use Rattle.weighting.specs.Walk.{productLimit, share, shareLimit, total, signed, lineSum, lineFails, Line, Lines, held};
 ghost use Rattle.weighting.specs.Place.{placeOf, placeNumbers};
 ghost use Rattle.weighting.specs.Transition.{transitionOf, transitionNumbers};
-ghost use Rattle.weighting.specs.Bound.{boundFault, foundBound, boundOf, boundNumbers};
+ghost use Rattle.weighting.specs.Bound.{foundBound, boundOf, boundNumbers};
 
 // The answer for a place weighting: invariant; not invariant, with the lowest failing transition;
 // or refused, with document 01's number and position.
@@ -56,8 +57,7 @@ fn times(part: u32, n: u16) -> u64
     (part * n as u32) as u64
 }
 
-// What an entry and one cell add to the first of the two sums; with takes and puts exchanged, to
-// the second.
+// What an entry and one cell add to what is gained; with takes and puts exchanged, to what is lost.
 fn share_of(x: i16, takes: Weight, puts: Weight) -> u64
     ensures { λ r. ⌜ (r ≡ share x takes puts) × (r ≤ shareLimit) ⌝ }
 {
@@ -66,12 +66,18 @@ fn share_of(x: i16, takes: Weight, puts: Weight) -> u64
     times(up, puts as u16) + times(down, takes as u16)
 }
 
-// Whether the weighted sum of the changes along one line of the tables is not 0: two unsigned sums
-// compared, instead of one signed.
-fn is_failing(pre: &[Weight], post: &[Weight], y: &[i16], start: usize, step: usize) -> bool
+// What one line of the tables adds to a weighted sum, as two unsigned numbers: its sum is what is
+// gained less what is lost.
+struct Sums {
+    gained: u64,
+    lost: u64,
+}
+
+// The weighted sum of the changes along one line of the tables.
+fn line_sums(pre: &[Weight], post: &[Weight], y: &[i16], start: usize, step: usize) -> Sums
     requires { ⌜ length (now post) ≡ length (now pre) ⌝ }
     requires { ⌜ Line start step (length (now y)) (length (now pre)) ⌝ }
-    ensures { λ r. ⌜ r ≡ lineFails (now (pre .entry)) (now (post .entry)) (now (y .entry)) start step ⌝ }
+    ensures { λ r. ⌜ signed r ≡ lineSum (now (pre .entry)) (now (post .entry)) (now (y .entry)) start step ⌝ }
 {
     let mut gained: u64 = 0;
     let mut lost: u64 = 0;
@@ -85,7 +91,17 @@ fn is_failing(pre: &[Weight], post: &[Weight], y: &[i16], start: usize, step: us
         lost += share_of(x, puts, takes);
         k += 1;
     }
-    gained != lost
+    Sums {
+        gained: gained,
+        lost: lost,
+    }
+}
+
+// Whether a line's sum is not 0.
+fn is_failing(sums: Sums) -> bool
+    ensures { λ r. ⌜ r ≡ not (isZero (signed sums)) ⌝ }
+{
+    sums.gained != sums.lost
 }
 
 // The lowest of so many lines that fails, or their number. Line i starts at i x apart, and its
@@ -104,7 +120,8 @@ fn lowest_failing(
 {
     let mut i = 0;
     while i < lines {
-        if is_failing(pre, post, y, i * apart, step) {
+        let sums = line_sums(pre, post, y, i * apart, step);
+        if is_failing(sums) {
             return i;
         }
         i += 1;
@@ -285,7 +302,7 @@ fn bound_fault(
     ensures { λ r. ⌜ r ≡ boundFault (netOf places transitions (now (pre .entry)) (now (post .entry)) (now (caps .entry))) (now (initial .entry)) (now (y .entry)) place ⌝ }
 {
     let fits = y.len() == places;
-    let found = net::first_fault(places, transitions, pre, post, caps, initial, fits);
+    let found = net::marked_fault(places, transitions, pre, post, caps, initial, fits);
     match found {
         Fault::Faulty(number, at) => Fault::Faulty(number, at),
         Fault::Sound => {

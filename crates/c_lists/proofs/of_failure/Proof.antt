@@ -1,6 +1,6 @@
 use mathlib.Core.List.{_∷_}
 use borrow.Author.Needs.{needs}
-use Rattle.lists.specs.Whole.{failureNumbers}
+use Rattle.lists.specs.Answers.{failureNumbers}
 use Rattle.lists.specs.declared.Failure.{Failure}
 use Rattle.c_lists.specs.Handed.{handedList}
 use Rattle.c_answer.proofs.Hand.{passed}

@@ -1,5 +1,5 @@
 use borrow.Author.Needs.{needs}
-use Rattle.summary.specs.Ask.{numbers}
+use Rattle.summary.specs.Ask.{askedNumbers}
 use Rattle.summary.specs.declared.Asked.{Asked}
 use Rattle.c_answer.specs.Hand.{handed}
 use Rattle.c_answer.proofs.Hand.{passed}
@@ -17,15 +17,15 @@ enum-known-answer c = search needs
 
 returns : tie.Need-returns
 unfolding handed
-returns c = search (passed (λ (a : Asked). handed (numbers a)), needs)
+returns c = search (passed (λ (a : Asked). handed (askedNumbers a)), needs)
 
 returns-2 : tie.Need-returns-2
 unfolding handed
-returns-2 c = search (passed (λ (a : Asked). handed (numbers a)), needs)
+returns-2 c = search (passed (λ (a : Asked). handed (askedNumbers a)), needs)
 
 returns-3 : tie.Need-returns-3
 unfolding handed
-returns-3 c = search (passed (λ (a : Asked). handed (numbers a)), needs)
+returns-3 c = search (passed (λ (a : Asked). handed (askedNumbers a)), needs)
 
 pub of-asked-spec : {M : Type 1} → statement M
 of-asked-spec =

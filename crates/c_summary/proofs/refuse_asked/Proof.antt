@@ -11,8 +11,8 @@ returns : tie.Need-returns
 unfolding handed
 returns c = search (asked-count, needs)
 
-net-fault-requires : tie.Need-net-fault-requires
-net-fault-requires c κs = search needs
+counts-fault-requires : tie.Need-counts-fault-requires
+counts-fault-requires c κs = search needs
 
 enum-known-found : tie.Need-enum-known-found
 enum-known-found c = search needs
@@ -34,7 +34,7 @@ refuse-asked-spec =
     (tie.spec
     is-outside-requires
     returns
-    net-fault-requires
+    counts-fault-requires
     enum-known-found
     enum-told
     returns-2

@@ -1,5 +1,5 @@
 use mathlib.Core.Path.{ap}
-use Rattle.closed.specs.Given.{numbers}
+use Rattle.lists.specs.Answers.{numbers}
 use borrow.Author.Needs.{needs}
 use Rattle.closed.proofs.closed_list.Statement.{statement}
 use Rattle.closed.proofs.closed_list.Tie as tie

@@ -1,6 +1,8 @@
 use denote.Ref.{now}
 use Rattle.net.specs.Net.{netOf}
-use Rattle.closed.proofs.Answers.{found-lent, stall-answers}
+use Rattle.lists.specs.declared.Kind.the-variants.{Closed}
+use Rattle.list_check.proofs.Refusals.{accepted-lent}
+use Rattle.closed.proofs.Deads.{stall-answers}
 use native.Mathlib.Omega.{arith}
 use mathlib.Core.Bool.{true}
 use Rattle.net.specs.declared.Fault.the-variants.{Sound}
@@ -25,7 +27,7 @@ div-n c =
     let s : tie.Start = search needs in
     let f : tie.After-check-list = search needs in
     let a = s .args in
-    let l = found-lent (netOf (a .places) (a .transitions) (now (a .pre)) (now (a .post)) (now (a .caps))) (now (a .initial)) (now (a .list)) true Sound _ (f .check-list .ensures) (search needs) in
+    let l = accepted-lent Closed (netOf (a .places) (a .transitions) (now (a .pre)) (now (a .post)) (now (a .caps))) (now (a .initial)) (now (a .list)) true Sound _ (f .check-list .ensures) (search needs) in
     omega (arith, l .ready .sized .some-places)
 
 some-dead-requires : tie.Need-some-dead-requires
@@ -33,7 +35,7 @@ some-dead-requires c κs =
     let s : tie.Start = search needs in
     let f : tie.After-check-list = search needs in
     let a = s .args in
-    let l = found-lent (netOf (a .places) (a .transitions) (now (a .pre)) (now (a .post)) (now (a .caps))) (now (a .initial)) (now (a .list)) true Sound _ (f .check-list .ensures) (search needs) in
+    let l = accepted-lent Closed (netOf (a .places) (a .transitions) (now (a .pre)) (now (a .post)) (now (a .caps))) (now (a .initial)) (now (a .list)) true Sound _ (f .check-list .ensures) (search needs) in
     l .ready
 
 returns : tie.Need-returns

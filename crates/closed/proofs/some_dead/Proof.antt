@@ -2,7 +2,7 @@ use Prim.Native.Nat.{_≤_, _-_}
 use Rattle.net.specs.Net.{netOf}
 use Rattle.ground.proofs.Scan.{Below, scans}
 use Rattle.lists.proofs.Somes.{somes}
-use Rattle.closed.specs.Stall.{dead}
+use Rattle.closed.specs.Dead.{dead}
 use borrow.Author.Needs.{needs}
 use Rattle.closed.proofs.some_dead.Statement.{statement}
 use Rattle.closed.proofs.some_dead.Tie as tie

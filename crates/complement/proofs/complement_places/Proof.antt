@@ -1,9 +1,12 @@
 use denote.Ref.{now}
-use Rattle.net.specs.Net.{netOf}
-use Rattle.complement.proofs.Answers.{wide-fits, tolds}
+use Rattle.net.specs.Net.{Net, netOf}
+use Rattle.complement.proofs.Answers.{found-sized, wide-fits, tolds}
 use borrow.Author.Needs.{needs}
 use Rattle.complement.proofs.complement_places.Statement.{statement}
 use Rattle.complement.proofs.complement_places.Tie as tie
+
+abbrev net : tie.Start → Net
+net s = netOf (s .args .places) (s .args .transitions) (now (s .args .pre)) (now (s .args .post)) (now (s .args .caps))
 
 net-fault-requires : tie.Need-net-fault-requires
 net-fault-requires c κs = search needs
@@ -14,16 +17,18 @@ enum-known-found c = search needs
 enum-told : tie.Need-enum-told
 enum-told c = search needs
 
-count-capped-requires : tie.Need-count-capped-requires
-count-capped-requires c κs = search needs
+count-made-requires : tie.Need-count-made-requires
+count-made-requires c κs =
+    let s : tie.Start = search needs in
+    let f : tie.After-net-fault = search needs in
+    found-sized (net s) _ (f .net-fault .ensures) (search needs)
 
 add-wide : tie.Need-add-wide
 add-wide c =
     let s : tie.Start = search needs in
     let f : tie.After-net-fault = search needs in
-    let k : tie.After-count-capped = search needs in
-    let a = s .args in
-    wide-fits (netOf (a .places) (a .transitions) (now (a .pre)) (now (a .post)) (now (a .caps))) _ (f .net-fault .ensures) (search needs) _ (k .count-capped .ensures)
+    let k : tie.After-count-made = search needs in
+    wide-fits (net s) (found-sized (net s) _ (f .net-fault .ensures) (search needs)) _ (k .count-made .ensures)
 
 limit-fault-requires : tie.Need-limit-fault-requires
 limit-fault-requires c κs = search needs
@@ -50,7 +55,7 @@ complement-places-spec =
     net-fault-requires
     enum-known-found
     enum-told
-    count-capped-requires
+    count-made-requires
     add-wide
     limit-fault-requires
     enum-known-limit

@@ -1,46 +1,47 @@
 use denote.Ref.{now}
-use Rattle.net.specs.Net.{netOf}
-use Rattle.complement.proofs.Answers.{wide-fits, wide-cells, faults}
+use Rattle.net.specs.Net.{Net, netOf}
+use Rattle.complement.proofs.Answers.{test-sized, wide-fits, wide-cells, faults}
 use borrow.Author.Needs.{needs}
 use Rattle.complement.proofs.find_fault.Statement.{statement}
 use Rattle.complement.proofs.find_fault.Tie as tie
 
-net-fault-requires : tie.Need-net-fault-requires
-net-fault-requires c κs = search needs
+abbrev net : tie.Start → Net
+net s = netOf (s .args .places) (s .args .transitions) (now (s .args .pre)) (now (s .args .post)) (now (s .args .caps))
 
-enum-known-plain : tie.Need-enum-known-plain
-enum-known-plain c = search needs
+is-sized-requires : tie.Need-is-sized-requires
+is-sized-requires c κs = search needs
 
-enum-told : tie.Need-enum-told
-enum-told c = search needs
+marked-fault-requires : tie.Need-marked-fault-requires
+marked-fault-requires c κs = search needs
 
-count-capped-requires : tie.Need-count-capped-requires
-count-capped-requires c κs = search needs
+returns : tie.Need-returns
+returns c = search (faults, needs)
+
+count-made-requires : tie.Need-count-made-requires
+count-made-requires c κs =
+    let s : tie.Start = search needs in
+    let f : tie.After-is-sized = search needs in
+    test-sized (net s) _ (f .is-sized .ensures) (search needs)
 
 add-wide : tie.Need-add-wide
 add-wide c =
     let s : tie.Start = search needs in
-    let f : tie.After-net-fault = search needs in
-    let k : tie.After-count-capped = search needs in
-    let a = s .args in
-    wide-fits (netOf (a .places) (a .transitions) (now (a .pre)) (now (a .post)) (now (a .caps))) _ (f .net-fault .ensures) (search needs) _ (k .count-capped .ensures)
+    let f : tie.After-is-sized = search needs in
+    let k : tie.After-count-made = search needs in
+    wide-fits (net s) (test-sized (net s) _ (f .is-sized .ensures) (search needs)) _ (k .count-made .ensures)
 
 mul-cells : tie.Need-mul-cells
 mul-cells c =
     let s : tie.Start = search needs in
-    let f : tie.After-net-fault = search needs in
-    let k : tie.After-count-capped = search needs in
-    let a = s .args in
-    wide-cells (netOf (a .places) (a .transitions) (now (a .pre)) (now (a .post)) (now (a .caps))) _ (f .net-fault .ensures) (search needs) _ (k .count-capped .ensures)
+    let f : tie.After-is-sized = search needs in
+    let k : tie.After-count-made = search needs in
+    wide-cells (net s) (test-sized (net s) _ (f .is-sized .ensures) (search needs)) _ (k .count-made .ensures)
 
 is-fitting-requires : tie.Need-is-fitting-requires
 is-fitting-requires c κs = search needs
 
 later-fault-requires : tie.Need-later-fault-requires
 later-fault-requires c κs = search needs
-
-returns : tie.Need-returns
-returns c = search (faults, needs)
 
 returns-2 : tie.Need-returns-2
 returns-2 c = search (faults, needs)
@@ -49,13 +50,12 @@ pub find-fault-spec : {M : Type 1} → statement M
 find-fault-spec =
     tie.close
     (tie.spec
-    net-fault-requires
-    enum-known-plain
-    enum-told
-    count-capped-requires
+    is-sized-requires
+    marked-fault-requires
+    returns
+    count-made-requires
     add-wide
     mul-cells
     is-fitting-requires
     later-fault-requires
-    returns
     returns-2)

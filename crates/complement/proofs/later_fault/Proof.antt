@@ -1,10 +1,10 @@
-use Rattle.complement.proofs.Answers.{laters}
+use Rattle.net.proofs.Chains.{chains}
 use borrow.Author.Needs.{needs}
 use Rattle.complement.proofs.later_fault.Statement.{statement}
 use Rattle.complement.proofs.later_fault.Tie as tie
 
-first-fault-requires : tie.Need-first-fault-requires
-first-fault-requires c κs = search needs
+marked-fault-requires : tie.Need-marked-fault-requires
+marked-fault-requires c κs = search needs
 
 enum-known-found : tie.Need-enum-known-found
 enum-known-found c = search needs
@@ -16,16 +16,16 @@ limit-fault-requires : tie.Need-limit-fault-requires
 limit-fault-requires c κs = search needs
 
 returns : tie.Need-returns
-returns c = search (laters, needs)
+returns c = search (chains, needs)
 
 returns-2 : tie.Need-returns-2
-returns-2 c = search (laters, needs)
+returns-2 c = search (chains, needs)
 
 pub later-fault-spec : {M : Type 1} → statement M
 later-fault-spec =
     tie.close
     (tie.spec
-    first-fault-requires
+    marked-fault-requires
     enum-known-found
     enum-told
     limit-fault-requires

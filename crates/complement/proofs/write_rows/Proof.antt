@@ -1,52 +1,86 @@
 use Prim.Native.Nat.{ℕ, _+_, _-_, _*_, _≤_, _<_}
+use mathlib.Core.Path.{_≡_, sym, _∙_}
+use mathlib.Core.List.{List}
 use native.Mathlib.Omega.{arith}
 use native.Mathlib.Nat.{add-sub-cancel-left}
-use mathlib.Core.Path.{sym, _∙_}
-use lib.ListN.{length}
+use lib.ListN.{length, getD}
 use denote.Ref.{now}
-use Rattle.net.proofs.Rows.{row-end}
-use Rattle.complement.proofs.Written.{Rowing, rows-start, rows-long, rows-next, rows-end, part-length}
+use Rattle.net.specs.Net.{riseOf}
+use Rattle.net.specs.Letter.{row}
+use Rattle.net.proofs.Rows.{row-end, row-length}
+use Rattle.complement.specs.Complement.{fallOf}
+use Rattle.complement.specs.Walk.{newPre, newPost}
+use Rattle.complement.proofs.Written.{Rowing, rows-start, rows-long, rows-next, rows-end, row-then}
 use borrow.Author.Needs.{needs}
 use Rattle.complement.proofs.write_rows.Statement.{statement}
 use Rattle.complement.proofs.write_rows.Tie as tie
 
 abbrev Inv-loop : tie.InvT-loop
-Inv-loop places transitions wide kept other caps room₀ t₀ room t = (t ≤ transitions) × Rowing places wide kept other caps room₀ t room
+Inv-loop places transitions wide pre post chosen pre2₀ post2₀ t₀ pre2 post2 t =
+    (t ≤ transitions) × Rowing (newPre places pre post chosen) wide pre2₀ t pre2 × Rowing (newPost places pre post chosen) wide post2₀ t post2
 
 abbrev μ-loop : tie.MeasureT-loop
-μ-loop places transitions wide kept other caps room₀ t₀ room t = transitions - t
+μ-loop places transitions wide pre post chosen pre2₀ post2₀ t₀ pre2 post2 t = transitions - t
 
-abbrev Start : Type 0
-Start = tie.Start Inv-loop μ-loop
+abbrev Turn : Type 0
+Turn = tie.In-loop Inv-loop μ-loop
 
--- the ends of row t in what is read and in the room
-kept-end : (s : Start) (t : ℕ) → t < s .args .transitions → t * s .args .places + s .args .places ≤ length (now (s .args .kept))
-kept-end s t h = rw (s .pre .0) (row-end t (s .args .transitions) (s .args .places) h)
+abbrev start : Turn → tie.Start Inv-loop μ-loop
+start i = i .before .before .before .before .before .before .before
 
-other-end : (s : Start) (t : ℕ) → t < s .args .transitions → t * s .args .places + s .args .places ≤ length (now (s .args .other))
-other-end s t h = rw (s .pre .1 .0) (row-end t (s .args .transitions) (s .args .places) h)
+abbrev turn : Turn → ℕ
+turn i = i .before .loop .t
 
-room-end : (s : Start) (t : ℕ) → t < s .args .transitions → t * s .args .wide + s .args .wide ≤ length (now (s .args .room))
-room-end s t h = rw (s .pre .1 .1 .1 .1) (row-end t (s .args .transitions) (s .args .wide) h)
+-- the rows that are written
+abbrev pres : tie.Start Inv-loop μ-loop → ℕ → List ℕ
+pres s = newPre (s .args .places) (now (s .args .pre)) (now (s .args .post)) (now (s .args .chosen))
+
+abbrev posts : tie.Start Inv-loop μ-loop → ℕ → List ℕ
+posts s = newPost (s .args .places) (now (s .args .pre)) (now (s .args .post)) (now (s .args .chosen))
+
+-- the ends of a turn's row in what is read and in the rooms
+named : (i : Turn) → turn i < start i .args .transitions
+named i = search needs
+
+pre-end : (i : Turn) → turn i * start i .args .places + start i .args .places ≤ length (now (start i .args .pre))
+pre-end i = let s = start i in rw (s .pre .0) (row-end (turn i) (s .args .transitions) (s .args .places) (named i))
+
+post-end : (i : Turn) → turn i * start i .args .places + start i .args .places ≤ length (now (start i .args .post))
+post-end i = let s = start i in rw (s .pre .1 .0) (row-end (turn i) (s .args .transitions) (s .args .places) (named i))
+
+pre-same : (i : Turn) → length (i .before .loop .pre2) ≡ length (now (start i .args .pre2))
+pre-same i = let s = start i in rows-long (pres s) (s .args .wide) (now (s .args .pre2)) (turn i) (i .before .loop .pre2) (i .before .loop .inv .1)
+
+pre-room : (i : Turn) → turn i * start i .args .wide + start i .args .wide ≤ length (i .before .loop .pre2)
+pre-room i = let s = start i in rw (pre-same i, s .pre .1 .1 .1 .1 .0) (row-end (turn i) (s .args .transitions) (s .args .wide) (named i))
+
+post-room : (i : Turn) → turn i * start i .args .wide + start i .args .wide ≤ length (i .before .loop .post2)
+post-room i =
+    let s = start i in
+    rw (rows-long (posts s) (s .args .wide) (now (s .args .post2)) (turn i) (i .before .loop .post2) (i .before .loop .inv .2), s .pre .1 .1 .1 .1 .1)
+    (row-end (turn i) (s .args .transitions) (s .args .wide) (named i))
+
+-- and its lengths
+pre-row : (i : Turn) → length (pres (start i) (turn i)) ≡ start i .args .wide
+pre-row i =
+    let a = start i .args in
+    row-then (a .places) (turn i) (now (a .pre)) (now (a .chosen)) (λ p. riseOf (getD (row (a .places) (turn i) (now (a .pre))) p 0) (getD (row (a .places) (turn i) (now (a .post))) p 0)) (pre-end i)
+    ∙ sym (start i .pre .1 .1 .1 .0)
+
+post-row : (i : Turn) → length (posts (start i) (turn i)) ≡ start i .args .wide
+post-row i =
+    let a = start i .args in
+    row-then (a .places) (turn i) (now (a .post)) (now (a .chosen)) (λ p. fallOf (getD (row (a .places) (turn i) (now (a .pre))) p 0) (getD (row (a .places) (turn i) (now (a .post))) p 0)) (post-end i)
+    ∙ sym (start i .pre .1 .1 .1 .0)
 
 loop-holds : tie.Need-loop-holds Inv-loop μ-loop
-loop-holds c = search (rows-start, needs)
+loop-holds c = (search needs, rows-start _ _ _, rows-start _ _ _)
 
 mul-a : tie.Need-mul-a Inv-loop μ-loop
-mul-a c =
-    let s : tie.Start Inv-loop μ-loop = search needs in
-    let i : tie.In-loop Inv-loop μ-loop = search needs in
-    let t = i .before .loop .t in
-    let h : t < s .args .transitions = search needs in
-    omega (arith, kept-end s t h)
+mul-a c = omega (arith, pre-end c)
 
 add-e : tie.Need-add-e Inv-loop μ-loop
-add-e c =
-    let s : tie.Start Inv-loop μ-loop = search needs in
-    let i : tie.In-loop Inv-loop μ-loop = search needs in
-    let t = i .before .loop .t in
-    let h : t < s .args .transitions = search needs in
-    omega (arith, kept-end s t h)
+add-e c = omega (arith, pre-end c)
 
 sub-write-row : tie.Need-sub-write-row Inv-loop μ-loop
 sub-write-row c = search needs
@@ -55,12 +89,7 @@ part-write-row-start : tie.Need-part-write-row-start Inv-loop μ-loop
 part-write-row-start c = search needs
 
 part-write-row-end : tie.Need-part-write-row-end Inv-loop μ-loop
-part-write-row-end c =
-    let s : tie.Start Inv-loop μ-loop = search needs in
-    let i : tie.In-loop Inv-loop μ-loop = search needs in
-    let t = i .before .loop .t in
-    let h : t < s .args .transitions = search needs in
-    omega (arith, kept-end s t h)
+part-write-row-end c = omega (arith, pre-end c)
 
 sub-write-row-2 : tie.Need-sub-write-row-2 Inv-loop μ-loop
 sub-write-row-2 c = search needs
@@ -69,34 +98,18 @@ part-write-row-start-2 : tie.Need-part-write-row-start-2 Inv-loop μ-loop
 part-write-row-start-2 c = search needs
 
 part-write-row-end-2 : tie.Need-part-write-row-end-2 Inv-loop μ-loop
-part-write-row-end-2 c =
-    let s : tie.Start Inv-loop μ-loop = search needs in
-    let i : tie.In-loop Inv-loop μ-loop = search needs in
-    let t = i .before .loop .t in
-    let h : t < s .args .transitions = search needs in
-    omega (arith, other-end s t h)
+part-write-row-end-2 c = omega (arith, post-end (c .before))
 
 mul-write-row : tie.Need-mul-write-row Inv-loop μ-loop
-mul-write-row c =
-    let s : tie.Start Inv-loop μ-loop = search needs in
-    let i : tie.In-loop Inv-loop μ-loop = search needs in
-    let t = i .before .loop .t in
-    let h : t < s .args .transitions = search needs in
-    omega (arith, room-end s t h)
+mul-write-row c = omega (arith, pre-room (c .before .before), pre-same (c .before .before))
 
 write-row-requires : tie.Need-write-row-requires Inv-loop μ-loop
 write-row-requires c κs =
-    let s : tie.Start Inv-loop μ-loop = search needs in
-    let i : tie.In-loop Inv-loop μ-loop = search needs in
-    let t = i .before .loop .t in
-    let h : t < s .args .transitions = search needs in
-    simp add-sub-cancel-left (
-      part-length (t * s .args .places) (s .args .places) (now (s .args .kept)) (kept-end s t h) ∙ sym (s .pre .1 .1 .0),
-      (
-        part-length (t * s .args .places) (s .args .places) (now (s .args .other)) (other-end s t h) ∙ sym (s .pre .1 .1 .0),
-        omega (arith, room-end s t h, rows-long (s .args .places) (s .args .wide) (now (s .args .kept)) (now (s .args .other)) (now (s .args .caps)) (now (s .args .room)) t (i .before .loop .room) (i .before .loop .inv .1)),
-      ),
-    )
+    let i : Turn = c .before .before .before .before in
+    let s = start i in
+    let e = row-length (s .args .places) (turn i) (now (s .args .pre)) (pre-end i) in
+    let f = row-length (s .args .places) (turn i) (now (s .args .post)) (post-end i) in
+    simp add-sub-cancel-left (e ∙ sym f, (rw f (s .pre .1 .1 .0), (omega (arith, f, s .pre .1 .1 .1 .0, pre-room i), omega (arith, f, s .pre .1 .1 .1 .0, post-room i))))
 
 add-t : tie.Need-add-t Inv-loop μ-loop
 add-t c = search needs
@@ -106,24 +119,30 @@ loop-less c = search needs
 
 loop-again : tie.Need-loop-again Inv-loop μ-loop
 loop-again c =
-    let s : tie.Start Inv-loop μ-loop = search needs in
-    let i : tie.In-loop Inv-loop μ-loop = search needs in
-    let t = i .before .loop .t in
-    let h : t < s .args .transitions = search needs in
-    let w : tie.After-write-row Inv-loop μ-loop = search needs in (
+    let w : tie.After-write-row Inv-loop μ-loop = c .before .before .before .before in
+    let i : Turn = w .before .before .before .before .before in
+    let s = start i in
+    let l = i .before .loop in
+    let h = named i in (
       omega arith,
-      rows-next (s .args .places) (s .args .wide) (now (s .args .kept)) (now (s .args .other)) (now (s .args .caps)) (now (s .args .room)) t (i .before .loop .room) (i .before .loop .inv .1) _ (s .pre .1 .1 .1 .0) (kept-end s t h) (simp add-sub-cancel-left at (w .write-row .ensures)),
+      rows-next (pres s) (s .args .wide) (now (s .args .pre2)) (turn i) (l .pre2) (l .inv .1) _ (pre-row i) (simp add-sub-cancel-left at (w .write-row .ensures .0)),
+      rows-next (posts s) (s .args .wide) (now (s .args .post2)) (turn i) (l .post2) (l .inv .2) _ (post-row i) (simp add-sub-cancel-left at (w .write-row .ensures .1)),
     )
 
 same-length : tie.Need-same-length Inv-loop μ-loop
-same-length c =
-    search (rows-long, needs)
+same-length c = let s : tie.Start Inv-loop μ-loop = c .before .before .before .before .before .before .before in let l = c .before .loop in rows-long (pres s) (s .args .wide) (now (s .args .pre2)) (l .t) (l .pre2) (l .inv .1)
+
+same-length-2 : tie.Need-same-length-2 Inv-loop μ-loop
+same-length-2 c = let s : tie.Start Inv-loop μ-loop = c .before .before .before .before .before .before .before in let l = c .before .loop in rows-long (posts s) (s .args .wide) (now (s .args .post2)) (l .t) (l .post2) (l .inv .2)
 
 returns : tie.Need-returns Inv-loop μ-loop
 returns c =
-    let s : tie.Start Inv-loop μ-loop = search needs in
-    let l : tie.At-loop Inv-loop μ-loop = search needs in
-    rows-end (s .args .places) (s .args .wide) (now (s .args .kept)) (now (s .args .other)) (now (s .args .caps)) (now (s .args .room)) (l .loop .t) (l .loop .room) (l .loop .inv .1) (s .args .transitions) (omega arith) (s .pre .1 .1 .1 .1)
+    let s : tie.Start Inv-loop μ-loop = c .before .before .before .before .before .before .before in
+    let l = c .before .loop in
+    let e : l .t ≡ s .args .transitions = omega (arith, l .inv .0) in (
+      rows-end (pres s) (s .args .wide) (now (s .args .pre2)) (l .t) (l .pre2) (l .inv .1) (s .args .transitions) e (s .pre .1 .1 .1 .1 .0),
+      rows-end (posts s) (s .args .wide) (now (s .args .post2)) (l .t) (l .post2) (l .inv .2) (s .args .transitions) e (s .pre .1 .1 .1 .1 .1),
+    )
 
 pub write-rows-spec : {M : Type 1} → statement M
 write-rows-spec =
@@ -146,4 +165,5 @@ write-rows-spec =
     loop-less
     loop-again
     same-length
+    same-length-2
     returns)

@@ -1,5 +1,5 @@
 use mathlib.Core.Path.{ap}
-use Rattle.cover.specs.Given.{numbers}
+use Rattle.lists.specs.Answers.{numbers}
 use borrow.Author.Needs.{needs}
 use Rattle.cover.proofs.cover_list.Statement.{statement}
 use Rattle.cover.proofs.cover_list.Tie as tie

@@ -4,7 +4,7 @@ use mathlib.Core.Bool.{_&&_, and-true}
 use mathlib.Core.Path.{_≡_, sym, _∙_, refl, ap}
 use Prim.Native.Nat.{_+_, _*_, _≤_}
 use lib.ListN.{length}
-use Rattle.file_line.specs.Read.{fitLetters}
+use Rattle.file_line.specs.Walk.{fitLetters}
 use Rattle.file_line.proofs.Turns.{letters-kept, letters-none}
 use Rattle.file_line.proofs.fit_letters.Statement.{statement}
 use Rattle.file_line.proofs.fit_letters.Tie as tie

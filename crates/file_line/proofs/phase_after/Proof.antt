@@ -1,12 +1,26 @@
-use borrow.Author.Tests.{eq-eqb, ne-eqb}
+use borrow.Author.Tests.{ne-eqb}
+use borrow.Author.Needs.{needs}
 use Rattle.file_line.proofs.phase_after.Statement.{statement}
 use Rattle.file_line.proofs.phase_after.Tie as tie
 
+add-last-row : tie.Need-add-last-row
+add-last-row c = search needs
+
+last-row-requires : tie.Need-last-row-requires
+last-row-requires c κs = search needs
+
+add-result : tie.Need-add-result
+add-result c = search needs
+
 returns : tie.Need-returns
-returns c = simp (eq-eqb _ _ (c .if1 .taken))
+returns c = simp (c .before .before .match .keys1) (c .last-row .ensures)
 
 returns-2 : tie.Need-returns-2
-returns-2 c = simp (ne-eqb _ _ (c .if1 .left))
+returns-2 c = simp (c .match .keys2)
+
+returns-3 : tie.Need-returns-3
+returns-3 c = simp (ne-eqb _ 4 (c .match .rest .0 .1), ne-eqb _ 5 (c .match .rest .1))
 
 pub phase-after-spec : {M : Type 1} → statement M
-phase-after-spec = tie.close (tie.spec returns returns-2)
+phase-after-spec =
+    tie.close (tie.spec add-last-row last-row-requires add-result returns returns-2 returns-3)

@@ -1,30 +1,66 @@
-use native.Mathlib.Omega.{arith}
-use mathlib.Core.Path.{sym, _∙_}
-use borrow.Author.Tests.{eq-eqb, ne-eqb}
-use Rattle.file_line.specs.Read.{lineOf, roomsOf}
+use denote.Ref.{now}
+use mathlib.Core.Path.{_≡_, sym, _∙_, ap}
+use Rattle.net.specs.declared.Fault.the-variants.{Sound}
+use Rattle.file_line.specs.declared.Took.the-variants.{Next}
+use Rattle.file_line.specs.Read.{Rooms, rooms}
+use Rattle.file_line.proofs.Judging.{judge-caps}
 use Rattle.file_line.proofs.Accept.{accepted}
+use Rattle.file_line.proofs.Meaning.{judged-number, taken-line, refused-line}
 use borrow.Author.Needs.{needs}
 use Rattle.file_line.proofs.read_line.Statement.{statement}
 use Rattle.file_line.proofs.read_line.Tie as tie
 
+-- the rooms as found
+abbrev found : tie.Start → Rooms
+found s = rooms (now (s .args .caps)) (now (s .args .initial)) (now (s .args .pre)) (now (s .args .post)) (now (s .args .word))
+
+-- the calls before a need
+abbrev start : tie.After-judge → tie.Start
+start j = j .before .before .before .before .before .before .before .before
+
+abbrev told : tie.After-store-arg5 → tie.After-enum-told
+told c = c .before .before .before .before .before
+
+abbrev stored-to : tie.After-slice-known10 → tie.After-store
+stored-to c = c .before .before .before .before .before .before .before .before .before .before
+
+sound : (c : tie.After-enum-told) → c .before .before .judge .result ≡ Sound
+sound c = search needs
+
 judge-requires : tie.Need-judge-requires
 judge-requires c κs = search needs
 
-add-here : tie.Need-add-here
-add-here c = search needs
+enum-known-fault : tie.Need-enum-known-fault
+enum-known-fault c = search needs
+
+enum-told : tie.Need-enum-told
+enum-told c = search needs
+
+store-requires : tie.Need-store-requires
+store-requires c κs =
+    let t = told c in
+    let j = t .before .before in
+    let p = start j .pre in
+    (p .0, accepted _ _ _ (sym (j .judge .ensures) ∙ sound t), p .1)
+
+advance-requires : tie.Need-advance-requires
+advance-requires c κs =
+    let t = told (stored-to c .before) in
+    let j = t .before .before in
+    (start j .pre .0, accepted _ _ _ (sym (j .judge .ensures) ∙ sound t))
 
 same-length : tie.Need-same-length
 same-length c = search needs
 
 returns : tie.Need-returns
-unfolding lineOf roomsOf
-returns c = (simp (← c .before .before .judge .ensures, ne-eqb _ _ (c .before .if1 .taken)), (simp (← c .before .before .judge .ensures, ne-eqb _ _ (c .before .if1 .taken)), omega arith))
-
-store-requires : tie.Need-store-requires
-store-requires c κs = (c .before .before .before .before .before .before .before .before .before .before .before .before .before .before .pre .0, accepted _ _ _ (sym (c .before .before .before .before .before .before .judge .ensures) ∙ c .before .before .before .before .before .if1 .left), c .before .before .before .before .before .before .before .before .before .before .before .before .before .before .pre .1)
-
-advance-requires : tie.Need-advance-requires
-advance-requires c κs = (c .before .before .before .before .before .before .before .before .before .before .before .before .before .before .before .before .before .before .before .before .before .before .before .before .before .pre .0, accepted _ _ _ (sym (c .before .before .before .before .before .before .before .before .before .before .before .before .before .before .before .before .before .judge .ensures) ∙ c .before .before .before .before .before .before .before .before .before .before .before .before .before .before .before .before .if1 .left))
+returns c =
+    let j = c .before .before .before in
+    let s = start j in
+    let x = found s in
+    let e = judge-caps (s .args .s) (now (s .args .d)) x (j .judge .result) (j .judge .ensures) ∙ c .before .fault .given .1 in
+    let l = refused-line (s .args .s) (now (s .args .d)) x _ _ e in
+    let n = judged-number (s .args .s) (now (s .args .d)) x _ _ e in
+    (sym (l .0), (sym (l .1), n .0))
 
 same-length-2 : tie.Need-same-length-2
 same-length-2 c = search needs
@@ -42,19 +78,27 @@ same-length-6 : tie.Need-same-length-6
 same-length-6 c = search needs
 
 returns-2 : tie.Need-returns-2
-unfolding lineOf roomsOf
-returns-2 c = (simp (← c .before .before .before .before .before .before .before .before .before .before .before .before .before .before .before .before .before .before .judge .ensures, eq-eqb _ _ (c .before .before .before .before .before .before .before .before .before .before .before .before .before .before .before .before .before .if1 .left), c .advance .ensures .0), (simp (← c .before .before .before .before .before .before .before .before .before .before .before .before .before .before .before .before .before .before .judge .ensures, eq-eqb _ _ (c .before .before .before .before .before .before .before .before .before .before .before .before .before .before .before .before .before .if1 .left)) (c .before .before .before .before .before .before .before .before .before .before .before .store .ensures), c .advance .ensures .1))
+returns-2 c =
+    let k = stored-to (c .before) in
+    let t = told (k .before) in
+    let j = t .before .before in
+    let s = start j in
+    let x = found s in
+    let e = judge-caps (s .args .s) (now (s .args .d)) x (j .judge .result) (j .judge .ensures) ∙ sound t in
+    let l = taken-line (s .args .s) (now (s .args .d)) x e in
+    (ap Next (c .advance .ensures .0) ∙ sym (l .0), (k .store .ensures ∙ sym (l .1), c .advance .ensures .1))
 
 pub read-line-spec : {M : Type 1} → statement M
 read-line-spec =
     tie.close
     (tie.spec
     judge-requires
-    add-here
-    same-length
-    returns
+    enum-known-fault
+    enum-told
     store-requires
     advance-requires
+    same-length
+    returns
     same-length-2
     same-length-3
     same-length-4

@@ -1,99 +1,126 @@
-use denote.Ref.{now}
 use native.Mathlib.Omega.{arith}
-use mathlib.Core.Path.{_≡_, sym}
+use Prim.Native.Nat.{_-_}
+use lib.ListN.{length}
+use borrow.Author.Tests.{eqb-true, eqb-false}
 use Rattle.file_line.specs.Read.{rooms}
-use lib.Seq.{length-take-le}
-use Rattle.file_parts.proofs.Buffer.{part-stopped, piece-inside, part-cut, part-long, part-on}
+use Rattle.file_parts.proofs.Line.{large, bounds}
+use Rattle.file_parts.proofs.Buffer.{Reads, reads-start, reads-next, reads-end, reads-stopped}
 use borrow.Author.Needs.{needs}
 use Rattle.file_parts.proofs.read_part.Statement.{statement}
 use Rattle.file_parts.proofs.read_part.Tie as tie
 
-returns : tie.Need-returns
-returns c =
-    let s : tie.Start = search needs in
-    (part-stopped (s .args .h) _ _ (c .if1 .taken), s .pre .0)
+abbrev Inv-loop : tie.InvT-loop
+Inv-loop part caps₀ initial₀ pre₀ post₀ word₀ r₀ at₀ caps initial pre post word r at =
+    Reads part r₀ (rooms caps₀ initial₀ pre₀ post₀ word₀) at r (rooms caps initial pre post word)
 
-line-end-requires : tie.Need-line-end-requires
+abbrev μ-loop : tie.MeasureT-loop
+μ-loop part caps₀ initial₀ pre₀ post₀ word₀ r₀ at₀ caps initial pre post word r at = length part - at
+
+loop-holds : tie.Need-loop-holds Inv-loop μ-loop
+loop-holds c =
+    let s : tie.Start Inv-loop μ-loop = search needs in
+    reads-start _ _ _ (s .pre .0)
+
+line-end-requires : tie.Need-line-end-requires Inv-loop μ-loop
 line-end-requires c κs = search needs
 
-slice-aggregate-hold : tie.Need-slice-aggregate-hold
-slice-aggregate-hold c =
-    let s : tie.Start = search needs in
-    let l : tie.After-line-end = search needs in
-    sym (length-take-le (l .line-end .result) (now (s .args .part)) (piece-inside _ _ (l .line-end .ensures)))
+-- the turn's calls, and its place in the loop
+abbrev fed : tie.After-slice-known10 Inv-loop μ-loop → tie.After-feed-line Inv-loop μ-loop
+fed c = c .before .before .before .before .before .before .before .before .before .before
 
-hold-requires : tie.Need-hold-requires
-hold-requires c κs = search needs
+abbrev line : tie.After-feed-line Inv-loop μ-loop → tie.After-line-end Inv-loop μ-loop
+line k = k .before .before .before .before .before .before
 
-returns-2 : tie.Need-returns-2
+feed-line-requires : tie.Need-feed-line-requires Inv-loop μ-loop
+feed-line-requires c κs =
+    let l = c .before .before .before .before .before in
+    let i = l .before .before .before .before in
+    let s : tie.Start Inv-loop μ-loop = search needs in
+    (i .loop .inv .sound, eqb-true _ _ (l .before .if1 .taken), omega (arith, l .before .before .before .loop-test .taken), l .line-end .ensures, large _ _ (i .loop .inv .same) (s .pre .1))
+
+add-at : tie.Need-add-at Inv-loop μ-loop
+add-at c =
+    let l = line (fed c) in
+    let i = l .before .before .before .before in
+    let b = bounds _ (i .loop .at) (l .line-end .result) (l .line-end .ensures) (omega (arith, l .before .before .before .loop-test .taken)) in
+    omega (arith, b, i .before .before .before .before .before .before .before .good .1 .0)
+
+loop-less : tie.Need-loop-less Inv-loop μ-loop
+loop-less c =
+    let l = line (fed c) in
+    let i = l .before .before .before .before in
+    let b = bounds _ (i .loop .at) (l .line-end .result) (l .line-end .ensures) (omega (arith, l .before .before .before .loop-test .taken)) in
+    omega (arith, b, l .before .before .before .loop-test .taken)
+
+loop-again : tie.Need-loop-again Inv-loop μ-loop
+loop-again c =
+    let k = fed c in
+    let l = line k in
+    let m = k .feed-line .kept in
+    reads-next _ _ _ _ _ _ (l .before .before .before .before .loop .inv) (l .line-end .result) _ _ (k .feed-line .ensures .0) (k .feed-line .ensures .1)
+    (record { caps = m .1 .1 .1 .1 .0; initial = m .1 .1 .1 .1 .1 .0; pre = m .1 .1 .1 .1 .1 .1 .0; post = m .1 .1 .1 .1 .1 .1 .1 .0; word = m .1 .1 .1 .1 .1 .1 .1 .1 .0 })
+
+same-length : tie.Need-same-length Inv-loop μ-loop
+same-length c = c .before .before .before .loop .inv .same .caps
+
+same-length-2 : tie.Need-same-length-2 Inv-loop μ-loop
+same-length-2 c = c .before .before .before .loop .inv .same .initial
+
+same-length-3 : tie.Need-same-length-3 Inv-loop μ-loop
+same-length-3 c = c .before .before .before .loop .inv .same .pre
+
+same-length-4 : tie.Need-same-length-4 Inv-loop μ-loop
+same-length-4 c = c .before .before .before .loop .inv .same .post
+
+same-length-5 : tie.Need-same-length-5 Inv-loop μ-loop
+same-length-5 c = c .before .before .before .loop .inv .same .word
+
+returns : tie.Need-returns Inv-loop μ-loop
+returns c =
+    let m = c .before .before .before .loop .inv in
+    (reads-stopped _ _ _ _ _ _ m (eqb-false _ _ (c .if1 .left)), m .sound)
+
+same-length-6 : tie.Need-same-length-6 Inv-loop μ-loop
+same-length-6 c = c .before .loop .inv .same .caps
+
+same-length-7 : tie.Need-same-length-7 Inv-loop μ-loop
+same-length-7 c = c .before .loop .inv .same .initial
+
+same-length-8 : tie.Need-same-length-8 Inv-loop μ-loop
+same-length-8 c = c .before .loop .inv .same .pre
+
+same-length-9 : tie.Need-same-length-9 Inv-loop μ-loop
+same-length-9 c = c .before .loop .inv .same .post
+
+same-length-10 : tie.Need-same-length-10 Inv-loop μ-loop
+same-length-10 c = c .before .loop .inv .same .word
+
+returns-2 : tie.Need-returns-2 Inv-loop μ-loop
 returns-2 c =
-    let s : tie.Start = search needs in
-    let l : tie.After-line-end = search needs in
-    let h : tie.After-hold = search needs in
-    (part-cut (s .args .h) _ _ (s .pre .0) (search needs) _ (l .line-end .ensures) (h .hold .result) (h .hold .ensures .0) (c .if2 .taken), h .hold .ensures .1)
-
-returns-3 : tie.Need-returns-3
-returns-3 c =
-    let s : tie.Start = search needs in
-    let l : tie.After-line-end = search needs in
-    let h : tie.After-hold = search needs in
-    (part-long (s .args .h) _ _ (s .pre .0) (search needs) _ (l .line-end .ensures) (h .hold .result) (h .hold .ensures .0) (search needs) (c .if3 .taken), h .hold .ensures .1)
-
--- the calls before the held line is ended
-abbrev start : tie.After-read-on-arg5 → tie.Start
-start c = search needs
-
-abbrev line : tie.After-read-on-arg5 → tie.After-line-end
-line c = search needs
-
-abbrev held : tie.After-read-on-arg5 → tie.After-hold
-held c = search needs
-
-first : (c : tie.After-read-on-arg5) → start c .args .h .refusal ≡ 0
-first c = search needs
-
-read-on-requires : tie.Need-read-on-requires
-read-on-requires c κs =
-    let b = c .before .before .before .before .before in
-    (held c .hold .ensures .1, b .if3 .left, omega (arith, piece-inside _ _ (line c .line-end .ensures), b .before .before .if2 .left), start c .pre .1)
-
-same-length : tie.Need-same-length
-same-length c = search needs
-
-same-length-2 : tie.Need-same-length-2
-same-length-2 c = search needs
-
-same-length-3 : tie.Need-same-length-3
-same-length-3 c = search needs
-
-same-length-4 : tie.Need-same-length-4
-same-length-4 c = search needs
-
-same-length-5 : tie.Need-same-length-5
-same-length-5 c = search needs
-
-returns-4 : tie.Need-returns-4
-returns-4 c =
-    let k : tie.After-read-on = search needs in
-    let b = k .before in
-    let q = b .before .before .before .before .before in
-    let a = start b .args in
-    (part-on (a .h) (now (a .part)) (rooms (now (a .caps)) (now (a .initial)) (now (a .pre)) (now (a .post)) (now (a .word))) (start b .pre .0) (first b) _ (line b .line-end .ensures) (held b .hold .result) (held b .hold .ensures .0) _ (q .before .before .if2 .left) (k .read-on .ensures .0), k .read-on .ensures .1)
+    let m = c .before .loop .inv in
+    (reads-end _ _ _ _ _ _ m (c .loop-test .left), m .sound)
 
 pub read-part-spec : {M : Type 1} → statement M
 read-part-spec =
     tie.close
     (tie.spec
-    returns
+    Inv-loop
+    μ-loop
+    loop-holds
     line-end-requires
-    slice-aggregate-hold
-    hold-requires
-    returns-2
-    returns-3
-    read-on-requires
+    feed-line-requires
+    add-at
+    loop-less
+    loop-again
     same-length
     same-length-2
     same-length-3
     same-length-4
     same-length-5
-    returns-4)
+    returns
+    same-length-6
+    same-length-7
+    same-length-8
+    same-length-9
+    same-length-10
+    returns-2)

@@ -1,5 +1,5 @@
 use mathlib.Core.Path.{refl}
-use Rattle.kaunorpi.specs.Came.{nothing}
+use Rattle.kaunorpi.specs.Made.{nothing}
 use Rattle.kaunorpi.proofs.Feeding.{made-answer}
 use Rattle.file_parts.proofs.Line.{large}
 use borrow.Author.Needs.{needs}

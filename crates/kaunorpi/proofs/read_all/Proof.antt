@@ -1,7 +1,8 @@
 use mathlib.Core.Path.{refl, _∙_}
 use Rattle.file_line.specs.Read.{rooms}
-use Rattle.file_parts.specs.File.{both, abs, Sound}
-use Rattle.kaunorpi.specs.Came.{Came}
+use Rattle.file_parts.specs.File.{both}
+use Rattle.file_parts.specs.Held.{abs, Sound}
+use Rattle.kaunorpi.specs.Walk.{BytesFed}
 use Rattle.kaunorpi.proofs.Feeding.{came-none, came-then}
 use Rattle.file_parts.proofs.Line.{Same, large}
 use borrow.Author.Needs.{needs}
@@ -11,7 +12,7 @@ use Rattle.kaunorpi.proofs.read_all.Tie as tie
 abbrev Inv-loop : tie.InvT-loop
 Inv-loop caps₀ initial₀ pre₀ post₀ word₀ r₀ turns₀ caps initial pre post word r turns =
     (Sound r) × (Same (rooms caps initial pre post word) (rooms caps₀ initial₀ pre₀ post₀ word₀))
-    × (Came (both (abs r₀) (rooms caps₀ initial₀ pre₀ post₀ word₀)) (both (abs r) (rooms caps initial pre post word)))
+    × (BytesFed (both (abs r₀) (rooms caps₀ initial₀ pre₀ post₀ word₀)) (both (abs r) (rooms caps initial pre post word)))
 
 abbrev μ-loop : tie.MeasureT-loop
 μ-loop caps₀ initial₀ pre₀ post₀ word₀ r₀ turns₀ caps initial pre post word r turns = turns

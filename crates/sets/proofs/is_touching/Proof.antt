@@ -1,4 +1,4 @@
-use Prim.Native.Nat.{_≤_, _-_}
+use Prim.Native.Nat.{_+_, _≤_, _-_}
 use lib.ListN.{length, getD}
 use Rattle.ground.proofs.Scan.{Below, scans}
 use Rattle.sets.specs.Answer.{meets}
@@ -8,13 +8,16 @@ use Rattle.sets.proofs.is_touching.Statement.{statement}
 use Rattle.sets.proofs.is_touching.Tie as tie
 
 abbrev Inv-loop : tie.InvT-loop
-Inv-loop weights set p₀ p = (p ≤ length set) × Below (λ p. meets (getD weights p 0) (getD set p 0)) p
+Inv-loop weights start set p₀ p = (p ≤ length set) × Below (λ p. meets (getD weights (start + p) 0) (getD set p 0)) p
 
 abbrev μ-loop : tie.MeasureT-loop
-μ-loop weights set p₀ p = length set - p
+μ-loop weights start set p₀ p = length set - p
 
 loop-holds : tie.Need-loop-holds Inv-loop μ-loop
 loop-holds c = search (scans, needs)
+
+add-is-meeting : tie.Need-add-is-meeting Inv-loop μ-loop
+add-is-meeting c = search needs
 
 shared-slice-read-is-meeting : tie.Need-shared-slice-read-is-meeting Inv-loop μ-loop
 shared-slice-read-is-meeting c = search needs
@@ -47,6 +50,7 @@ is-touching-spec =
     Inv-loop
     μ-loop
     loop-holds
+    add-is-meeting
     shared-slice-read-is-meeting
     shared-slice-read-is-meeting-2
     is-meeting-requires

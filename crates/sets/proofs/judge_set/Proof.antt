@@ -1,45 +1,16 @@
-use mathlib.Core.Path.{sym, _∙_}
-use denote.Ref.{now}
-use Rattle.net.specs.Net.{netOf}
-use Rattle.sets.proofs.Touches.{set-sound, set-answers}
+use Rattle.sets.proofs.Touches.{judgings}
 use borrow.Author.Needs.{needs}
 use Rattle.sets.proofs.judge_set.Statement.{statement}
 use Rattle.sets.proofs.judge_set.Tie as tie
 
-set-fault-requires : tie.Need-set-fault-requires
-set-fault-requires c κs = search needs
-
-enum-known-found : tie.Need-enum-known-found
-enum-known-found c = search needs
-
-enum-told : tie.Need-enum-told
-enum-told c = search needs
-
 lowest-escape-requires : tie.Need-lowest-escape-requires
-lowest-escape-requires c κs =
-    let s : tie.Start = search needs in
-    let f : tie.After-set-fault = search needs in
-    let a = s .args in
-    let w = set-sound (netOf (a .places) (a .transitions) (now (a .pre)) (now (a .post)) (now (a .caps))) (now (a .set)) (sym (f .set-fault .ensures) ∙ search needs) in
-    (w .0, w .1)
+lowest-escape-requires c κs = search needs
 
 returns : tie.Need-returns
-returns c = search (set-answers, needs)
+returns c = search (judgings, needs)
 
 returns-2 : tie.Need-returns-2
-returns-2 c = search (set-answers, needs)
-
-returns-3 : tie.Need-returns-3
-returns-3 c = search (set-answers, needs)
+returns-2 c = search (judgings, needs)
 
 pub judge-set-spec : {M : Type 1} → statement M
-judge-set-spec =
-    tie.close
-    (tie.spec
-    set-fault-requires
-    enum-known-found
-    enum-told
-    lowest-escape-requires
-    returns
-    returns-2
-    returns-3)
+judge-set-spec = tie.close (tie.spec lowest-escape-requires returns returns-2)

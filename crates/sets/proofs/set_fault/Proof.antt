@@ -1,4 +1,6 @@
-use Rattle.sets.proofs.Touches.{set-faults}
+use Rattle.net.proofs.Chains.{chains, refused, passed}
+use Rattle.sets.specs.Answer.{setFault}
+use Rattle.sets.proofs.Touches.{places-found}
 use borrow.Author.Needs.{needs}
 use Rattle.sets.proofs.set_fault.Statement.{statement}
 use Rattle.sets.proofs.set_fault.Tie as tie
@@ -16,13 +18,16 @@ is-touching-requires : tie.Need-is-touching-requires
 is-touching-requires c κs = search needs
 
 returns : tie.Need-returns
-returns c = search (set-faults, needs)
+unfolding setFault
+returns c = search (chains, needs)
 
 returns-2 : tie.Need-returns-2
-returns-2 c = search (set-faults, needs)
+unfolding setFault
+returns-2 c = search (chains, refused, passed, places-found, needs)
 
 returns-3 : tie.Need-returns-3
-returns-3 c = search (set-faults, needs)
+unfolding setFault
+returns-3 c = search (chains, refused, passed, places-found, needs)
 
 pub set-fault-spec : {M : Type 1} → statement M
 set-fault-spec =

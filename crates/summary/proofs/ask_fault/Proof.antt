@@ -1,3 +1,4 @@
+use Rattle.net.proofs.Chains.{chains}
 use Rattle.summary.proofs.Asking.{ask-faults}
 use borrow.Author.Needs.{needs}
 use Rattle.summary.proofs.ask_fault.Statement.{statement}
@@ -12,8 +13,8 @@ returns c = search (ask-faults, needs)
 same-count-requires : tie.Need-same-count-requires
 same-count-requires c κs = search needs
 
-first-fault-requires : tie.Need-first-fault-requires
-first-fault-requires c κs = search needs
+marked-fault-requires : tie.Need-marked-fault-requires
+marked-fault-requires c κs = search needs
 
 enum-known-found : tie.Need-enum-known-found
 enum-known-found c = search needs
@@ -25,10 +26,10 @@ shape-fault-requires : tie.Need-shape-fault-requires
 shape-fault-requires c κs = search needs
 
 returns-2 : tie.Need-returns-2
-returns-2 c = search (ask-faults, needs)
+returns-2 c = search (ask-faults, chains, needs)
 
 returns-3 : tie.Need-returns-3
-returns-3 c = search (ask-faults, needs)
+returns-3 c = search (ask-faults, chains, needs)
 
 pub ask-fault-spec : {M : Type 1} → statement M
 ask-fault-spec =
@@ -37,7 +38,7 @@ ask-fault-spec =
     is-outside-requires
     returns
     same-count-requires
-    first-fault-requires
+    marked-fault-requires
     enum-known-found
     enum-told
     shape-fault-requires

@@ -5,7 +5,9 @@ use lib.Dec.{eqb}
 use Rattle.net.specs.Net.{Net, netOf}
 use Rattle.net.specs.declared.Fault.the-variants.{Sound}
 use Rattle.summary.proofs.Shapes.{shape-wells}
-use Rattle.summary.proofs.Asking.{Askable, found-askable, replies}
+use Rattle.summary.specs.Allowed.{AskAllowed}
+use Rattle.summary.proofs.Formed.{of-formed}
+use Rattle.summary.proofs.Asking.{found-allowed, replies}
 use borrow.Author.Needs.{needs}
 use Rattle.summary.proofs.ask_summary.Statement.{statement}
 use Rattle.summary.proofs.ask_summary.Tie as tie
@@ -17,13 +19,13 @@ abbrev start : tie.After-enum-told → tie.Start
 start c = search needs
 
 -- what holds where nothing is refused
-askable : (c : tie.After-enum-told) → Askable (at (start c)) (now (start c .args .marking)) (start c .args .summary) (now (start c .args .room))
+allowed : (c : tie.After-enum-told) → AskAllowed (at (start c)) (now (start c .args .marking)) (start c .args .summary) (now (start c .args .room))
 unfolding at
-askable c =
+allowed c =
     let s = start c in
     let f : tie.After-ask-fault = search needs in
     let e : f .ask-fault .result ≡ Sound = search needs in
-    found-askable (at s) (now (s .args .marking)) (s .args .summary) (now (s .args .room)) (eqb (length (now (s .args .room))) (s .args .places)) (f .ask-fault .result) refl (f .ask-fault .ensures) e
+    found-allowed (at s) (now (s .args .marking)) (s .args .summary) (now (s .args .room)) (eqb (length (now (s .args .room))) (s .args .places)) (f .ask-fault .result) refl (f .ask-fault .ensures) e
 
 ask-fault-requires : tie.Need-ask-fault-requires
 ask-fault-requires c κs = search needs
@@ -39,9 +41,9 @@ unfolding at
 ask-slots-requires c κs =
     let e : tie.After-enum-told = search needs in
     let s = start e in
-    let k = askable e in (
+    let k = allowed e in (
       k .sized .capped ∙ sym (k .marked),
-      (k .roomy ∙ sym (k .marked), (rw (k .marked) (k .sized .few-places), shape-wells (s .args .summary) (k .shaped))),
+      (k .roomy ∙ sym (k .marked), (rw (k .marked) (k .sized .few-places), shape-wells (s .args .summary) (of-formed (s .args .summary) (k .formed)))),
     )
 
 returns : tie.Need-returns

@@ -1,4 +1,5 @@
-use Rattle.summary.proofs.Answers.{part-faults}
+use Rattle.net.proofs.Chains.{chains}
+use Rattle.summary.specs.Summary.{partFault}
 use borrow.Author.Needs.{needs}
 use Rattle.summary.proofs.find_fault.Statement.{statement}
 use Rattle.summary.proofs.find_fault.Tie as tie
@@ -16,10 +17,12 @@ word-fault-requires : tie.Need-word-fault-requires
 word-fault-requires c κs = search needs
 
 returns : tie.Need-returns
-returns c = search (part-faults, needs)
+unfolding partFault
+returns c = search (chains, needs)
 
 returns-2 : tie.Need-returns-2
-returns-2 c = search (part-faults, needs)
+unfolding partFault
+returns-2 c = search (chains, needs)
 
 pub find-fault-spec : {M : Type 1} → statement M
 find-fault-spec =

@@ -1,4 +1,6 @@
-use Rattle.summary.proofs.Shapes.{join-faults, shape-few}
+use Rattle.net.proofs.Chains.{chains}
+use Rattle.summary.proofs.Shapes.{shape-few}
+use Rattle.summary.proofs.Joining.{join-faults}
 use borrow.Author.Needs.{needs}
 use Rattle.summary.proofs.join_fault.Statement.{statement}
 use Rattle.summary.proofs.join_fault.Tie as tie
@@ -31,10 +33,10 @@ later-fault-requires : tie.Need-later-fault-requires
 later-fault-requires c κs = search (shape-few, needs)
 
 returns-4 : tie.Need-returns-4
-returns-4 c = search (join-faults, needs)
+returns-4 c = search (join-faults, chains, needs)
 
 returns-5 : tie.Need-returns-5
-returns-5 c = search (join-faults, needs)
+returns-5 c = search (join-faults, chains, needs)
 
 pub join-fault-spec : {M : Type 1} → statement M
 join-fault-spec =

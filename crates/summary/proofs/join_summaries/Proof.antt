@@ -3,8 +3,11 @@ use mathlib.Core.Path.{_≡_, sym, _∙_}
 use native.Mathlib.Omega.{arith}
 use Rattle.net.specs.declared.Fault.the-variants.{Sound}
 use Rattle.summary.specs.Join.{joinSummary, joinFault}
+use Rattle.summary.specs.Allowed.{JoinAllowed}
 use Rattle.summary.proofs.Answers.{answers-refused, answers-done}
-use Rattle.summary.proofs.Shapes.{Joinable, joinable-of, shape-wells}
+use Rattle.summary.proofs.Shapes.{shape-wells}
+use Rattle.summary.proofs.Formed.{of-formed}
+use Rattle.summary.proofs.Joining.{join-allowed-of}
 use borrow.Author.Needs.{needs}
 use Rattle.summary.proofs.join_summaries.Statement.{statement}
 use Rattle.summary.proofs.join_summaries.Tie as tie
@@ -13,11 +16,11 @@ abbrev start : tie.After-enum-told → tie.Start
 start c = search needs
 
 -- what holds where nothing is refused
-joinable : (c : tie.After-enum-told) → Joinable (start c .args .a) (start c .args .b)
-joinable c =
+allowed : (c : tie.After-enum-told) → JoinAllowed (start c .args .a) (start c .args .b)
+allowed c =
     let f : tie.After-join-fault = search needs in
     let e : f .join-fault .result ≡ Sound = search needs in
-    joinable-of (start c .args .a) (start c .args .b) (sym (f .join-fault .ensures) ∙ e)
+    join-allowed-of (start c .args .a) (start c .args .b) (sym (f .join-fault .ensures) ∙ e)
 
 join-fault-requires : tie.Need-join-fault-requires
 join-fault-requires c κs = search needs
@@ -34,14 +37,14 @@ enum-told c = search needs
 add-letters : tie.Need-add-letters
 add-letters c =
     let e : tie.After-enum-told = search needs in
-    omega (arith, joinable e .few)
+    omega (arith, allowed e .few)
 
 -- Searched for, so that slots joined in the other order are refused at the answer, not here.
 join-slots-requires : tie.Need-join-slots-requires
 join-slots-requires c κs =
     let e : tie.After-enum-told = search needs in
-    let first = shape-wells (start e .args .a) (joinable e .first-shape) in
-    let second = shape-wells (start e .args .b) (joinable e .second-shape) in
+    let first = shape-wells (start e .args .a) (of-formed (start e .args .a) (allowed e .first-formed)) in
+    let second = shape-wells (start e .args .b) (of-formed (start e .args .b) (allowed e .second-formed)) in
     (search needs, search needs)
 
 returns : tie.Need-returns

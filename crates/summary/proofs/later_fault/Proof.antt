@@ -1,4 +1,7 @@
-use Rattle.summary.proofs.Shapes.{laters}
+use Rattle.ground.proofs.Tests.{tests}
+use Rattle.net.proofs.Chains.{chains, refused, passed}
+use Rattle.summary.specs.Join.{laterFault}
+use Rattle.summary.proofs.Joining.{both-fit}
 use borrow.Author.Needs.{needs}
 use Rattle.summary.proofs.later_fault.Statement.{statement}
 use Rattle.summary.proofs.later_fault.Tie as tie
@@ -13,19 +16,22 @@ enum-told : tie.Need-enum-told
 enum-told c = search needs
 
 add-both : tie.Need-add-both
-add-both c = search (laters, needs)
+add-both c = search (both-fit, needs)
 
 cast-if1 : tie.Need-cast-if1
 cast-if1 c = search needs
 
 returns : tie.Need-returns
-returns c = search (laters, needs)
+unfolding laterFault
+returns c = search (chains, refused, passed, tests, needs)
 
 returns-2 : tie.Need-returns-2
-returns-2 c = search (laters, needs)
+unfolding laterFault
+returns-2 c = search (chains, refused, passed, tests, needs)
 
 returns-3 : tie.Need-returns-3
-returns-3 c = search (laters, needs)
+unfolding laterFault
+returns-3 c = search (chains, refused, passed, tests, needs)
 
 pub later-fault-spec : {M : Type 1} → statement M
 later-fault-spec =

@@ -2,6 +2,7 @@ use denote.Ref.{now}
 use mathlib.Core.Path.{_≡_, sym, _∙_}
 use native.Mathlib.Omega.{arith}
 use Rattle.net.specs.Net.{Net, netOf}
+use Rattle.net.specs.Given.{Light}
 use Rattle.net.specs.declared.Fault.the-variants.{Sound}
 use Rattle.summary.specs.Summary.{summaryOf, partFault}
 use Rattle.summary.proofs.Answers.{Sane, sane-of, answers-refused, answers-done, word-made}
@@ -23,6 +24,13 @@ sane c =
     let e : f .find-fault .result ≡ Sound = search needs in
     sane-of (at (start c)) (now (start c .args .part)) (start c .args .within) (sym (f .find-fault .ensures) ∙ e)
 
+-- no byte is above a weight's limit
+light : (c : tie.After-enum-told) → Light (at (start c))
+unfolding at
+light c =
+    let k : tie.After-shared-slice-known2 = search needs in
+    record { pre = λ i. omega (arith, k .before .shared-slice-known .given i); post = λ i. omega (arith, k .shared-slice-known2 .given i) }
+
 find-fault-requires : tie.Need-find-fault-requires
 find-fault-requires c κs = search needs
 
@@ -39,7 +47,7 @@ word-slots-requires : tie.Need-word-slots-requires
 unfolding at
 word-slots-requires c κs =
     let s = sane c in
-    (s .sized, (s .short, s .letters))
+    (s .sized, (light c, (s .short, s .letters)))
 
 cast-letters : tie.Need-cast-letters
 unfolding at

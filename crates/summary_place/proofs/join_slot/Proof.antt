@@ -5,7 +5,7 @@ use lib.IntN.{subℕ}
 use mir.Syntax.{w32}
 use mir.Facts.{toZ-ofZ}
 use Rattle.ground.proofs.Parts.{sum-sub}
-use Rattle.summary_place.specs.Slots.{step}
+use Rattle.summary_place.specs.Walk.{step}
 use Rattle.summary_place.proofs.Border.{change-fits, up-read, dn-read}
 use Rattle.summary_place.proofs.Joins.{joined-is}
 use borrow.Author.Needs.{needs}

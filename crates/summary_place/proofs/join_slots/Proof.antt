@@ -1,4 +1,5 @@
-use Rattle.summary_place.specs.Slots.{nil, joined, slotLimit, Wells}
+use Rattle.summary_place.specs.Slots.{nil, joined}
+use Rattle.summary_place.specs.Walk.{slotLimit, Wells}
 use Rattle.summary_place.proofs.Joins.{joining, joins-end}
 use Rattle.summary_place.proofs.Tests.{well-at}
 use Prim.Native.Nat.{_-_}

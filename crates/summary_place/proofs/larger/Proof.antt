@@ -1,5 +1,5 @@
 use native.Mathlib.Omega.{arith}
-use Rattle.summary_place.specs.Slots.{step}
+use Rattle.summary_place.specs.Walk.{step}
 use borrow.Author.Needs.{needs}
 use Rattle.summary_place.proofs.larger.Statement.{statement}
 use Rattle.summary_place.proofs.larger.Tie as tie

@@ -1,9 +1,10 @@
 use native.Mathlib.Omega.{arith}
-use Rattle.summary_place.specs.Slots.{nil, slotLimit, Wells}
+use Rattle.summary_place.specs.Slots.{nil}
 use Prim.Native.Nat.{_≤_, _-_}
 use lib.ListN.{length, getD}
 use Rattle.ground.proofs.Scan.{Below, scans}
 use Rattle.summary_place.specs.Asked.{noAt}
+use Rattle.summary_place.specs.Walk.{slotLimit, Wells}
 use borrow.Author.Needs.{needs}
 use Rattle.summary_place.proofs.lowest_no.Statement.{statement}
 use Rattle.summary_place.proofs.lowest_no.Tie as tie

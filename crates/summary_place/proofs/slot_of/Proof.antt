@@ -1,17 +1,12 @@
 use denote.Ref.{now}
-use Rattle.summary_place.proofs.Running.{Running, runs, run-next}
-use native.Mathlib.Omega.{arith}
-use Prim.Native.Nat.{ℕ, _-_}
-use mathlib.Core.Path.{_≡_, ap₂, _∙_}
+use Rattle.summary_place.proofs.Running.{Running, runs, run-letter}
+use Prim.Native.Nat.{_-_}
 use lib.ListN.{length}
 use Rattle.net.specs.Net.{netOf}
 use Rattle.summary_place.specs.Place.{letterAt}
 use borrow.Author.Needs.{needs}
 use Rattle.summary_place.proofs.slot_of.Statement.{statement}
 use Rattle.summary_place.proofs.slot_of.Tie as tie
-
-rise-is : {x y r x′ y′ : ℕ} → x ≡ x′ → y ≡ y′ → r ≡ y - x → r ≡ y′ - x′
-rise-is p q e = e ∙ ap₂ _-_ q p
 
 abbrev Inv-loop : tie.InvT-loop
 Inv-loop places transitions pre post caps p word gained₀ lost₀ need₀ climb₀ i₀ gained lost need climb i =
@@ -26,23 +21,29 @@ loop-holds c = search (runs, needs)
 shared-slice-read-t : tie.Need-shared-slice-read-t Inv-loop μ-loop
 shared-slice-read-t c = search needs
 
-cast-t : tie.Need-cast-t Inv-loop μ-loop
-cast-t c = omega (arith, c .shared-slice-known5 .given (c .before .before .loop .i))
-
 cell-requires : tie.Need-cell-requires Inv-loop μ-loop
 cell-requires c κs = search (runs, needs)
 
 cell-requires-2 : tie.Need-cell-requires-2 Inv-loop μ-loop
 cell-requires-2 c κs = search (runs, needs)
 
-larger-requires : tie.Need-larger-requires Inv-loop μ-loop
-larger-requires c κs = search needs
-
 rise-requires : tie.Need-rise-requires Inv-loop μ-loop
 rise-requires c κs = search needs
 
+cast-taken : tie.Need-cast-taken Inv-loop μ-loop
+cast-taken c = search needs
+
+larger-requires : tie.Need-larger-requires Inv-loop μ-loop
+larger-requires c κs = search needs
+
+cast-larger : tie.Need-cast-larger Inv-loop μ-loop
+cast-larger c = search needs
+
 larger-requires-2 : tie.Need-larger-requires-2 Inv-loop μ-loop
 larger-requires-2 c κs = search needs
+
+cast-gained : tie.Need-cast-gained Inv-loop μ-loop
+cast-gained c = search needs
 
 add-gained : tie.Need-add-gained Inv-loop μ-loop
 add-gained c = search needs
@@ -61,13 +62,13 @@ loop-again c =
     let s : tie.Start Inv-loop μ-loop = search needs in
     let a = s .args in
     let l : tie.In-loop Inv-loop μ-loop = search needs in
-    let at = letterAt (netOf (a .places) (a .transitions) (now (a .pre)) (now (a .post)) (now (a .caps))) (a .p) in
+    let b = l .before .loop in
     let x : tie.After-cell Inv-loop μ-loop = search needs in
     let y : tie.After-cell2 Inv-loop μ-loop = search needs in
     let r : tie.After-rise Inv-loop μ-loop = search needs in
     let n : tie.After-larger Inv-loop μ-loop = search needs in
-    run-next at (now (a .word)) (l .before .loop .gained) (l .before .loop .lost) (l .before .loop .need) (l .before .loop .climb) (l .before .loop .i) (l .before .loop .inv) _ _ _ _ _ (search needs)
-    (x .cell .ensures .0) (y .cell2 .ensures .0) (rise-is (x .cell .ensures .0) (y .cell2 .ensures .0) (r .rise .ensures)) (n .larger .ensures) (c .larger2 .ensures) (x .cell .ensures .1) (y .cell2 .ensures .1)
+    run-letter (netOf (a .places) (a .transitions) (now (a .pre)) (now (a .post)) (now (a .caps))) (search needs) (a .p) (now (a .word)) (b .gained) (b .lost) (b .need) (b .climb) (b .i) (b .inv) _ _ _ _ _ (search needs)
+    (x .cell .ensures) (y .cell2 .ensures) (r .rise .ensures) (n .larger .ensures) (c .larger2 .ensures)
 
 less-requires : tie.Need-less-requires Inv-loop μ-loop
 less-requires c κs = search needs
@@ -83,12 +84,14 @@ slot-of-spec =
     μ-loop
     loop-holds
     shared-slice-read-t
-    cast-t
     cell-requires
     cell-requires-2
-    larger-requires
     rise-requires
+    cast-taken
+    larger-requires
+    cast-larger
     larger-requires-2
+    cast-gained
     add-gained
     add-lost
     add-i

@@ -1,13 +1,14 @@
 use denote.Ref.{now}
 use native.Mathlib.Omega.{arith}
-use Rattle.summary_place.specs.Asked.{endAt, Covered}
+use Rattle.summary_place.specs.Asked.{endAt}
 use Prim.Native.Nat.{ℕ, _-_, _≤_}
 use mathlib.Core.Path.{_≡_, _∙_}
 use mathlib.Core.List.{List}
 use Rattle.ground.specs.Lists.{table}
 use Rattle.ground.proofs.Fill.{Made, makes, make-end}
 use lib.ListN.{length, getD}
-use Rattle.summary_place.specs.Slots.{nil, slotLimit, Wells}
+use Rattle.summary_place.specs.Slots.{nil}
+use Rattle.summary_place.specs.Walk.{NeedsMet, slotLimit, Wells}
 use borrow.Author.Needs.{needs}
 use Rattle.summary_place.proofs.write_end.Statement.{statement}
 use Rattle.summary_place.proofs.write_end.Tie as tie
@@ -40,7 +41,7 @@ end-at-requires : tie.Need-end-at-requires Inv-loop μ-loop
 end-at-requires c κs =
     let s : tie.Start Inv-loop μ-loop = search needs in
     let l : tie.In-loop Inv-loop μ-loop = search needs in
-    let h : Covered (s .args .t1) (now (s .args .marking)) = search needs in
+    let h : NeedsMet (s .args .t1) (now (s .args .marking)) = search needs in
     let e : length (l .before .loop .room) ≡ length (now (s .args .room)) = l .before .loop .inv .filled .long in
     let w : Wells slotLimit (s .args .t1) = search needs in
     (w .at (l .before .loop .p) (omega arith), h .at (l .before .loop .p) (omega arith))

@@ -1,6 +1,7 @@
 use native.Mathlib.Omega.{arith}
 use denote.Ref.{now}
-use Rattle.verdict_text.proofs.Puts.{put-then, put-long, four-long, fours-long, fed}
+use Rattle.file_digits.proofs.Puts.{put-then, put-long, four-long, fours-long}
+use Rattle.verdict_text.proofs.Puts.{fed}
 use borrow.Author.Needs.{needs}
 use Rattle.verdict_text.proofs.write_fired.Statement.{statement}
 use Rattle.verdict_text.proofs.write_fired.Tie as tie

@@ -1,11 +1,11 @@
 use Rattle.ground.proofs.Tests.{tests}
-use Rattle.weighting.proofs.Answers.{chains, refused, passed}
+use Rattle.net.proofs.Chains.{chains, refused, passed}
 use borrow.Author.Needs.{needs}
 use Rattle.weighting.proofs.bound_fault.Statement.{statement}
 use Rattle.weighting.proofs.bound_fault.Tie as tie
 
-first-fault-requires : tie.Need-first-fault-requires
-first-fault-requires c κs = search needs
+marked-fault-requires : tie.Need-marked-fault-requires
+marked-fault-requires c κs = search needs
 
 enum-known-found : tie.Need-enum-known-found
 enum-known-found c = search needs
@@ -38,7 +38,7 @@ pub bound-fault-spec : {M : Type 1} → statement M
 bound-fault-spec =
     tie.close
     (tie.spec
-    first-fault-requires
+    marked-fault-requires
     enum-known-found
     enum-told
     zero-fault-requires

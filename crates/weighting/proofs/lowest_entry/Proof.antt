@@ -5,7 +5,8 @@ use lib.IntN.{pos}
 use denote.Ref.{now}
 use mir.Syntax.{w16}
 use mir.Facts.{toZ-ofZ}
-use Rattle.weighting.specs.Weighting.{entry, picks}
+use Rattle.weighting.specs.Weighting.{entry}
+use Rattle.weighting.specs.Tests.{picks}
 use Rattle.ground.proofs.Scan.{Below, scans}
 use borrow.Author.Needs.{needs}
 use Rattle.weighting.proofs.lowest_entry.Statement.{statement}

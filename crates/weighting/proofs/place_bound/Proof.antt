@@ -1,7 +1,8 @@
 use mathlib.Core.Path.{sym, _∙_}
 use denote.Ref.{now}
 use Rattle.net.specs.Net.{netOf}
-use Rattle.weighting.proofs.Answers.{bound-sound, bound-answers}
+use Rattle.weighting.proofs.Answers.{bound-answers}
+use Rattle.weighting.proofs.Allowed.{bound-allowed-of}
 use borrow.Author.Needs.{needs}
 use Rattle.weighting.proofs.place_bound.Statement.{statement}
 use Rattle.weighting.proofs.place_bound.Tie as tie
@@ -20,8 +21,8 @@ find-bound-requires c κs =
     let s : tie.Start = search needs in
     let f : tie.After-bound-fault = search needs in
     let a = s .args in
-    let w = bound-sound (netOf (a .places) (a .transitions) (now (a .pre)) (now (a .post)) (now (a .caps))) (now (a .initial)) (now (a .y)) (a .place) (sym (f .bound-fault .ensures) ∙ search needs) in
-    (w .sized, (w .initial-long, (w .y-long, w .here)))
+    let w = bound-allowed-of (netOf (a .places) (a .transitions) (now (a .pre)) (now (a .post)) (now (a .caps))) (now (a .initial)) (now (a .y)) (a .place) (sym (f .bound-fault .ensures) ∙ search needs) in
+    (w .sized, (w .marked, (w .long, w .below)))
 
 returns : tie.Need-returns
 returns c = search (bound-answers, needs)

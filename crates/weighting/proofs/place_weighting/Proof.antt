@@ -1,7 +1,8 @@
 use mathlib.Core.Path.{sym, _∙_}
 use denote.Ref.{now}
 use Rattle.net.specs.Net.{netOf}
-use Rattle.weighting.proofs.Answers.{weighting-sound, place-answers}
+use Rattle.weighting.proofs.Answers.{place-answers}
+use Rattle.weighting.proofs.Allowed.{allowed-of}
 use borrow.Author.Needs.{needs}
 use Rattle.weighting.proofs.place_weighting.Statement.{statement}
 use Rattle.weighting.proofs.place_weighting.Tie as tie
@@ -20,8 +21,8 @@ lowest-transition-requires c κs =
     let s : tie.Start = search needs in
     let f : tie.After-weighting-fault = search needs in
     let a = s .args in
-    let w = weighting-sound (netOf (a .places) (a .transitions) (now (a .pre)) (now (a .post)) (now (a .caps))) (a .places) (now (a .y)) (sym (f .weighting-fault .ensures) ∙ search needs) in
-    (w .0, w .1)
+    let w = allowed-of (netOf (a .places) (a .transitions) (now (a .pre)) (now (a .post)) (now (a .caps))) (a .places) (now (a .y)) (sym (f .weighting-fault .ensures) ∙ search needs) in
+    (w .sized, w .long)
 
 returns : tie.Need-returns
 returns c = search (place-answers, needs)

@@ -1,0 +1,67 @@
+-- Laws of bytes put one after another. Assumes nothing.
+use mathlib.Core.Path.{_≡_, refl, sym, _∙_, ap}
+use mathlib.Core.List.{List, [], _∷_, _++_}
+use Prim.Native.Nat.{ℕ, _+_, _*_, _/_, _%_}
+use native.Mathlib.Omega.{arith}
+use native.Mathlib.Numerals.{add-one}
+use lib.ListN.{length, set, length-append}
+use lib.Seq.{sets, length-sets}
+use Rattle.ground.proofs.Stores.{sets-both}
+use Rattle.file_digits.specs.Frame.{digitOf, digitsOf, lineFeed, two, four, fours, Put, PutLine}
+use Rattle.file_digits.proofs.Round.{digits-then, digits-long}
+
+pub put-then : (l : List ℕ) (at : ℕ) (a b : List ℕ) (r s : ℕ) (m n : List ℕ) → Put l at a r m → Put m r b s n → Put l at (a ++ b) s n
+put-then l at a b r s m n p q =
+    let e : r ≡ at + length (digitsOf a) = p .next ∙ rw (digits-long a) in
+    record {
+      made = q .made ∙ rw (p .made, e) (sets-both (digitsOf a) (digitsOf b) l at ∙ ap (sets l at) (sym (digits-then a b)));
+      next = omega (arith, p .next, q .next, length-append a b);
+    }
+
+pub put-one : (l : List ℕ) (at b x y : ℕ) → x ≡ digitOf (b / 16) → y ≡ digitOf (b % 16) → Put l at (b ∷ []) (at + 2) (set (set l at x) (at + 1) y)
+unfolding digitsOf
+put-one l at b x y e f = record { made = rw (e, f, add-one at); next = omega arith }
+
+pub put-long : (l : List ℕ) (at : ℕ) (a : List ℕ) (r : ℕ) (m : List ℕ) → Put l at a r m → length m ≡ length l
+put-long l at a r m p = rw (p .made, length-sets)
+
+two-long : (n : ℕ) → length (two n) ≡ 2
+unfolding two
+two-long n = refl
+
+pub four-long : (n : ℕ) → length (four n) ≡ 4
+unfolding four
+four-long n = refl
+
+pub fours-long : (w : List ℕ) → length (fours w) ≡ 4 * length w
+unfolding fours
+fours-long [] = refl
+fours-long (x ∷ w) =
+    let e = length-append (four x) (fours w) in
+    let f = fours-long w in
+    omega (arith, four-long x)
+
+pub two-next : (l : List ℕ) (at n r : ℕ) (m : List ℕ) → Put l at (two n) r m → r ≡ at + 4
+two-next l at n r m p = omega (arith, p .next, two-long n)
+
+-- four bytes are two and two
+pub four-twos : (n : ℕ) → two (n / 65536 % 65536) ++ two (n % 65536) ≡ four n
+unfolding two four
+four-twos n =
+    let a : n / 65536 % 65536 / 256 ≡ n / 16777216 % 256 = omega arith in
+    let b : n / 65536 % 65536 % 256 ≡ n / 65536 % 256 = omega arith in
+    let c : n % 65536 / 256 ≡ n / 256 % 256 = omega arith in
+    let d : n % 65536 % 256 ≡ n % 256 = omega arith in
+    rw (a, b, c, d)
+
+pub put-four-is : (l : List ℕ) (at n r : ℕ) (m : List ℕ) → Put l at (two (n / 65536 % 65536) ++ two (n % 65536)) r m → Put l at (four n) r m
+put-four-is l at n r m p = rw (four-twos n) at p
+
+-- the line feed after the bytes
+pub line-put : (l : List ℕ) (at : ℕ) (a : List ℕ) (r s : ℕ) (m n : List ℕ) → Put l at a r m → n ≡ sets m r (lineFeed ∷ []) → s ≡ r + 1 → PutLine l at a s n
+line-put l at a r s m n p e f =
+    let k : r ≡ at + length (digitsOf a) = p .next ∙ rw (digits-long a) in
+    record {
+      made = e ∙ rw (p .made, k) (sets-both (digitsOf a) (lineFeed ∷ []) l at);
+      next = let z = length-append (digitsOf a) (lineFeed ∷ []) in omega (arith, k);
+    }

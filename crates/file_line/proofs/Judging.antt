@@ -1,0 +1,141 @@
+-- The chain as the code comes to it, test by test. Assumes nothing.
+use mathlib.Core.Path.{_≡_, sym, _∙_}
+use mathlib.Core.Bool.{Bool, true, false, _&&_, _||_}
+use mathlib.Core.List.{List, []}
+use Prim.Native.Nat.{ℕ, _+_, _*_, _<_, _≤_, _%_}
+use lib.Dec.{leb, ltb, eqb}
+use lib.ListN.{length}
+use borrow.Author.Tests.{lt-ltb, le-ltb, eq-eqb, ne-eqb, lt-leb, le-leb}
+use Rattle.ground.specs.Limits.{wordLimit}
+use Rattle.net.specs.Given.{refuse, orElse, outside, badToken, badLetter}
+use Rattle.net.specs.declared.Fault.{Fault}
+use Rattle.net.specs.declared.Fault.the-variants.{Sound, Faulty}
+use Rattle.net.proofs.Chains.{or-none}
+use Rattle.file_digits.specs.Frame.{block, byteAt, wordsFrom}
+use Rattle.file_digits.proofs.Bytes.{words-long}
+use Rattle.file_line.specs.declared.Reading.{Reading}
+use Rattle.file_line.specs.Read.{Rooms, rooms, kindOf, expected, tokensIn, lettersIn, wordPart, lineHere, ruleOf, formedOf, formedKind, judgeOf}
+use Rattle.file_line.specs.Walk.{fitLetters}
+use Rattle.file_line.proofs.Order.{formed-rest}
+use Rattle.file_line.proofs.Turns.{letters-pass}
+
+-- the length of a frame 05
+module _ (letters len : ℕ) where
+  pub block-late : (letters % block ≡ 0 → ⊥) → false ≡ (eqb (letters % block) 0 && (leb 4 len && leb len (2 + 2 * block)))
+  block-late n = rw (ne-eqb (letters % block) 0 n)
+
+  pub block-short : letters % block ≡ 0 → len < 4 → false ≡ (eqb (letters % block) 0 && (leb 4 len && leb len (2 + 2 * block)))
+  block-short e h = rw (eq-eqb (letters % block) 0 e, lt-leb 4 len h)
+
+  pub block-long : letters % block ≡ 0 → 4 ≤ len → leb len (2 + 2 * block) ≡ (eqb (letters % block) 0 && (leb 4 len && leb len (2 + 2 * block)))
+  block-long e h = rw (eq-eqb (letters % block) 0 e, le-leb 4 len h)
+
+-- the form of a frame, by its kind
+module _ (s : Reading) (d : List ℕ) where
+  pub form-other : (k : ℕ) → k ≡ kindOf d → (k ≡ s .phase → ⊥) → false ≡ formedOf s d
+  unfolding formedOf
+  form-other k e n = rw (← e, ne-eqb k (expected s) n)
+
+  form-is : (k : ℕ) (r : Bool) → k ≡ kindOf d → k ≡ s .phase → r ≡ formedKind k s d → r ≡ formedOf s d
+  unfolding formedOf
+  form-is k r e p q = rw (← e, eq-eqb k (expected s) p) q
+
+  module _ (k : ℕ) (e : k ≡ kindOf d) (p : k ≡ s .phase) where
+    pub form-01 : k ≡ 1 → eqb (length d) 6 ≡ formedOf s d
+    unfolding formedKind
+    form-01 q = form-is k _ e p (rw q)
+
+    pub form-02 : k ≡ 2 → eqb (length d) (2 + 4 * s .places) ≡ formedOf s d
+    unfolding formedKind
+    form-02 q = form-is k _ e p (rw q)
+
+    pub form-03 : k ≡ 3 → eqb (length d) (2 + 4 * s .places) ≡ formedOf s d
+    unfolding formedKind
+    form-03 q = form-is k _ e p (rw q)
+
+    pub form-04 : (r : Bool) → k ≡ 4 → r ≡ (eqb (length d) (4 + 4 * s .places) && eqb (byteAt d 1) (s .next)) → r ≡ formedOf s d
+    unfolding formedKind
+    form-04 r q h = form-is k r e p (rw q h)
+
+    pub form-05 : (r : Bool) → k ≡ 5 → r ≡ (eqb (s .letters % block) 0 && (leb 4 (length d) && leb (length d) (2 + 2 * block))) → r ≡ formedOf s d
+    unfolding formedKind
+    form-05 r q h = form-is k r e p (rw q h)
+
+    pub form-rest : (k ≡ 1 → ⊥) → (k ≡ 2 → ⊥) → (k ≡ 3 → ⊥) → (k ≡ 4 → ⊥) → (k ≡ 5 → ⊥) → false ≡ formedOf s d
+    form-rest a b c f g = form-is k false e p (sym (formed-rest s d k a b c f g))
+
+pub ruleset forms = (form-other, form-01, form-02, form-03, form-04, form-05, form-rest)
+
+-- the chain
+module _ (s : Reading) (d : List ℕ) (x : Rooms) where
+  pub judge-rule : ruleOf d ≡ false → Faulty 11 (lineHere s) ≡ judgeOf s d x
+  unfolding judgeOf
+  judge-rule e = rw e
+
+  module _ (r : ruleOf d ≡ true) where
+    pub judge-form : formedOf s d ≡ false → Faulty 12 (lineHere s) ≡ judgeOf s d x
+    unfolding judgeOf
+    judge-form e = rw (r, e)
+
+    module _ (f : formedOf s d ≡ true) where
+      pub judge-01 : (a : Fault) → kindOf d ≡ 1 → a ≡ refuse (outside (byteAt d 1) || outside (byteAt d 2)) 1 (lineHere s) → a ≡ judgeOf s d x
+      unfolding judgeOf
+      judge-01 a k e = rw (r, f, k) (e ∙ sym (or-none _))
+
+      pub judge-03 : (a : Fault) → kindOf d ≡ 3 → a ≡ refuse (ltb (badToken (x .caps) (tokensIn s d)) (length (tokensIn s d))) 3 (lineHere s) → a ≡ judgeOf s d x
+      unfolding judgeOf
+      judge-03 a k e = rw (r, f, k) (e ∙ sym (or-none _))
+
+      pub judge-05 : (a : Fault) → kindOf d ≡ 5
+          → a ≡ orElse (refuse (ltb wordLimit (s .letters + lettersIn d)) 4 (lineHere s)) (refuse (ltb (badLetter (s .transitions) (wordPart d)) (length (wordPart d))) 5 (lineHere s))
+          → a ≡ judgeOf s d x
+      unfolding judgeOf
+      judge-05 a k e = rw (r, f, k) e
+
+      pub judge-rest : (kindOf d ≡ 1 → ⊥) → (kindOf d ≡ 3 → ⊥) → (kindOf d ≡ 5 → ⊥) → Sound ≡ judgeOf s d x
+      unfolding judgeOf
+      judge-rest a b c = rw (r, f, ne-eqb (kindOf d) 1 a, ne-eqb (kindOf d) 3 b, ne-eqb (kindOf d) 5 c)
+
+-- only the capacities are looked at
+pub judge-caps : (s : Reading) (d : List ℕ) (x : Rooms) (a : Fault) → a ≡ judgeOf s d (rooms (x .caps) [] [] [] []) → judgeOf s d x ≡ a
+unfolding judgeOf
+judge-caps s d x a e = sym e
+
+-- the counts of a frame 01: a and b are their tests' answers
+module _ (d : List ℕ) (here p u t v : ℕ) (a : Bool) (eu : u ≡ byteAt d 1) (ep : p ≡ u) (ev : v ≡ byteAt d 2) (et : t ≡ v) (ea : a ≡ outside p) where
+  pub counts-places : a ≡ true → Faulty 1 here ≡ refuse (outside (byteAt d 1) || outside (byteAt d 2)) 1 here
+  counts-places q = rw (← eu, ← ep, ← ea, q)
+
+  module _ (qa : a ≡ false) (b : Bool) (eb : b ≡ outside t) where
+    pub counts-transitions : b ≡ true → Faulty 1 here ≡ refuse (outside (byteAt d 1) || outside (byteAt d 2)) 1 here
+    counts-transitions q = rw (← eu, ← ep, ← ea, qa, ← ev, ← et, ← eb, q)
+
+    pub counts-right : b ≡ false → Sound ≡ refuse (outside (byteAt d 1) || outside (byteAt d 2)) 1 here
+    counts-right q = rw (← eu, ← ep, ← ea, qa, ← ev, ← et, ← eb, q)
+
+pub ruleset counted = (counts-places, counts-transitions, counts-right)
+
+-- the tokens of a frame 03: p is the lowest place that is wrong, or the number of places
+module _ (d caps : List ℕ) (n p here : ℕ) (e : p ≡ badToken caps (wordsFrom d 1 n)) where
+  pub tokens-wrong : p < n → Faulty 3 here ≡ refuse (ltb (badToken caps (wordsFrom d 1 n)) (length (wordsFrom d 1 n))) 3 here
+  tokens-wrong h = rw (← e, words-long d 1 n, lt-ltb p n h)
+
+  pub tokens-right : n ≤ p → Sound ≡ refuse (ltb (badToken caps (wordsFrom d 1 n)) (length (wordsFrom d 1 n))) 3 here
+  tokens-right h = rw (← e, words-long d 1 n, le-ltb p n h)
+
+pub ruleset tokened = (tokens-wrong, tokens-right)
+
+-- the letters of a frame 05: r is what the pass over them found
+module _ (d : List ℕ) (n t here : ℕ) where
+  pub letters-over : wordLimit < n + lettersIn d
+      → Faulty 4 here ≡ orElse (refuse (ltb wordLimit (n + lettersIn d)) 4 here) (refuse (ltb (badLetter t (wordPart d)) (length (wordPart d))) 5 here)
+  letters-over h = rw (lt-ltb wordLimit (n + lettersIn d) h)
+
+  module _ (h : n + lettersIn d ≤ wordLimit) (r : Bool) (e : r ≡ fitLetters d 1 (lettersIn d) t) where
+    pub letters-right : r ≡ true → Sound ≡ orElse (refuse (ltb wordLimit (n + lettersIn d)) 4 here) (refuse (ltb (badLetter t (wordPart d)) (length (wordPart d))) 5 here)
+    letters-right q = rw (le-ltb wordLimit (n + lettersIn d) h, ← letters-pass d t r e, q)
+
+    pub letters-wrong : r ≡ false → Faulty 5 here ≡ orElse (refuse (ltb wordLimit (n + lettersIn d)) 4 here) (refuse (ltb (badLetter t (wordPart d)) (length (wordPart d))) 5 here)
+    letters-wrong q = rw (le-ltb wordLimit (n + lettersIn d) h, ← letters-pass d t r e, q)
+
+pub ruleset lettered = (letters-over, letters-right, letters-wrong)

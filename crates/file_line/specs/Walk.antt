@@ -1,0 +1,57 @@
+-- Only for the code's walk, no answer is made of it: what holds of every state and room on the way, and of a line before it is stored.
+use Prim.Native.Nat.{ℕ, zero, suc, _+_, _*_, _≤_, _<_}
+use mathlib.Core.Path.{_≡_}
+use mathlib.Core.Bool.{Bool, true, false, cond}
+use mathlib.Core.List.{List}
+use lib.ListN.{length}
+use lib.Dec.{leb}
+use Rattle.ground.specs.Limits.{countLimit, wordLimit}
+use Rattle.file_digits.specs.Frame.{block, byteAt}
+use Rattle.file_line.specs.declared.Reading.{Reading}
+use Rattle.file_line.specs.declared.Took.{Took}
+use Rattle.file_line.specs.declared.Took.the-variants.{Next, Refused}
+use Rattle.file_line.specs.Read.{cellLimit, Rooms, kindOf, expected, lettersIn}
+
+-- what holds of every state of a reading
+pub record Good (s : Reading) : Type 0 where
+  pub phase-least : 1 ≤ s .phase
+  pub phase : s .phase ≤ 5
+  pub places : s .places ≤ countLimit
+  pub transitions : s .transitions ≤ countLimit
+  pub some : 2 ≤ s .phase → 1 ≤ s .transitions
+  pub some-places : 2 ≤ s .phase → 1 ≤ s .places
+  pub next : s .next ≤ s .transitions
+  pub rows : s .phase ≡ 4 → s .next < s .transitions
+  pub early : s .phase ≤ 3 → s .next ≡ 0
+  pub wordless : s .phase ≤ 4 → s .letters ≡ 0
+  pub letters : s .letters ≤ wordLimit
+  pub line : s .line + 1 ≤ s .phase + s .next + s .letters
+
+-- the rooms are large enough for any file
+pub record Large (x : Rooms) : Type 0 where
+  pub caps : countLimit ≤ length (x .caps)
+  pub initial : countLimit ≤ length (x .initial)
+  pub pre : cellLimit ≤ length (x .pre)
+  pub post : cellLimit ≤ length (x .post)
+  pub word : wordLimit ≤ length (x .word)
+
+-- n letters from byte j on name transitions: the pass over a line's digits; `letters-pass` says that it is net's `badLetter`
+unfoldable pub fitLetters : List ℕ → ℕ → ℕ → ℕ → Bool
+fitLetters d j zero t = true
+fitLetters d j (suc n) t = cond (leb t (byteAt d j)) false (fitLetters d (j + 1) n t)
+
+-- what a line that is taken has, by its kind (`accepted` has it from document 01's demands)
+pub record Accepted (s : Reading) (d : List ℕ) : Type 0 where
+  pub least : 2 ≤ length d
+  pub counts : kindOf d ≡ 1 → (expected s ≡ 1) × (length d ≡ 6) × (byteAt d 1 ≤ countLimit) × (1 ≤ byteAt d 2) × (byteAt d 2 ≤ countLimit) × (1 ≤ byteAt d 1)
+  pub caps : kindOf d ≡ 2 → (expected s ≡ 2) × (length d ≡ 2 + 4 * s .places)
+  pub tokens : kindOf d ≡ 3 → (expected s ≡ 3) × (length d ≡ 2 + 4 * s .places)
+  pub row : kindOf d ≡ 4 → (expected s ≡ 4) × (length d ≡ 4 + 4 * s .places)
+  pub letters : kindOf d ≡ 5 → (expected s ≡ 5) × (4 ≤ length d) × (length d ≤ 2 + 2 * block) × (s .letters + lettersIn d ≤ wordLimit)
+  pub kind : kindOf d ≤ 5
+  pub kind-least : 1 ≤ kindOf d
+
+-- a state that goes on is good, and a refusal has a number
+abbrev pub GoodTook : Took → Type 0
+GoodTook (Next s) = Good s
+GoodTook (Refused n l) = 1 ≤ n

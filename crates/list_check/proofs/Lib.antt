@@ -1,0 +1,4 @@
+pub mod Fires
+pub mod Refusals
+pub mod Targets
+pub mod Exactly

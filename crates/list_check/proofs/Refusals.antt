@@ -1,0 +1,113 @@
+-- Laws of the refusals of a list with its net: which one is given, and what holds where none is. Assumes nothing.
+use Prim.Native.Nat.{ℕ, _≤_}
+use mathlib.Core.Path.{_≡_, refl, sym, _∙_}
+use mathlib.Core.Bool.{Bool, true, _&&_}
+use mathlib.Core.List.{List}
+use native.Mathlib.Omega.{arith}
+use lib.ListN.{length}
+use Rattle.ground.proofs.Tests.{and-true}
+use Rattle.net.specs.Net.{Net}
+use Rattle.net.specs.Given.{startFault, Fine}
+use Rattle.net.specs.declared.Fault.{Fault}
+use Rattle.net.specs.declared.Fault.the-variants.{Sound, Faulty}
+use Rattle.net.proofs.Chains.{or-sound, sound-or}
+use Rattle.net.proofs.Refusals.{start-met, met-start}
+use Rattle.lists.specs.Whole.{count, whole, entryFault, sizeFault, listFault}
+use Rattle.lists.specs.declared.Failure.{Failure}
+use Rattle.lists.specs.declared.Kind.{Kind}
+use Rattle.lists.specs.declared.Kind.the-variants.{Closed}
+use Rattle.lists.specs.declared.ListAnswer.{ListAnswer}
+use Rattle.lists.specs.declared.ListAnswer.the-variants.{Accepted, Failed, Refused}
+use Rattle.lists.specs.Demands.{EntriesFine, SomeMarkings}
+use Rattle.lists.proofs.Wholes.{whole-long}
+use Rattle.lists.proofs.Exactly.{of-markings, entries-of, of-entries, size-of, of-size}
+use Rattle.list_check.specs.Look.{Ready, looked}
+use Rattle.list_check.specs.Given.{givenFault, answered, listOf}
+
+-- which refusal of a net, its initial marking and a list
+module _ (kind : Kind) (net : Net) (initial list : List ℕ) (fits : Bool) (next : Fault) (agree : Bool) (ea : agree ≡ (whole (net .places) list && fits)) (found : Fault) (e : found ≡ startFault net initial agree) where
+  pub given-first : (n at : ℕ) → found ≡ Faulty n at → Faulty n at ≡ givenFault kind net initial list fits next
+  unfolding givenFault
+  given-first n at q = rw (← ea, ← e, q)
+
+  pub given-list : (r : Fault) → found ≡ Sound → r ≡ listFault kind (net .places) (net .caps) list next → r ≡ givenFault kind net initial list fits next
+  unfolding givenFault
+  given-list r q k = rw (← ea, ← e, q) k
+
+  pub caps-long : found ≡ Sound → (1 ≤ net .places) × (length (net .caps) ≡ net .places)
+  caps-long q = let s = start-met net initial agree (sym e ∙ q) .sized in (s .some-places, s .capped)
+
+pub ruleset givens = (given-first, given-list)
+
+-- what is lent where nothing is refused
+pub record Lent (kind : Kind) (net : Net) (initial list : List ℕ) (fits : Bool) (next : Fault) : Type 0 where
+  pub ready : Ready net (count (net .places) list) list
+  pub start : length initial ≡ net .places
+  pub fine : Fine (net .caps) initial
+  pub agrees : fits ≡ true
+  pub follows : next ≡ Sound
+  pub entries : kind ≡ Closed → EntriesFine (net .places) (net .caps) list
+  pub some : SomeMarkings (net .places) list
+
+module _ (kind : Kind) (net : Net) (initial list : List ℕ) (fits : Bool) (next : Fault) where
+  pub lent-of : givenFault kind net initial list fits next ≡ Sound → Lent kind net initial list fits next
+  unfolding givenFault listFault
+  lent-of e =
+      let a = or-sound (startFault net initial (whole (net .places) list && fits)) _ e in
+      let f = start-met net initial (whole (net .places) list && fits) (a .0) in
+      let w = and-true (whole (net .places) list) fits (f .fitting) in
+      let b = or-sound (entryFault kind (net .places) (net .caps) list) _ (a .1) in
+      let d = or-sound next (sizeFault (net .places) list) (b .1) in
+      record {
+        ready = record { sized = f .sized; long = whole-long (net .places) list (w .0) };
+        start = f .marked;
+        fine = f .fine;
+        agrees = w .1;
+        follows = d .0;
+        entries = entries-of kind (net .places) (net .caps) list (b .0);
+        some = size-of (net .places) list (d .1);
+      }
+
+  -- and back: what 01 allows is not refused
+  pub of-lent : Lent kind net initial list fits next → givenFault kind net initial list fits next ≡ Sound
+  unfolding givenFault listFault
+  of-lent g =
+      let w = of-markings (net .places) list (record { some-places = g .ready .sized .some-places; number = count (net .places) list; long = g .ready .long }) in
+      sound-or _ _ (met-start net initial (whole (net .places) list && fits) (record { sized = g .ready .sized; marked = g .start; fitting = rw w (g .agrees); fine = g .fine }))
+      (sound-or _ _ (of-entries kind (net .places) (net .caps) list (g .entries))
+      (sound-or _ _ (g .follows) (of-size (net .places) list (g .some))))
+
+  -- a fault refuses; else the list is looked through
+  module _ (found : Fault) (e : found ≡ givenFault kind net initial list fits next) where
+    pub check-refused : (n at : ℕ) → found ≡ Faulty n at → Refused n at ≡ listOf kind net initial list fits next
+    unfolding listOf
+    check-refused n at q = rw (sym e ∙ q)
+
+    pub check-looked : (r : ListAnswer) → found ≡ Sound → r ≡ looked kind net initial list → r ≡ listOf kind net initial list fits next
+    unfolding listOf
+    check-looked r q k = rw (sym e ∙ q) k
+
+    pub check-lent : found ≡ Sound → Lent kind net initial list fits next
+    check-lent q = lent-of (sym e ∙ q)
+
+  -- only where nothing is refused is a list accepted or its failure told
+  module _ (a : ListAnswer) (other : (n at : ℕ) → Refused n at ≡ a → ⊥) where
+    looked-sound : listOf kind net initial list fits next ≡ a → (givenFault kind net initial list fits next ≡ Sound) × (looked kind net initial list ≡ a)
+    unfolding listOf
+    looked-sound = go (givenFault kind net initial list fits next) refl
+      where
+        go : (f : Fault) → givenFault kind net initial list fits next ≡ f → answered (givenFault kind net initial list fits next) (looked kind net initial list) ≡ a → (givenFault kind net initial list fits next ≡ Sound) × (looked kind net initial list ≡ a)
+        go Sound e q = (e, rw e at q)
+        go (Faulty n at) e q = absurd (other n at (rw e at q))
+
+  pub accepted-sound : listOf kind net initial list fits next ≡ Accepted → (givenFault kind net initial list fits next ≡ Sound) × (looked kind net initial list ≡ Accepted)
+  accepted-sound = looked-sound Accepted (λ n at e. let z : _≡_ {A = ℕ} 0 1 = cc in omega arith)
+
+  pub failed-sound : (why : Failure) → listOf kind net initial list fits next ≡ Failed why → (givenFault kind net initial list fits next ≡ Sound) × (looked kind net initial list ≡ Failed why)
+  failed-sound why = looked-sound (Failed why) (λ n at e. let z : _≡_ {A = ℕ} 0 1 = cc in omega arith)
+
+  -- an accepted list was lent as it should be
+  pub accepted-lent : (found : ListAnswer) → found ≡ listOf kind net initial list fits next → found ≡ Accepted → Lent kind net initial list fits next
+  accepted-lent found e q = lent-of (accepted-sound (sym e ∙ q) .0)
+
+pub ruleset checks = (check-refused, check-looked)

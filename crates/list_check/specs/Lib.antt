@@ -1,0 +1,4 @@
+pub mod Fire
+pub mod Look
+pub mod Given
+pub mod Allowed

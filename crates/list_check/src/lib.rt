@@ -1,0 +1,366 @@
+// Inner: a list of either kind asked: which refusal, else the first listed marking, and in it the
+// lowest transition, whose result is missing.
+use ground::TOKEN_LIMIT;
+use ground::Weight;
+use lists::ClaimAnswer;
+use lists::Failure;
+use lists::Kind;
+use lists::ListAnswer;
+use net::Fault;
+ghost use mathlib.Core.Path.{_≡_};
+ghost use mathlib.Core.Bool.{true, false};
+ghost use Prim.Native.Nat.{_+_, _*_, _<_, _≤_};
+ghost use lib.ListN.{length};
+ghost use Rattle.net.specs.Net.{netOf};
+ghost use Rattle.lists.specs.Whole.{count};
+ghost use Rattle.list_check.specs.Fire.{lacks, passesAny, afterAny, firedAny};
+ghost use Rattle.list_check.specs.Look.{Ready, unlisted, uncovered, absent, missing, results, looked};
+ghost use Rattle.list_check.specs.Given.{givenFault, listOf, targetOf};
+
+// One place is a number, and less than is taken.
+fn is_lacking(takes: Weight, entry: u16) -> bool
+    ensures { λ r. ⌜ r ≡ lacks takes entry ⌝ }
+{
+    if entry <= TOKEN_LIMIT {
+        return entry < takes as u16;
+    }
+    false
+}
+
+// Whether a transition is enabled at a marking of a cover list, capacities ignored.
+fn may_fire_any(places: usize, pre: &[Weight], t: usize, listed: &[u16]) -> bool
+    requires { ⌜ t * places + places ≤ length (now pre) ⌝ }
+    requires { ⌜ length (now listed) ≡ places ⌝ }
+    ensures { λ r. ⌜ r ≡ passesAny places (now (pre .entry)) t (now (listed .entry)) ⌝ }
+{
+    let a = t * places;
+    let mut p = 0;
+    while p < listed.len() {
+        if is_lacking(pre[a + p], listed[p]) {
+            return false;
+        }
+        p += 1;
+    }
+    true
+}
+
+// One place after the transition; any number stays so.
+fn moved(takes: Weight, puts: Weight, entry: u16) -> u32
+    requires { ⌜ lacks takes entry ≡ false ⌝ }
+    ensures { λ r. ⌜ r ≡ afterAny takes puts entry ⌝ }
+{
+    if entry <= TOKEN_LIMIT {
+        return entry as u32 + puts as u32 - takes as u32;
+    }
+    entry as u32
+}
+
+// The result of a transition at a marking of a cover list, into the room.
+fn fire_any(
+    places: usize,
+    pre: &[Weight],
+    post: &[Weight],
+    t: usize,
+    listed: &[u16],
+    room: &mut [u32],
+)
+    requires { ⌜ (t * places + places ≤ length (now pre)) × (t * places + places ≤ length (now post)) ⌝ }
+    requires { ⌜ (length (now listed) ≡ places) × (length (now room) ≡ places) ⌝ }
+    requires { ⌜ passesAny places (now pre) t (now listed) ≡ true ⌝ }
+    ensures { λ r. ⌜ now (room .exit) ≡ firedAny places (now (pre .entry)) (now (post .entry)) t (now (listed .entry)) ⌝ }
+{
+    let a = t * places;
+    let mut p = 0;
+    while p < room.len() {
+        room[p] = moved(pre[a + p], post[a + p], listed[p]);
+        p += 1;
+    }
+}
+
+// Whether a transition is enabled at a marking of a closed list with a result that the list does not
+// hold. The result is made once, in the room.
+fn is_unlisted(
+    places: usize,
+    transitions: usize,
+    pre: &[Weight],
+    post: &[Weight],
+    caps: &[u16],
+    list: &[u16],
+    count: usize,
+    t: usize,
+    listed: &[u16],
+    room: &mut [u32],
+) -> bool
+    requires { ⌜ Ready (netOf places transitions (now pre) (now post) (now caps)) count (now list) ⌝ }
+    requires { ⌜ (length (now listed) ≡ places) × (length (now room) ≡ places) ⌝ }
+    requires { ⌜ t < transitions ⌝ }
+    ensures { λ r. ⌜ r ≡ unlisted (netOf places transitions (now (pre .entry)) (now (post .entry)) (now (caps .entry))) count (now (list .entry)) t (now (listed .entry)) ⌝ }
+{
+    net::load(listed, room);
+    if net::may_fire_at(places, transitions, pre, post, caps, t, room) {
+        net::fire_at(places, transitions, pre, post, caps, t, room);
+        return !lists::is_held(Kind::Closed, places, count, list, room);
+    }
+    false
+}
+
+// Whether a transition is enabled at a marking of a cover list with a result that the list does not
+// cover. The result is made once, in the room. No capacity is lent.
+fn is_uncovered(
+    places: usize,
+    pre: &[Weight],
+    post: &[Weight],
+    list: &[u16],
+    count: usize,
+    t: usize,
+    listed: &[u16],
+    room: &mut [u32],
+) -> bool
+    requires { ⌜ (t * places + places ≤ length (now pre)) × (t * places + places ≤ length (now post)) ⌝ }
+    requires { ⌜ length (now list) ≡ count * places ⌝ }
+    requires { ⌜ (length (now listed) ≡ places) × (length (now room) ≡ places) ⌝ }
+    ensures { λ r. ⌜ r ≡ uncovered places (now (pre .entry)) (now (post .entry)) count (now (list .entry)) t (now (listed .entry)) ⌝ }
+{
+    if may_fire_any(places, pre, t, listed) {
+        fire_any(places, pre, post, t, listed, room);
+        return !lists::is_held(Kind::Cover, places, count, list, room);
+    }
+    false
+}
+
+// The same, by the list's kind.
+fn is_absent(
+    kind: Kind,
+    places: usize,
+    transitions: usize,
+    pre: &[Weight],
+    post: &[Weight],
+    caps: &[u16],
+    list: &[u16],
+    count: usize,
+    t: usize,
+    listed: &[u16],
+    room: &mut [u32],
+) -> bool
+    requires { ⌜ Ready (netOf places transitions (now pre) (now post) (now caps)) count (now list) ⌝ }
+    requires { ⌜ (length (now listed) ≡ places) × (length (now room) ≡ places) ⌝ }
+    requires { ⌜ t < transitions ⌝ }
+    ensures { λ r. ⌜ r ≡ absent kind (netOf places transitions (now (pre .entry)) (now (post .entry)) (now (caps .entry))) count (now (list .entry)) t (now (listed .entry)) ⌝ }
+{
+    match kind {
+        Kind::Closed => is_unlisted(
+            places,
+            transitions,
+            pre,
+            post,
+            caps,
+            list,
+            count,
+            t,
+            listed,
+            room,
+        ),
+        Kind::Cover => is_uncovered(places, pre, post, list, count, t, listed, room),
+    }
+}
+
+// Whether the result of one transition at one listed marking is missing, each by its number.
+fn is_missing(
+    kind: Kind,
+    places: usize,
+    transitions: usize,
+    pre: &[Weight],
+    post: &[Weight],
+    caps: &[u16],
+    list: &[u16],
+    count: usize,
+    k: usize,
+    t: usize,
+) -> bool
+    requires { ⌜ Ready (netOf places transitions (now pre) (now post) (now caps)) count (now list) ⌝ }
+    requires { ⌜ (k < count) × (t < transitions) ⌝ }
+    ensures { λ r. ⌜ r ≡ missing kind (netOf places transitions (now (pre .entry)) (now (post .entry)) (now (caps .entry))) count (now (list .entry)) k t ⌝ }
+{
+    let mut room = lists::no_tokens();
+    let a = k * places;
+    let e = a + places;
+    is_absent(
+        kind,
+        places,
+        transitions,
+        pre,
+        post,
+        caps,
+        list,
+        count,
+        t,
+        &list[a..e],
+        &mut room[..places],
+    )
+}
+
+// The first listed marking, and in it the lowest transition, whose result is missing.
+fn first_missing(
+    kind: Kind,
+    places: usize,
+    transitions: usize,
+    pre: &[Weight],
+    post: &[Weight],
+    caps: &[u16],
+    list: &[u16],
+    count: usize,
+) -> ListAnswer
+    requires { ⌜ Ready (netOf places transitions (now pre) (now post) (now caps)) count (now list) ⌝ }
+    ensures { λ r. ⌜ r ≡ results kind (netOf places transitions (now (pre .entry)) (now (post .entry)) (now (caps .entry))) count (now (list .entry)) ⌝ }
+{
+    let mut k = 0;
+    let mut t = 0;
+    'markings: while k < count {
+        t = 0;
+        while t < transitions {
+            if is_missing(
+                kind,
+                places,
+                transitions,
+                pre,
+                post,
+                caps,
+                list,
+                count,
+                k,
+                t,
+            ) {
+                break 'markings;
+            }
+            t += 1;
+        }
+        k += 1;
+    }
+    if k < count {
+        ListAnswer::Failed(Failure::ResultMissing(k, t))
+    } else {
+        ListAnswer::Accepted
+    }
+}
+
+// A list that is not refused: whether it has the initial marking and every result.
+fn look_through(
+    kind: Kind,
+    places: usize,
+    transitions: usize,
+    pre: &[Weight],
+    post: &[Weight],
+    caps: &[u16],
+    initial: &[u16],
+    list: &[u16],
+) -> ListAnswer
+    requires { ⌜ Ready (netOf places transitions (now pre) (now post) (now caps)) (count places (now list)) (now list) ⌝ }
+    requires { ⌜ length (now initial) ≡ places ⌝ }
+    ensures { λ r. ⌜ r ≡ looked kind (netOf places transitions (now (pre .entry)) (now (post .entry)) (now (caps .entry))) (now (initial .entry)) (now (list .entry)) ⌝ }
+{
+    let n = list.len() / places;
+    if lists::holds(kind, places, n, list, initial) {
+        return first_missing(kind, places, transitions, pre, post, caps, list, n);
+    }
+    ListAnswer::Failed(Failure::InitialMissing)
+}
+
+// Refusals 1, 2, 3 and 9. `fits` tells whether the length of what is lent after the list agrees, and
+// `next` is what 3 makes of it.
+fn find_fault(
+    kind: Kind,
+    places: usize,
+    transitions: usize,
+    pre: &[Weight],
+    post: &[Weight],
+    caps: &[u16],
+    initial: &[u16],
+    list: &[u16],
+    fits: bool,
+    next: Fault,
+) -> Fault
+    ensures { λ r. ⌜ r ≡ givenFault kind (netOf places transitions (now (pre .entry)) (now (post .entry)) (now (caps .entry))) (now (initial .entry)) (now (list .entry)) fits next ⌝ }
+{
+    let agree = lists::is_fitting(places, list, fits);
+    let found = net::start_fault(places, transitions, pre, post, caps, initial, agree);
+    match found {
+        Fault::Faulty(number, at) => Fault::Faulty(number, at),
+        Fault::Sound => lists::list_fault(kind, places, caps, list, next),
+    }
+}
+
+// The list's answer, with what is lent after it.
+pub fn check_list(
+    kind: Kind,
+    places: usize,
+    transitions: usize,
+    pre: &[Weight],
+    post: &[Weight],
+    caps: &[u16],
+    initial: &[u16],
+    list: &[u16],
+    fits: bool,
+    next: Fault,
+) -> ListAnswer
+    ensures { λ r. ⌜ r ≡ listOf kind (netOf places transitions (now (pre .entry)) (now (post .entry)) (now (caps .entry))) (now (initial .entry)) (now (list .entry)) fits next ⌝ }
+{
+    let found = find_fault(
+        kind,
+        places,
+        transitions,
+        pre,
+        post,
+        caps,
+        initial,
+        list,
+        fits,
+        next,
+    );
+    match found {
+        Fault::Faulty(number, at) => ListAnswer::Refused(number, at),
+        Fault::Sound => look_through(kind, places, transitions, pre, post, caps, initial, list),
+    }
+}
+
+// Whether an accepted list shows that a target is never reached, or never covered: where the list
+// does not hold or cover it.
+pub fn check_target(
+    kind: Kind,
+    places: usize,
+    transitions: usize,
+    pre: &[Weight],
+    post: &[Weight],
+    caps: &[u16],
+    initial: &[u16],
+    list: &[u16],
+    target: &[u16],
+) -> ClaimAnswer
+    ensures { λ r. ⌜ r ≡ targetOf kind (netOf places transitions (now (pre .entry)) (now (post .entry)) (now (caps .entry))) (now (initial .entry)) (now (list .entry)) (now (target .entry)) ⌝ }
+{
+    let fits = target.len() == places;
+    let next = lists::target_fault(target);
+    let found = check_list(
+        kind,
+        places,
+        transitions,
+        pre,
+        post,
+        caps,
+        initial,
+        list,
+        fits,
+        next,
+    );
+    match found {
+        ListAnswer::Refused(number, at) => ClaimAnswer::Refused(number, at),
+        ListAnswer::Failed(why) => ClaimAnswer::Failed(why),
+        ListAnswer::Accepted => {
+            let n = list.len() / places;
+            if lists::holds(kind, places, n, list, target) {
+                ClaimAnswer::NotShown
+            } else {
+                ClaimAnswer::Shown
+            }
+        }
+    }
+}
