@@ -7,8 +7,8 @@
  * is `const` is only read, another is a room that the answer is written to; both are used during the call and
  * never after it. A pointer may be null where its length is 0; else it must be valid for its length and aligned for
  * its type. A room must not overlap anything else that is lent in the same call. The lengths are compared with the
- * counts: a wrong one is refusal 2, and is not used. A call needs some kilobytes of stack, kaunorpi_read_case some
- * 75 KB and the summaries some 10 KB.
+ * counts: a wrong one is refusal 2, and is not used. kaunorpi_read_case needs some 75 KB of stack, for rooms of its own
+ * in which a whole file is read before anything is written; the others need far less.
  *
  * The net comes first in every question, always whole and in this order:
  *   places, transitions   how many there are, 1 to 64 each

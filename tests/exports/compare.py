@@ -76,10 +76,10 @@ def main(header, crates):
     ours, theirs, wrong = exports(crates), declared(header), 0
     for name in sorted(ours.keys() | theirs.keys()):
         if ours.get(name) != theirs.get(name):
-            print(f"tests/header: {name}: the export has {ours.get(name)}, the header {theirs.get(name)}")
+            print(f"tests/exports: {name}: the export has {ours.get(name)}, the header {theirs.get(name)}")
             wrong = 1
     if len(ours) < 20:
-        print(f"tests/header: only {len(ours)} exports were found")
+        print(f"tests/exports: only {len(ours)} exports were found")
         wrong = 1
     return wrong
 
