@@ -5,8 +5,10 @@
  *
  * What is lent. Each list is handed over as a pointer and then its number of entries (not bytes). A list that
  * is `const` is only read, another is a room that the answer is written to; both are used during the call and
- * never after it. A pointer may be null where its length is 0. A room must not overlap anything else that is
- * lent in the same call. The lengths are compared with the counts: a wrong one is refusal 2, and is not used.
+ * never after it. A pointer may be null where its length is 0; else it must be valid for its length and aligned for
+ * its type. A room must not overlap anything else that is lent in the same call. The lengths are compared with the
+ * counts: a wrong one is refusal 2, and is not used. kaunorpi_read_case needs some 75 KB of stack, for rooms of its own
+ * in which a whole file is read before anything is written; the others need far less.
  *
  * The net comes first in every question, always whole and in this order:
  *   places, transitions   how many there are, 1 to 64 each
@@ -21,13 +23,18 @@
  *
  * A refusal (kind 0x82) means that the question itself is faulty. Nothing was written to any room. `number`:
  *    1  a place or transition count outside 1..64
- *    2  a list or room whose length disagrees with the counts; two summaries of different place counts; a stretch
- *       that ends before its start or past its word
+ *    2  a list or room whose length disagrees with the counts; two summaries of different place counts; a summary
+ *       whose place count is not the net's; a stretch that ends before its start or past its word
  *    3  65,535 tokens where not allowed, or more tokens than the capacity. position: the place; in a list of
- *       markings, marking number * places + place
+ *       markings, marking number * places + place. The initial marking must keep to the capacities in every question,
+ *       cover lists too; a closed list's markings as well; a cover list's entries are free; a target may be above
+ *       capacity, but 65,535 in a target is 3, though in a cover list it means any number
  *    4  a word over 65,535 letters
  *    5  a letter that names no transition. position: the letter
- *    6  a summary that no word has. position: 0 if it is too long, else the lowest place or slot
+ *    6  a summary that is not well formed. It is well formed if its letters n are at most 65,535, at each place
+ *       need <= 255 n, climb <= 255 n and -need <= change <= climb, and past the place count all is 0. position: 0 if n
+ *       is too large, else the lowest place or slot. A well-formed summary that no word has is answered by its numbers.
+ *       Of two summaries the first is looked at before the second, whatever the positions
  *    7  summaries that together have over 65,535 letters
  *    8  a set without places, a weighting all zero
  *    9  a list of no marking, or of more than 4,096
@@ -48,6 +55,9 @@
 #ifdef __cplusplus
 extern "C" {
 #endif
+
+/* Another number with every change of a function, a struct, an answer or a refusal. */
+#define KAUNORPI_VERSION 1
 
 #define KAUNORPI_ANSWERED 0x81
 #define KAUNORPI_REFUSED 0x82
@@ -206,7 +216,10 @@ kaunorpi_list kaunorpi_cover_target(KAUNORPI_NET, const uint16_t *initial, size_
  * 0x81 0: places: how many places it has. Refusals 1 2 10. */
 kaunorpi_places kaunorpi_complement_places(KAUNORPI_NET);
 /* 0x81 0: the rooms hold it: transitions * n weights in pre2 and in post2, n capacities and n tokens, where n is what
- * kaunorpi_complement_places answers. Refusals 1 2 3 10. */
+ * kaunorpi_complement_places answers. The old places come first, with their arcs and tokens; then one place for each
+ * place that has a capacity, in order of number: a transition that adds k to the old place takes k from it, one that
+ * takes k away puts k there, and it starts with capacity minus tokens. Every capacity is 65,535, none. Where n is over 64,
+ * rooms of another length than n says are 2, and rooms of that length 10. Refusals 1 2 3 10. */
 kaunorpi_answer kaunorpi_complement_net(KAUNORPI_NET, const uint16_t *initial, size_t initial_len, uint8_t *pre2,
                                         size_t pre2_len, uint8_t *post2, size_t post2_len, uint16_t *caps2,
                                         size_t caps2_len, uint16_t *initial2, size_t initial2_len);
