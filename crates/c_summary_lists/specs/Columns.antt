@@ -1,4 +1,4 @@
--- To be believed: a summary's slots as three lists, "exactly 64 entries, need, climb and change": the form in which C lends them.
+-- To be believed: a summary's slots as three lists, exactly 64 entries, need, climb and change: the form in which C lends them.
 use Prim.Native.Nat.{ℕ}
 use mathlib.Core.Bool.{Bool, _&&_}
 use mathlib.Core.List.{List}

@@ -146,7 +146,7 @@ module _ (net : Net) (sized : Sized net) (m m′ : List ℕ) (within : Within ne
       let q = gives-one (gives-to (firedAt net t m) (complementMarking net (firedAt net t m)) (g .gives) r) (f .gives) in
       (firedAt net t m, g, rw q at r)
 
--- "so a word fires in the one exactly when in the other, with the same marking on old places"
+-- so a word fires in the one exactly when in the other, with the same marking on old places
 module _ (net : Net) (sized : Sized net) where
   pub word-to : {m w n : List ℕ} (m′ : List ℕ) → Within net m → Related net m m′ → Fires net m w n → (n′ : List ℕ) × Fires (complementNet net) m′ w n′ × Related net n n′
   word-to m′ i r nothing = (m′, nothing, r)

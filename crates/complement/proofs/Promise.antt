@@ -69,7 +69,7 @@ module _ (net : Net) (initial : List ℕ) (rooms : Rooms) (r : ComplementNet) (r
   start : Related net initial (complementMarking net initial)
   start = starts-related net (made-allowed .sized) initial (made-allowed .marked) (made-allowed .fine)
 
-  -- "The complement net fires the very same words.", and along them "old places agree, and each new place holds capacity minus tokens"
+  -- The complement net fires the very same words., and along them "old places agree, and each new place holds capacity minus tokens"
   pub made-fires : (w m : List ℕ) → Fires net initial w m → (m′ : List ℕ) × Fires (heldNet (net .transitions) rooms′) (rooms′ .initial) w m′ × Related net m m′
   made-fires w m f = rw (made-net, made-initial) (word-to net (made-allowed .sized) (complementMarking net initial) inside start f)
 

@@ -26,7 +26,7 @@ pub record Rooms : Type 0 where
 abbrev pub roomsOf : List ℕ → List ℕ → List ℕ → List ℕ → Rooms
 roomsOf pre post caps initial = record { pre = pre; post = post; caps = caps; initial = initial }
 
--- the rooms' lengths against T x P' and P', else refusal 2, "even where that is over 64"
+-- the rooms' lengths against T x P' and P', else refusal 2, even where that is over 64
 abbrev pub lengthsFit : ℕ → ℕ → ℕ → ℕ → ℕ → ℕ → Bool
 lengthsFit cells places pre post caps initial = eqb pre cells && (eqb post cells && (eqb caps places && eqb initial places))
 

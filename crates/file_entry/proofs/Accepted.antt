@@ -1,4 +1,4 @@
--- "Accepted exactly if the file is the frames of a net and word within the limits, and then net and word are those", for `read_case`. Assumes nothing.
+-- Accepted exactly if the file is the frames of a net and word within the limits, and then net and word are those, for `read_case`. Assumes nothing.
 use Prim.Native.Nat.{ℕ, _*_}
 use mathlib.Core.Path.{_≡_, refl, sym, ap, _∙_}
 use mathlib.Core.List.{List}

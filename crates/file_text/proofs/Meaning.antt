@@ -1,4 +1,4 @@
--- "Accepted exactly if the file is the frames of a net and word within the limits, and then net and word are those." Assumes nothing.
+-- Accepted exactly if the file is the frames of a net and word within the limits, and then net and word are those. Assumes nothing.
 use mathlib.Core.Path.{_≡_, refl, sym, _∙_, ap}
 use mathlib.Core.Bool.{Bool, true, false, cond}
 use mathlib.Core.List.{List, [], _∷_, _++_}
@@ -103,7 +103,7 @@ module _ (x : Rooms) (big : Large x) (net : Net) (initial w : List ℕ) (m : Lim
   pub filled-word : wordIn (endOf net w) (filled x net initial w) ≡ w
   filled-word = front-of w (x .word) (length w) refl (omega (arith, m .short, big .word))
 
-  -- "on success the net's own entries stand at their front and the rest is as found"
+  -- on success the net's own entries stand at their front and the rest is as found
   pub filled-rest : (drop (net .places) (filled x net initial w .caps) ≡ drop (net .places) (x .caps))
       × (drop (net .places) (filled x net initial w .initial) ≡ drop (net .places) (x .initial))
       × (drop (net .transitions * net .places) (filled x net initial w .pre) ≡ drop (net .transitions * net .places) (x .pre))
@@ -160,7 +160,7 @@ module _ (x : Rooms) (big : Large x) (file : List ℕ) where
       let t = those s e f in
       rw (t .0, t .1, t .2) (f .text, f .limited)
 
-  -- "Accepted exactly if the file is the frames of a net and word within the limits"
+  -- Accepted exactly if the file is the frames of a net and word within the limits
   pub accepted-exactly : ((s : Reading) × (caseOf (readOf x file .run) ≡ Whole s)) ↔ Written file
   accepted-exactly = (
     λ a. found (a .0) (a .1),

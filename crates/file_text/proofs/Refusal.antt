@@ -1,4 +1,4 @@
--- "A refusal n on line l is one of: the earliest faulty line, a last line cut off, missing frames", exactly when, for the whole file. Assumes nothing.
+-- A refusal n on line l is one of: the earliest faulty line, a last line cut off, missing frames, exactly when, for the whole file. Assumes nothing.
 use mathlib.Core.Path.{_≡_, refl, sym, _∙_, ap}
 use mathlib.Core.Bool.{Bool, true, false, cond}
 use mathlib.Core.List.{List, [], _∷_, append-nil}

@@ -60,7 +60,7 @@ pub record Limited (net : Net) (initial w : List ℕ) : Type 0 where
   pub short : length w ≤ wordLimit
   pub letters : Letters (net .transitions) w
 
--- the file is "the frames of a net and word within the limits"
+-- the file is the frames of a net and word within the limits
 pub record Written (file : List ℕ) : Type 0 where
   pub net : Net
   pub initial : List ℕ

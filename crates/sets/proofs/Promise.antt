@@ -40,7 +40,7 @@ module _ (net : Net) (s : List ℕ) (r : SetAnswer) where
         there : r ≡ No t → Allowed net s × SiphonFails net s t
         there e = let ok = siphon-answered-allowed net s r promise (no-answered r t e) in (ok, siphon-fails-at net s ok t .0 (sym siphon-is ∙ e))
 
-    -- "an empty accepted siphon stays empty"
+    -- an empty accepted siphon stays empty
     pub accepted-stays-empty : r ≡ Yes → (m w m′ : List ℕ) → Fires net m w m′ → Unmarked net s m → Unmarked net s m′
     accepted-stays-empty e m w m′ f u = siphon-stays-empty (siphon-yes-exactly .0 e .1) f u
 

@@ -57,6 +57,6 @@ pub record Replied (net : Net) (m : List ℕ) (s : Summary) (room : List ℕ) (r
   pub answer : askedNumbers r ≡ askedNumbers (askAnswer net m s room .answer)
   pub left : room′ ≡ askAnswer net m s room .left
 
--- demand 3's condition on a word: "the marking covers the need and marking plus climb keeps to each capacity", with 01's climb over all prefixes
+-- demand 3's condition on a word: the marking covers the need and marking plus climb keeps to each capacity, with 01's climb over all prefixes
 pub record SufficesWord (net : Net) (w m : List ℕ) : Type 0 where
   pub at : (p : ℕ) → p < net .places → SufficesAt (need (letterAt net p) w) (prefixClimb (letterAt net p) w) (capacity net p) (tokens m p)

@@ -46,7 +46,7 @@ module _ (net : Net) (y : List ℤ) (r : PlaceWeighting) (promise : placeNumbers
           let ok = place-answered-allowed net y r promise (λ n at q. let z : _≡_ {A = ℕ} 0 1 = cc in omega arith) in
           (ok, place-fails-at net y ok t .0 (sym place-is ∙ e))
 
-  -- "Along any firing word an accepted place weighting keeps its sum"
+  -- Along any firing word an accepted place weighting keeps its sum
   pub accepted-keeps-sum : r ≡ place.Invariant → (m w m′ : List ℕ) → Fires net m w m′ → weight net y m′ ≡ weight net y m
   accepted-keeps-sum e m w m′ f = keeps-sum y (place-invariant-exactly .0 e .1) f
 
@@ -87,7 +87,7 @@ module _ (net : Net) (x : List ℤ) (r : TransitionWeighting) (promise : transit
   pub proper-returns : r ≡ transition.Proper → (m w m′ : List ℕ) → ((t : ℕ) → t < net .transitions → entry x t ≡ pos (count w t)) → length m ≡ net .places → Fires net m w m′ → m′ ≡ m
   proper-returns e m w m′ c long f = counts-return x (transition-proper-exactly .0 e .1 .0) c long f
 
--- `place_bound`: "the bound on a place" holds at every reachable marking
+-- `place_bound`: the bound on a place holds at every reachable marking
 module _ (net : Net) (initial : List ℕ) (y : List ℤ) (p : ℕ) (r : Bound) (promise : boundNumbers r ≡ boundNumbers (boundOf net initial y p)) where
   pub bounded-holds : (b : ℕ) → r ≡ bound.Bounded b → (m : List ℕ) → Reachable net initial m → tokens m p ≤ b
   bounded-holds b e m f = bound-holds y p b (sym (bound-numbers-apart r (boundOf net initial y p) promise) ∙ e) f
