@@ -20,7 +20,7 @@ use Rattle.lists.proofs.Somes.{some-first, some-is, is-none, none-at}
 use Rattle.lists.proofs.Wholes.{marking-long}
 use Rattle.list_check.specs.Fire.{lacks, passesAny, afterAny, firedAny}
 use Rattle.list_check.specs.Look.{Ready, absent, missing}
-use Rattle.cover.specs.Number.{nat, entryNumber, listed, marking, CoversAt, Covers, after}
+use Rattle.cover.specs.Number.{nat, entryNumber, listed, marking, CoversAt, CoversMarking, after}
 use Rattle.cover.specs.Cover.{CoverEnabled, resultAt, ListCovers, EnabledAt, ResultCovered}
 
 -- one place: the test for an entry that is a number and less than x, tokens or a weight
@@ -57,10 +57,10 @@ module _ (takes puts entry d : ℕ) where
       go false e false f = rw (e, f) tt
 
 -- a listed marking covers m
-covers-of : (P : ℕ) (c m : List ℕ) → length m ≡ P → covering c m ≡ true → Covers P (listed c) (marking m)
+covers-of : (P : ℕ) (c m : List ℕ) → length m ≡ P → covering c m ≡ true → CoversMarking P (listed c) (marking m)
 covers-of P c m e q = record { at = λ p h. of-beyond (tokens c p) (tokens m p) (none-at (λ p. beyond (getD c p 0) (getD m p 0)) (length m) q p (omega arith)) }
 
-of-covers : (P : ℕ) (c m : List ℕ) → length m ≡ P → Covers P (listed c) (marking m) → covering c m ≡ true
+of-covers : (P : ℕ) (c m : List ℕ) → length m ≡ P → CoversMarking P (listed c) (marking m) → covering c m ≡ true
 of-covers P c m e x = is-none (λ p. beyond (getD c p 0) (getD m p 0)) (length m) (λ p h. beyond-of (tokens c p) (tokens m p) (x .at p (omega arith)))
 
 module _ (P : ℕ) (l m : List ℕ) (e : length m ≡ P) where

@@ -23,7 +23,7 @@ use Rattle.lists.proofs.Pairs.{accepted-looked, looked-accepted, looked-initial
 use Rattle.lists.proofs.Answers.{numbers-apart, claim-numbers-apart}
 use Rattle.list_check.specs.Given.{givenFault, listOf, targetOf}
 use Rattle.list_check.proofs.Refusals.{lent-of, accepted-sound, failed-sound}
-use Rattle.cover.specs.Number.{Number, nat, any, listed, marking, CoversAt, Covers, after}
+use Rattle.cover.specs.Number.{Number, nat, any, listed, marking, CoversAt, CoversMarking, after}
 use Rattle.cover.specs.Cover.{CoverEnabled, resultAt, ListCovers, EnabledAt, IsCover, FirstMissing}
 use Rattle.cover.proofs.Covered.{of-covered, covered-of, uncovered-of, of-uncovered, holds-of, missing-of, of-holds, of-missing}
 
@@ -117,7 +117,7 @@ covers-on (nat a) (nat b) (nat c) h k = omega arith
 covers-on (nat a) (nat b) any h k = absurd k
 covers-on (nat a) any z h k = absurd h
 
-pub covers-through : {P : ℕ} {x y z : ℕ → Number} → Covers P x y → Covers P y z → Covers P x z
+pub covers-through : {P : ℕ} {x y z : ℕ → Number} → CoversMarking P x y → CoversMarking P y z → CoversMarking P x z
 covers-through {P} {x} {y} {z} h k = record { at = λ p b. covers-on (x p) (y p) (z p) (h .at p b) (k .at p b) }
 
 fuller-after : (takes puts n k : ℕ) (x : Number) → CoversAt x (nat n) → takes ≤ n → k + takes ≡ n + puts → CoversAt (after takes puts x) (nat k)

@@ -4,13 +4,13 @@ use mathlib.Core.List.{List}
 use Rattle.net.specs.Net.{Net, Pre, Post}
 use Rattle.net.specs.Firing.{Reachable}
 use Rattle.lists.specs.Whole.{count, markingAt}
-use Rattle.cover.specs.Number.{Number, nat, listed, marking, Covers, after}
+use Rattle.cover.specs.Number.{Number, nat, listed, marking, CoversMarking, after}
 
 -- "m is called coverable in N, if there exists a reachable marking m′ which covers m." (001)
 pub record Coverable (net : Net) (initial m : List ℕ) : Type 0 where
   pub reached : List ℕ
   pub reachable : Reachable net initial reached
-  pub covers : Covers (net .places) (marking reached) (marking m)
+  pub covers : CoversMarking (net .places) (marking reached) (marking m)
 
 -- what t takes: 001's t⁻
 abbrev pub taken : Net → ℕ → ℕ → Number
@@ -19,7 +19,7 @@ taken net t p = nat (Pre net p t)
 -- "t is enabled at m iff t⁻ ≤ m" (001): the ω-marking x covers what t takes. "Capacities are ignored there."
 pub record CoverEnabled (net : Net) (x : ℕ → Number) (t : ℕ) : Type 0 where
   pub named : t < net .transitions
-  pub enough : Covers (net .places) x (taken net t)
+  pub enough : CoversMarking (net .places) x (taken net t)
 
 -- and its result there, "m′ = m + Δt"
 abbrev pub resultAt : Net → ℕ → (ℕ → Number) → ℕ → Number
@@ -29,7 +29,7 @@ resultAt net t x p = after (Pre net p t) (Post net p t) (x p)
 pub record ListCovers (P : ℕ) (list : List ℕ) (x : ℕ → Number) : Type 0 where
   pub number : ℕ
   pub inside : number < count P list
-  pub covers : Covers P (listed (markingAt P list number)) x
+  pub covers : CoversMarking P (listed (markingAt P list number)) x
 
 -- t is enabled at marking number k, and its result there is covered
 abbrev pub EnabledAt : Net → List ℕ → ℕ → ℕ → Type 0

@@ -31,7 +31,7 @@ CoversAt (nat n) (nat k) = k ≤ n
 CoversAt (nat n) any = ⊥
 
 -- "If m ≤ m′, then m′ covers m", of P places: x covers y
-pub record Covers (P : ℕ) (x y : ℕ → Number) : Type 0 where
+pub record CoversMarking (P : ℕ) (x y : ℕ → Number) : Type 0 where
   pub at : (p : ℕ) → p < P → CoversAt (x p) (y p)
 
 -- one place after a transition that takes and puts so many: "ω - n = ω, ω + n = ω", or m(p) + Change(p,t), where t is enabled
