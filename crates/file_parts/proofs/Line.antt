@@ -94,20 +94,10 @@ unfolding feedAll fedTo
 stays n l x [] = refl
 stays n l x (b ∷ bs) = stays n l x bs
 
--- after a refusal a reading does not go on
-pub never-goes : (n l : ℕ) (x y : Rooms) (bs : List ℕ) (t : Reading) (d : List ℕ) → feedAll (both (stopped n l) x) bs ≡ both (going t d) y → ⊥
-never-goes n l x y bs t d e =
-    let r : stopped n l ≡ going t d = ap (λ (u : Both). u .run) (sym (stays n l x bs) ∙ e) in
-    let q : _≡_ {A = ℕ} 0 1 = cc in
-    omega arith
-
 -- a line fed to its end, by what it is judged
 module _ (s : Reading) (d : List ℕ) (x : Rooms) where
   pub line-taken : judgeOf s d x ≡ Sound → feedOf (both (going s d) x) lineFeed ≡ both (going (advanced s d) []) (stored s d x)
   line-taken j = let l = meaning.taken-line s d x j in feed-line s d x ∙ rw (l .0, l .1)
-
-  pub line-stopped : (n at : ℕ) → judgeOf s d x ≡ Faulty n at → feedOf (both (going s d) x) lineFeed ≡ both (stopped n at) x
-  line-stopped n at j = let l = meaning.refused-line s d x n at j in feed-line s d x ∙ rw (l .0, l .1)
 
 -- a file in two parts
 pub all-append : (z : Both) (cs bs : List ℕ) → feedAll z (cs ++ bs) ≡ feedAll (feedAll z cs) bs
