@@ -11,7 +11,7 @@ ghost use mathlib.Core.Path.{_≡_};
 ghost use mathlib.Core.Bool.{true};
 ghost use mathlib.Core.List.{_∷_};
 ghost use Rattle.net.specs.Net.{netOf};
-ghost use Rattle.net.specs.declared.Fault.the-variants.{Sound};
+ghost use Rattle.refusals.specs.declared.Fault.the-variants.{Sound};
 ghost use Rattle.lists.specs.Answers.{failureNumbers, numbers, claimNumbers};
 ghost use Rattle.lists.specs.declared.Kind.the-variants.{Closed, Cover};
 ghost use Rattle.list_check.specs.Given.{listOf, targetOf};

@@ -11,7 +11,7 @@ ghost use mathlib.Core.Bool.{true};
 ghost use mathlib.Core.List.{[], _∷_};
 ghost use Rattle.net.specs.Net.{netOf};
 ghost use Rattle.net.specs.Firing.{causeNumber, causeValues};
-ghost use Rattle.net.specs.Given.{stretch, inside};
+ghost use Rattle.refusals.specs.Given.{stretch, inside};
 ghost use Rattle.replay.specs.Entry as replay;
 ghost use Rattle.replay.specs.Entry.{replayOf};
 ghost use Rattle.c_replay.specs.Handed.{handedReplay, HandedReplay};

@@ -7,11 +7,11 @@ use lib.ListN.{length}
 use lib.Dec.{eqb}
 use Rattle.ground.proofs.Tests.{never, and-true}
 use Rattle.net.specs.Net.{Net}
-use Rattle.net.specs.Given.{refuse, orElse, outside, countsFault, stretch, inside}
-use Rattle.net.specs.declared.Fault.{Fault}
-use Rattle.net.specs.declared.Fault.the-variants.{Sound, Faulty}
-use Rattle.net.proofs.Chains.{or-sound}
-use Rattle.net.proofs.Refusals.{counts-met, counts-unfit, marked-unfit}
+use Rattle.refusals.specs.Given.{refuse, orElse, outside, countsFault, stretch, inside}
+use Rattle.refusals.specs.declared.Fault.{Fault}
+use Rattle.refusals.specs.declared.Fault.the-variants.{Sound, Faulty}
+use Rattle.refusals.proofs.Chains.{or-sound}
+use Rattle.refusals.proofs.Refusals.{counts-met, counts-unfit, marked-unfit}
 use Rattle.summary_place.specs.declared.Slot.{Slot}
 use Rattle.summary.specs.Summary.{emptySummary, refusal, summed, Answers, emptyAnswer, summaryOf, wordAnswer, shapeFault}
 use Rattle.summary.specs.Join.{joinFault, joinSummary, joinAnswer}

@@ -7,9 +7,9 @@ use mathlib.Core.List.{List}
 use lib.ListN.{length}
 use lib.Dec.{eqb}
 use Rattle.net.specs.Net.{Net}
-use Rattle.net.specs.Given.{refuse, orElse, outside}
-use Rattle.net.specs.declared.Fault.{Fault}
-use Rattle.net.specs.declared.Fault.the-variants.{Sound}
+use Rattle.refusals.specs.Given.{refuse, orElse, outside}
+use Rattle.refusals.specs.declared.Fault.{Fault}
+use Rattle.refusals.specs.declared.Fault.the-variants.{Sound}
 use Rattle.summary.specs.Summary.{emptySummary, summed, madeNumbers}
 use Rattle.summary.specs.Join.{joinFault, joinSummary}
 use Rattle.summary.specs.Ask.{Reply, askFault, slotsReply, replied, askedNumbers}

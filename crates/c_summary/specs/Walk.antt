@@ -1,6 +1,6 @@
 -- Only for the code's walk, no answer is made of it: what is answered where a list's length was found at fault.
-use Rattle.net.specs.declared.Fault.{Fault}
-use Rattle.net.specs.declared.Fault.the-variants.{Sound, Faulty}
+use Rattle.refusals.specs.declared.Fault.{Fault}
+use Rattle.refusals.specs.declared.Fault.the-variants.{Sound, Faulty}
 use Rattle.summary.specs.declared.Asked.{Asked}
 use Rattle.summary.specs.declared.Asked.the-variants.{No, Refused}
 

@@ -5,7 +5,7 @@ use c_answer::ANSWERED;
 use c_answer::Answer;
 use c_answer::REFUSED;
 use ground::Weight;
-use net::Fault;
+use refusals::Fault;
 use summary::Asked;
 use summary::Made;
 use summary::Summary;
@@ -15,8 +15,8 @@ ghost use mathlib.Core.Bool.{false, _&&_, _||_};
 ghost use lib.ListN.{length};
 ghost use Rattle.ground.specs.Limits.{countLimit};
 ghost use Rattle.net.specs.Net.{netOf};
-ghost use Rattle.net.specs.Given.{refuse, orElse, outside, countsFault, stretch, inside};
-ghost use Rattle.net.specs.declared.Fault.the-variants.{Sound};
+ghost use Rattle.refusals.specs.Given.{refuse, orElse, outside, countsFault, stretch, inside};
+ghost use Rattle.refusals.specs.declared.Fault.the-variants.{Sound};
 ghost use Rattle.summary.specs.Summary.{emptySummary, refusal, summed, wordAnswer};
 ghost use Rattle.summary.specs.Ask.{askedNumbers};
 ghost use Rattle.c_summary_lists.specs.Columns.{columnsOf, lengthsFit, fits};
@@ -101,10 +101,10 @@ fn refuse_summary(number: u8) -> SummaryAnswer
 fn refuse_lists(first: usize, second: usize) -> SummaryAnswer
     ensures { λ r. ⌜ r ≡ handedSummary (summed (listFault (outside first || outside second) false Sound) (emptySummary 0)) ⌝ }
 {
-    if net::is_outside(first) {
+    if refusals::is_outside(first) {
         return refuse_summary(1);
     }
-    if net::is_outside(second) {
+    if refusals::is_outside(second) {
         return refuse_summary(1);
     }
     refuse_summary(2)
@@ -298,14 +298,14 @@ fn refuse_asked(
 ) -> Answer
     ensures { λ r. ⌜ r ≡ handed (askedNumbers (unfitAsked (orElse (refuse (outside count) 1 0) (countsFault (netOf places transitions (now (pre .entry)) (now (post .entry)) (now (caps .entry))) false)))) ⌝ }
 {
-    if net::is_outside(count) {
+    if refusals::is_outside(count) {
         return Answer {
             kind: REFUSED,
             number: 1,
             position: 0,
         };
     }
-    let found = net::counts_fault(places, transitions, pre, post, caps, false);
+    let found = refusals::counts_fault(places, transitions, pre, post, caps, false);
     match found {
         Fault::Faulty(number, at) => Answer {
             kind: REFUSED,

@@ -4,7 +4,7 @@ use mathlib.Core.Path.{_≡_, ap, _∙_}
 use mathlib.Core.Bool.{Bool, true, false}
 use mathlib.Core.List.{List}
 use Rattle.net.specs.Net.{Net}
-use Rattle.net.specs.declared.Fault.the-variants.{Sound}
+use Rattle.refusals.specs.declared.Fault.the-variants.{Sound}
 use Rattle.lists.specs.Whole.{count}
 use Rattle.lists.specs.Answers.{claimNumbers}
 use Rattle.lists.specs.declared.Failure.{Failure}

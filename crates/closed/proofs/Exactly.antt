@@ -6,7 +6,7 @@ use mathlib.Core.Bool.{true}
 use mathlib.Core.List.{List}
 use mathlib.Core.Logic.{_↔_}
 use Rattle.net.specs.Net.{Net}
-use Rattle.net.specs.declared.Fault.the-variants.{Sound}
+use Rattle.refusals.specs.declared.Fault.the-variants.{Sound}
 use Rattle.lists.specs.Answers.{numbers, claimNumbers}
 use Rattle.lists.specs.declared.Kind.the-variants.{Closed}
 use Rattle.lists.specs.declared.ListAnswer.{ListAnswer}

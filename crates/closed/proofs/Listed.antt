@@ -12,9 +12,9 @@ use Rattle.ground.specs.Lists.{first}
 use Rattle.ground.proofs.Tests.{never, and-true, unlike-false, like-false}
 use Rattle.net.specs.Net.{Net}
 use Rattle.net.specs.Letter.{arcsAt, passes, firedAt}
-use Rattle.net.specs.Given.{unlike}
 use Rattle.net.proofs.Meaning.{gives-one}
 use Rattle.net.proofs.Judged.{enabled-of, passes-of, gives-fired}
+use Rattle.refusals.specs.Given.{unlike}
 use Rattle.lists.specs.Whole.{count, markingAt}
 use Rattle.lists.specs.Match.{alike, matches, held}
 use Rattle.lists.specs.declared.Kind.the-variants.{Closed}

@@ -10,10 +10,10 @@ use native.Mathlib.Nat.{mul-add-mod-self-right, mod-eq-of-lt}
 use Rattle.ground.specs.Limits.{tokenLimit}
 use Rattle.net.specs.Net.{Net, capacity, tokens}
 use Rattle.net.specs.Firing.{Reachable}
-use Rattle.net.specs.declared.Fault.{Fault}
-use Rattle.net.specs.declared.Fault.the-variants.{Sound}
 use Rattle.net.proofs.Meaning.{reachable-has}
 use Rattle.net.proofs.Rows.{row-at}
+use Rattle.refusals.specs.declared.Fault.{Fault}
+use Rattle.refusals.specs.declared.Fault.the-variants.{Sound}
 use Rattle.lists.specs.Whole.{count, markingAt}
 use Rattle.lists.specs.declared.Failure.the-variants.{InitialMissing, ResultMissing}
 use Rattle.lists.specs.Answers.{numbers, claimNumbers}

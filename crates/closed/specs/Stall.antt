@@ -3,7 +3,7 @@ use Prim.Native.Nat.{ℕ}
 use mathlib.Core.Bool.{true}
 use mathlib.Core.List.{List}
 use Rattle.net.specs.Net.{Net}
-use Rattle.net.specs.declared.Fault.the-variants.{Sound}
+use Rattle.refusals.specs.declared.Fault.the-variants.{Sound}
 use Rattle.lists.specs.Whole.{count}
 use Rattle.lists.specs.Answers.{claimOf}
 use Rattle.lists.specs.declared.Kind.the-variants.{Closed}

@@ -15,14 +15,14 @@ use borrow.Author.Tests.{lt-ltb, le-ltb, ltb-false, eqb-true, eqb-false, eq-eqb,
 use Rattle.ground.specs.Limits.{countLimit, noCapacity}
 use Rattle.ground.specs.Lists.{table}
 use Rattle.ground.proofs.Tests.{never, and-true}
-use Rattle.net.specs.Net.{Net, riseOf, rise, capacity}
+use Rattle.net.specs.Net.{Net, riseOf, rise, capacity, Sized}
 use Rattle.net.specs.Letter.{row}
-use Rattle.net.specs.Given.{orElse, sizedNet, countsFault, netFault, startFault, markedFault, Sized}
-use Rattle.net.specs.declared.Fault.{Fault}
-use Rattle.net.specs.declared.Fault.the-variants.{Sound, Faulty}
-use Rattle.net.proofs.Chains.{or-sound, sound-or, refuse-sound, chain-first, not-sound}
-use Rattle.net.proofs.Refusals.{sized-true, counts-met, net-met, met-net, marked-met, met-marked, marked-is, marked-unfit, unsized-unfit, start-misfit, start-faulty}
 use Rattle.net.proofs.Rows.{row-at, row-end, row-length}
+use Rattle.refusals.specs.Given.{orElse, sizedNet, countsFault, netFault, startFault, markedFault}
+use Rattle.refusals.specs.declared.Fault.{Fault}
+use Rattle.refusals.specs.declared.Fault.the-variants.{Sound, Faulty}
+use Rattle.refusals.proofs.Chains.{or-sound, sound-or, refuse-sound, chain-first, not-sound}
+use Rattle.refusals.proofs.Refusals.{sized-true, counts-met, net-met, met-net, marked-met, met-marked, marked-is, marked-unfit, unsized-unfit, start-misfit, start-faulty}
 use Rattle.ground.proofs.Fill.{table-length, table-at}
 use Rattle.complement.specs.Complement.{made, madePlaces, complementPlaces, fallOf, fall, joined, preRow, postRow, complementMarking}
 use Rattle.complement.specs.Told.{limitFault, placesFault, Told, Countable}

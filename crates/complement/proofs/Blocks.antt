@@ -9,13 +9,12 @@ use native.Mathlib.Decide.{decLt}
 use lib.ListN.{length, getD}
 use lib.Signed.{clashℤ}
 use Rattle.ground.proofs.Parts.{moved-lt}
-use Rattle.net.specs.Net.{Net, Pre, Post, capacity, tokens}
+use Rattle.net.specs.Net.{Net, Pre, Post, capacity, tokens, Sized}
 use Rattle.net.specs.Firing.{Within, ShortAt, OverAt, Names}
-use Rattle.net.specs.Given.{Sized}
-use Rattle.net.specs.First.{First, fails, holds, Counts, Lengths}
 use Rattle.net.specs.declared.Cause.{Cause}
 use Rattle.net.specs.declared.Cause.the-variants.{Short, Over}
 use Rattle.net.proofs.Meaning.{deterministic}
+use Rattle.refusals.specs.First.{First, fails, holds, Counts, Lengths}
 use Rattle.replay.specs.Entry.{Replayed, Allowed as Replayable, Refusal, lettersFired, Longest}
 use Rattle.replay.specs.declared.Replay.{Replay}
 use Rattle.replay.specs.declared.Replay.the-variants.{Fired, Blocked, Refused}

@@ -10,9 +10,8 @@ use lib.ListN.{length, getD, drop, length-append, length-map, length-take, List�
 use lib.Seq.{getD-append-add}
 use Rattle.ground.specs.Limits.{noCapacity, weightLimit}
 use Rattle.ground.proofs.Fill.{table-at}
-use Rattle.net.specs.Net.{Net, Pre, Post, rise, Capped}
+use Rattle.net.specs.Net.{Net, Pre, Post, rise, Capped, Light, Sized}
 use Rattle.net.specs.Letter.{row, Small}
-use Rattle.net.specs.Given.{Light, Sized}
 use Rattle.net.proofs.Rows.{row-end, row-at, row-length}
 use Rattle.complement.specs.Complement.{madePlaces, atMade, complementPlaces, fall, joined, preRow, postRow, complementNet}
 use Rattle.complement.proofs.Choice.{map-at}

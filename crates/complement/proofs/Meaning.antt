@@ -13,16 +13,16 @@ use Rattle.ground.specs.Limits.{countLimit, noCapacity, tokenLimit}
 use Rattle.ground.specs.Parts.{up, dn}
 use Rattle.ground.proofs.Parts.{moved-is, up-sub, dn-sub, minus-is}
 use Rattle.ground.proofs.Fill.{table-length, table-at}
-use Rattle.net.specs.Net.{Net, Pre, Post, Change, rise, capacity, Capped, tokens}
+use Rattle.net.specs.Net.{Net, Pre, Post, Change, rise, capacity, Capped, tokens, Sized}
 use Rattle.net.specs.Firing.{Keeps, Enabled, Gives, Firing, Fires, nothing, letter, Within}
 use Rattle.net.specs.Letter.{firedAt}
-use Rattle.net.specs.Given.{Sized, Fine}
-use Rattle.net.specs.First.{First, Given}
-use Rattle.net.specs.declared.Fault.{Fault}
-use Rattle.net.specs.declared.Fault.the-variants.{Sound, Faulty}
 use Rattle.net.proofs.Judged.{gives-fired}
 use Rattle.net.proofs.Meaning.{keeps-rise, gives-plain, gives-one, firing-within}
-use Rattle.net.proofs.Exactly.{Chain, Reads, tells-test, reads-test, reads-both, reads-all, net-reads, marked-reads, Answers, fault-is, exactly-refused, is-answered, is-allowed}
+use Rattle.refusals.proofs.Exactly.{Chain, Reads, tells-test, reads-test, reads-both, reads-all, net-reads, marked-reads, Answers, fault-is, exactly-refused, is-answered, is-allowed}
+use Rattle.refusals.specs.Given.{Fine}
+use Rattle.refusals.specs.First.{First, Given}
+use Rattle.refusals.specs.declared.Fault.{Fault}
+use Rattle.refusals.specs.declared.Fault.the-variants.{Sound, Faulty}
 use Rattle.replay.specs.Entry.{Replayed, Allowed as Replayable}
 use Rattle.replay.specs.declared.Replay.{Replay}
 use Rattle.replay.specs.declared.Replay.the-variants.{Fired}

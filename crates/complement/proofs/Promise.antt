@@ -10,10 +10,10 @@ use Rattle.ground.specs.Limits.{noCapacity}
 use Rattle.ground.proofs.Fill.{table-length, table-at}
 use Rattle.net.specs.Net.{Net, capacity}
 use Rattle.net.specs.Firing.{Fires, Within}
-use Rattle.net.specs.Given.{Fine}
 use Rattle.net.specs.declared.Cause.{Cause}
 use Rattle.net.specs.declared.Cause.the-variants.{Short, Over}
 use Rattle.net.proofs.Meaning.{deterministic}
+use Rattle.refusals.specs.Given.{Fine}
 use Rattle.replay.specs.Entry.{Replayed, Refusal as ReplayRefusal}
 use Rattle.replay.specs.declared.Replay.{Replay}
 use Rattle.replay.specs.declared.Replay.the-variants.{Fired, Blocked, Refused as NotReplayed}

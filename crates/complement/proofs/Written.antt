@@ -16,8 +16,8 @@ use Rattle.ground.specs.Lists.{mapAt, table}
 use Rattle.ground.proofs.Stores.{sets-both, sets-whole}
 use Rattle.ground.proofs.Fill.{mapAt-length, mapAt-at, table-length, table-at, Made, make-next, make-end}
 use Rattle.net.specs.Letter.{row}
-use Rattle.net.specs.Given.{Fine}
 use Rattle.net.proofs.Rows.{row-length}
+use Rattle.refusals.specs.Given.{Fine}
 use Rattle.complement.specs.Complement.{chosenFrom, joined}
 use Rattle.complement.specs.Walk.{Inside}
 use Rattle.complement.proofs.Choice.{chosen-few, map-at}

@@ -6,11 +6,11 @@ use mathlib.Core.List.{List, [], _∷_}
 use lib.ListN.{length}
 use lib.Dec.{eqb}
 use Rattle.ground.specs.Limits.{countLimit}
-use Rattle.net.specs.Net.{Net}
-use Rattle.net.specs.Given.{orElse, markedFault, Sized, Fine}
-use Rattle.net.specs.First.{MarkedFirst}
-use Rattle.net.specs.declared.Fault.{Fault}
-use Rattle.net.specs.declared.Fault.the-variants.{Sound, Faulty}
+use Rattle.net.specs.Net.{Net, Sized}
+use Rattle.refusals.specs.Given.{orElse, markedFault, Fine}
+use Rattle.refusals.specs.First.{MarkedFirst}
+use Rattle.refusals.specs.declared.Fault.{Fault}
+use Rattle.refusals.specs.declared.Fault.the-variants.{Sound, Faulty}
 use Rattle.complement.specs.Complement.{complementPlaces, complementNet, complementMarking}
 use Rattle.complement.specs.Told.{limitFault, LimitFirst}
 use Rattle.complement.specs.declared.ComplementNet.{ComplementNet}

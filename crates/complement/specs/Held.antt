@@ -4,11 +4,11 @@ use mathlib.Core.Path.{_≡_}
 use mathlib.Core.List.{List}
 use lib.ListN.{length, getD}
 use Rattle.ground.specs.Parts.{up, dn}
-use Rattle.net.specs.Net.{Net, netOf, Pre, Post, Change, capacity, Capped, tokens}
+use Rattle.net.specs.Net.{Net, netOf, Pre, Post, Change, capacity, Capped, tokens, Sized}
 use Rattle.net.specs.Firing.{Names}
-use Rattle.net.specs.Given.{Sized, Fine}
 use Rattle.net.specs.declared.Cause.{Cause}
 use Rattle.net.specs.declared.Cause.the-variants.{Short, Over}
+use Rattle.refusals.specs.Given.{Fine}
 use Rattle.complement.specs.Complement.{madePlaces, Related}
 use Rattle.complement.specs.Entry.{Rooms}
 

@@ -5,11 +5,11 @@ use mathlib.Core.Bool.{true}
 use mathlib.Core.List.{List, [], _∷_}
 use lib.Dec.{ltb}
 use Rattle.ground.specs.Limits.{countLimit}
-use Rattle.net.specs.Net.{Net}
-use Rattle.net.specs.Given.{refuse, orElse, netFault, Sized}
-use Rattle.net.specs.First.{First, Given, NetFirst}
-use Rattle.net.specs.declared.Fault.{Fault}
-use Rattle.net.specs.declared.Fault.the-variants.{Sound, Faulty}
+use Rattle.net.specs.Net.{Net, Sized}
+use Rattle.refusals.specs.Given.{refuse, orElse, netFault}
+use Rattle.refusals.specs.First.{First, Given, NetFirst}
+use Rattle.refusals.specs.declared.Fault.{Fault}
+use Rattle.refusals.specs.declared.Fault.the-variants.{Sound, Faulty}
 use Rattle.complement.specs.Complement.{complementPlaces}
 use Rattle.complement.specs.declared.ComplementPlaces.{ComplementPlaces}
 use Rattle.complement.specs.declared.ComplementPlaces.the-variants.{Places, Refused}

@@ -3,7 +3,7 @@
 use ground::COUNT_LIMIT;
 use ground::NO_CAPACITY;
 use ground::Weight;
-use net::Fault;
+use refusals::Fault;
 ghost use mathlib.Core.Path.{_≡_};
 ghost use Prim.Native.Nat.{_+_, _-_, _*_, _≤_, _<_};
 ghost use lib.Dec.{ltb};
@@ -11,8 +11,8 @@ ghost use lib.ListN.{length};
 ghost use lib.Seq.{sets};
 ghost use Rattle.ground.specs.Limits.{countLimit, noCapacity};
 ghost use Rattle.ground.specs.Lists.{table};
-ghost use Rattle.net.specs.Net.{netOf};
-ghost use Rattle.net.specs.Given.{orElse, markedFault, Sized, Fine};
+ghost use Rattle.net.specs.Net.{netOf, Sized};
+ghost use Rattle.refusals.specs.Given.{orElse, markedFault, Fine};
 ghost use Rattle.complement.specs.Complement.{made, madePlaces, complementPlaces, joined};
 ghost use Rattle.complement.specs.Told.{limitFault, Told};
 ghost use Rattle.complement.specs.Entry.{roomsOf, lengthsFit, netFits, complementFault, Complemented};
@@ -272,7 +272,7 @@ fn later_fault(
 ) -> Fault
     ensures { λ r. ⌜ r ≡ orElse (markedFault (netOf places transitions (now (pre .entry)) (now (post .entry)) (now (caps .entry))) (now (initial .entry)) fits) (limitFault wide) ⌝ }
 {
-    let found = net::marked_fault(places, transitions, pre, post, caps, initial, fits);
+    let found = refusals::marked_fault(places, transitions, pre, post, caps, initial, fits);
     match found {
         Fault::Faulty(number, at) => Fault::Faulty(number, at),
         Fault::Sound => limit_fault(wide),
@@ -296,8 +296,8 @@ fn find_fault(
 ) -> Fault
     ensures { λ r. ⌜ r ≡ complementFault (netOf places transitions (now (pre .entry)) (now (post .entry)) (now (caps .entry))) (now (initial .entry)) (netFits (netOf places transitions (now (pre .entry)) (now (post .entry)) (now (caps .entry))) pres posts capacities initials) ⌝ }
 {
-    if !net::is_sized(places, transitions, pre, post, caps) {
-        return net::marked_fault(places, transitions, pre, post, caps, initial, false);
+    if !refusals::is_sized(places, transitions, pre, post, caps) {
+        return refusals::marked_fault(places, transitions, pre, post, caps, initial, false);
     }
     let count = count_made(places, transitions, pre, post, caps);
     let wide = places + count;
@@ -316,7 +316,7 @@ pub fn complement_places(
 ) -> ComplementPlaces
     ensures { λ r. ⌜ Told (netOf places transitions (now (pre .entry)) (now (post .entry)) (now (caps .entry))) r ⌝ }
 {
-    let found = net::net_fault(places, transitions, pre, post, caps, true);
+    let found = refusals::net_fault(places, transitions, pre, post, caps, true);
     match found {
         Fault::Faulty(number, at) => ComplementPlaces::Refused(number, at),
         Fault::Sound => {

@@ -9,9 +9,9 @@ use native.Mathlib.Omega.{arith}
 use Rattle.net.specs.Net.{Net, Pre, Post, tokens}
 use Rattle.net.specs.Firing as firing
 use Rattle.net.specs.Firing.{Gives, Firing, Reachable}
-use Rattle.net.specs.declared.Fault.{Fault}
-use Rattle.net.specs.declared.Fault.the-variants.{Sound}
 use Rattle.net.proofs.Meaning.{gives-plain, reachable-has}
+use Rattle.refusals.specs.declared.Fault.{Fault}
+use Rattle.refusals.specs.declared.Fault.the-variants.{Sound}
 use Rattle.lists.specs.Whole.{markingAt}
 use Rattle.lists.specs.Answers.{numbers, claimNumbers}
 use Rattle.lists.specs.declared.Failure.the-variants.{InitialMissing, ResultMissing}

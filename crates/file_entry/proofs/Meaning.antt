@@ -12,7 +12,7 @@ use borrow.Author.Tests.{eqb-true}
 use Rattle.ground.specs.Limits.{countLimit, wordLimit}
 use Rattle.file_digits.specs.Frame.{lineFeed}
 use Rattle.file_line.specs.declared.Reading.{Reading}
-use Rattle.net.specs.declared.Fault.the-variants.{Faulty}
+use Rattle.refusals.specs.declared.Fault.the-variants.{Faulty}
 use Rattle.file_line.specs.Read.{cellLimit, fresh, Rooms, judgeOf}
 use Rattle.file_line.specs.Walk.{Good, Large}
 use Rattle.file_line.proofs.Meaning.{judged-number, judged-exactly}

@@ -8,7 +8,7 @@ use native.Mathlib.Nat.{not-suc-le-zero, suc-mul, mul-le-mul}
 use lib.Dec.{eqb}
 use borrow.Author.Tests.{ne-eqb, eqb-false}
 use Rattle.ground.specs.Limits.{countLimit}
-use Rattle.net.specs.declared.Fault.the-variants.{Sound}
+use Rattle.refusals.specs.declared.Fault.the-variants.{Sound}
 use Rattle.file_digits.specs.Frame.{byteAt}
 use Rattle.file_line.specs.declared.Reading.{Reading}
 use Rattle.file_line.specs.Read.{cellLimit, Rooms, kindOf, phaseAfter, lettersIn, judgeOf, advanced, advancedKind, storedKind}

@@ -7,10 +7,10 @@ use lib.Dec.{leb, ltb, eqb}
 use lib.ListN.{length}
 use borrow.Author.Tests.{lt-ltb, le-ltb, eq-eqb, ne-eqb, lt-leb, le-leb}
 use Rattle.ground.specs.Limits.{wordLimit}
-use Rattle.net.specs.Given.{refuse, orElse, outside, badToken, badLetter}
-use Rattle.net.specs.declared.Fault.{Fault}
-use Rattle.net.specs.declared.Fault.the-variants.{Sound, Faulty}
-use Rattle.net.proofs.Chains.{or-none}
+use Rattle.refusals.specs.Given.{refuse, orElse, outside, badToken, badLetter}
+use Rattle.refusals.specs.declared.Fault.{Fault}
+use Rattle.refusals.specs.declared.Fault.the-variants.{Sound, Faulty}
+use Rattle.refusals.proofs.Chains.{or-none}
 use Rattle.file_digits.specs.Frame.{block, byteAt, wordsFrom}
 use Rattle.file_digits.proofs.Bytes.{words-long}
 use Rattle.file_line.specs.declared.Reading.{Reading}

@@ -9,11 +9,11 @@ use lib.ListN.{length, getD}
 use borrow.Author.Tests.{eq-eqb, ne-eqb, eqb-true, le-ltb, ltb-false, le-leb, lt-leb, leb-true, leb-false, not-false}
 use Rattle.ground.proofs.Tests.{never, or-false, both-false, and-true}
 use Rattle.ground.proofs.Scan.{first-none, first-below}
-use Rattle.net.specs.Given.{refuse, outside, markingFault, badLetter, Letters}
-use Rattle.net.specs.declared.Fault.the-variants.{Sound}
-use Rattle.net.proofs.Chains.{refuse-sound, sound-refuse, or-sound, sound-or}
-use Rattle.net.proofs.Refusals.{inside-of, inside-is, fine-of, fine-is}
-use Rattle.net.proofs.Exactly.{Chain, tells-test, reads-test, reads-both, reads-all}
+use Rattle.refusals.specs.Given.{refuse, outside, markingFault, badLetter, Letters}
+use Rattle.refusals.specs.declared.Fault.the-variants.{Sound}
+use Rattle.refusals.proofs.Chains.{refuse-sound, sound-refuse, or-sound, sound-or}
+use Rattle.refusals.proofs.Refusals.{inside-of, inside-is, fine-of, fine-is}
+use Rattle.refusals.proofs.Exactly.{Chain, tells-test, reads-test, reads-both, reads-all}
 use Rattle.file_digits.specs.Frame.{block, byteAt}
 use Rattle.file_line.specs.declared.Reading.{Reading}
 use Rattle.file_line.specs.Read.{Rooms, kindOf, expected, tokensIn, wordPart, lineHere, ruleOf, formedKind, formedOf, countsBad, tokensBad, wordOver, lettersBad, judgeOf}

@@ -9,7 +9,7 @@ use lib.Dec.{leb, ltb, eqb}
 use lib.ListN.{length, getD}
 use borrow.Author.Tests.{le-ltb, le-leb, lt-leb, ltb-false, ltb-true, eqb-false, leb-false}
 use Rattle.ground.proofs.Scan.{Below, first-none, first-below, scan-start, scan-hit, scan-next, scan-end}
-use Rattle.net.specs.Given.{tokenBad, badToken, badLetter}
+use Rattle.refusals.specs.Given.{tokenBad, badToken, badLetter}
 use Rattle.file_digits.specs.Frame.{lineLimit, wordAt, byteAt, wordsFrom, allDigits}
 use Rattle.file_digits.proofs.Bytes.{bytes-long, bytes-at, words-long, words-at}
 use Rattle.file_line.specs.Read.{lettersIn, wordPart, ruleOf}
@@ -94,7 +94,7 @@ fit-letters d j (suc n) t k e h = go k h (leb t (byteAt d j)) refl e (λ k u b. 
     go zero h false p u r = let v : j + 0 ≡ j = omega arith in rw v (leb-false _ _ p)
     go (suc k) h false p u r = let v : j + suc k ≡ j + 1 + k = omega arith in rw v (r k u (omega arith))
 
--- the pass over a line's letters is net's test: it fails exactly where a letter names no transition
+-- the pass over a line's letters is the test of refusals: it fails exactly where a letter names no transition
 pub letters-pass : (d : List ℕ) (t : ℕ) (r : Bool) → r ≡ fitLetters d 1 (lettersIn d) t → not r ≡ ltb (badLetter t (wordPart d)) (length (wordPart d))
 letters-pass d t r e = rw e (go (fitLetters d 1 (lettersIn d) t) refl)
   where

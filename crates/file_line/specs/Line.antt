@@ -5,8 +5,8 @@ use mathlib.Core.Logic.{_⊎_}
 use mathlib.Core.List.{List}
 use lib.ListN.{length, getD}
 use Rattle.ground.specs.Limits.{countLimit, wordLimit}
-use Rattle.net.specs.Given.{Fine, Letters}
-use Rattle.net.specs.First.{First, Given}
+use Rattle.refusals.specs.Given.{Fine, Letters}
+use Rattle.refusals.specs.First.{First, Given}
 use Rattle.file_digits.specs.Frame.{lineLimit, block, byteAt}
 use Rattle.file_line.specs.declared.Reading.{Reading}
 use Rattle.file_line.specs.Read.{Rooms, kindOf, expected, tokensIn, lettersIn, wordPart, lineHere}

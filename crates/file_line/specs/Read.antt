@@ -6,9 +6,9 @@ use lib.ListN.{length}
 use lib.Seq.{sets}
 use lib.Dec.{ltb, leb, eqb}
 use Rattle.ground.specs.Limits.{countLimit, wordLimit}
-use Rattle.net.specs.Given.{refuse, orElse, outside, badToken, badLetter}
-use Rattle.net.specs.declared.Fault.{Fault}
-use Rattle.net.specs.declared.Fault.the-variants.{Sound, Faulty}
+use Rattle.refusals.specs.Given.{refuse, orElse, outside, badToken, badLetter}
+use Rattle.refusals.specs.declared.Fault.{Fault}
+use Rattle.refusals.specs.declared.Fault.the-variants.{Sound, Faulty}
 use Rattle.file_digits.specs.Frame.{lineLimit, block, allDigits, byteAt, bytesFrom, wordsFrom}
 use Rattle.file_line.specs.declared.Reading.{Reading}
 use Rattle.file_line.specs.declared.Took.{Took}

@@ -35,7 +35,7 @@ pub record Large (x : Rooms) : Type 0 where
   pub post : cellLimit ≤ length (x .post)
   pub word : wordLimit ≤ length (x .word)
 
--- n letters from byte j on name transitions: the pass over a line's digits; `letters-pass` says that it is net's `badLetter`
+-- n letters from byte j on name transitions: the pass over a line's digits; `letters-pass` says that it is `badLetter` of refusals
 unfoldable pub fitLetters : List ℕ → ℕ → ℕ → ℕ → Bool
 fitLetters d j zero t = true
 fitLetters d j (suc n) t = cond (leb t (byteAt d j)) false (fitLetters d (j + 1) n t)

@@ -4,7 +4,7 @@ use file_digits::LINE_LIMIT;
 use ground::COUNT_LIMIT;
 use ground::WORD_LIMIT;
 use ground::Weight;
-use net::Fault;
+use refusals::Fault;
 ghost use mathlib.Core.Path.{_≡_};
 ghost use mathlib.Core.Bool.{true, cond, _&&_, _||_};
 ghost use mathlib.Core.List.{[]};
@@ -13,7 +13,7 @@ ghost use Prim.Native.Nat.{_+_, _*_, _%_, _<_, _≤_};
 ghost use lib.ListN.{length};
 ghost use lib.Seq.{sets};
 ghost use Rattle.ground.specs.Limits.{countLimit, wordLimit};
-ghost use Rattle.net.specs.Given.{refuse, orElse, outside, badToken, badLetter};
+ghost use Rattle.refusals.specs.Given.{refuse, orElse, outside, badToken, badLetter};
 ghost use Rattle.file_digits.specs.Frame.{block, byteAt, bytesFrom, wordsFrom};
 ghost use Rattle.file_line.specs.Read.{cellLimit, rooms, fresh, phaseAfter, tokensIn, lettersIn, wordPart, ruleOf, formedOf, judgeOf, stored, advanced, lineOf, roomsOf};
 ghost use Rattle.file_line.specs.Walk.{Good, Large, fitLetters, Accepted, GoodTook};
@@ -131,10 +131,10 @@ fn counts_fault(d: &[u8], here: usize) -> Fault
 {
     let p = wide(file_digits::byte_at(d, 1));
     let t = wide(file_digits::byte_at(d, 2));
-    if net::is_outside(p) {
+    if refusals::is_outside(p) {
         return Fault::Faulty(1, here);
     }
-    if net::is_outside(t) {
+    if refusals::is_outside(t) {
         return Fault::Faulty(1, here);
     }
     Fault::Sound
@@ -148,7 +148,7 @@ fn bad_token(d: &[u8], caps: &[u16], places: usize) -> usize
     let mut p: usize = 0;
     while p < places {
         let m = file_digits::word_at(d, 1 + 2 * p);
-        if net::is_bad_token(caps[p], m) {
+        if refusals::is_bad_token(caps[p], m) {
             return p;
         }
         p = p + 1;

@@ -15,9 +15,9 @@ use Rattle.file_line.specs.declared.Reading.{Reading}
 use Rattle.file_line.specs.declared.Took.{Took}
 use Rattle.file_line.specs.Read.{Rooms, lineHere, lineOf, roomsOf, judgeOf, advanced, stored}
 use Rattle.file_line.specs.Walk.{Large}
-use Rattle.net.specs.declared.Fault.{Fault}
-use Rattle.net.specs.declared.Fault.the-variants.{Sound, Faulty}
-use Rattle.net.proofs.Chains.{fault-one}
+use Rattle.refusals.specs.declared.Fault.{Fault}
+use Rattle.refusals.specs.declared.Fault.the-variants.{Sound, Faulty}
+use Rattle.refusals.proofs.Chains.{fault-one}
 use Rattle.file_line.proofs.Meaning as meaning
 use Rattle.file_parts.specs.declared.Case.the-variants.{Whole, Refused}
 use Rattle.file_parts.specs.File.{finishOf, going, stopped, Both, both, ended, fedTo, feedOf, feedAll, together, feedParts, lineLen, NoFeed}

@@ -7,8 +7,8 @@ use native.Mathlib.Omega.{arith}
 use lib.ListN.{length}
 use lib.Seq.{length-sets}
 use lib.Dec.{eqb, ltb}
-use Rattle.net.specs.declared.Fault.{Fault}
-use Rattle.net.specs.declared.Fault.the-variants.{Sound, Faulty}
+use Rattle.refusals.specs.declared.Fault.{Fault}
+use Rattle.refusals.specs.declared.Fault.the-variants.{Sound, Faulty}
 use Rattle.file_digits.specs.Frame.{lineLimit, lineFeed, byteAt, bytesFrom, wordsFrom}
 use Rattle.file_line.specs.declared.Reading.{Reading}
 use Rattle.file_line.specs.Read.{fresh, Rooms, lineOf, roomsOf, judgeOf, advancedKind, storedKind, lettersIn}

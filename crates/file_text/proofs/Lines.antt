@@ -11,8 +11,8 @@ use Rattle.ground.specs.Limits.{countLimit, wordLimit}
 use Rattle.file_digits.specs.Frame.{lineLimit, lineFeed, block, digitsOf, lineText, byteAt, bytesFrom, wordsFrom, twos}
 use Rattle.file_digits.proofs.Round.{Below, none, more, canon, digits-long}
 use Rattle.file_line.specs.declared.Reading.{Reading}
-use Rattle.net.specs.Given.{Fine}
-use Rattle.net.specs.declared.Fault.the-variants.{Sound}
+use Rattle.refusals.specs.Given.{Fine}
+use Rattle.refusals.specs.declared.Fault.the-variants.{Sound}
 use Rattle.file_line.specs.Read.{Rooms, rooms, tokensIn, wordPart, ruleOf, judgeOf, lettersIn, advanced, advancedKind, stored, storedKind}
 use Rattle.file_line.specs.Line.{Formed, frame01, frame02, frame03, frame04, frame05, CountsInRange, TokensAllowed, WordNotOver, LettersNamed, Taken}
 use Rattle.file_line.proofs.Digits.{rule-all, rule-exactly}

@@ -12,7 +12,7 @@ use borrow.Author.Tests.{eqb-true}
 use Rattle.ground.specs.Limits.{noCapacity, weightLimit, wordLimit}
 use Rattle.file_digits.specs.Frame.{digitOf, digitsOf, twos}
 use Rattle.net.specs.Net.{Net, netOf}
-use Rattle.net.specs.declared.Fault.the-variants.{Faulty}
+use Rattle.refusals.specs.declared.Fault.the-variants.{Faulty}
 use Rattle.replay.specs.Entry.{Allowed}
 use Rattle.file_line.specs.declared.Reading.{Reading}
 use Rattle.file_line.specs.declared.Took.the-variants as took

@@ -15,10 +15,10 @@ use Rattle.file_digits.specs.Frame.{block, lineFeed, byteAt, bytesFrom, wordsFr
 use Rattle.file_digits.proofs.Round.{Below, none}
 use Rattle.net.specs.Net.{Net, netOf}
 use Rattle.net.specs.Letter.{row}
-use Rattle.net.specs.Given.{Fine}
 use Rattle.net.proofs.Rows.{row-end}
+use Rattle.refusals.specs.Given.{Fine}
 use Rattle.file_line.specs.declared.Reading.{Reading}
-use Rattle.net.specs.declared.Fault.the-variants.{Sound}
+use Rattle.refusals.specs.declared.Fault.the-variants.{Sound}
 use Rattle.file_line.specs.Read.{Rooms, rooms, fresh, judgeOf, lettersIn, advanced, advancedKind, stored, storedKind}
 use Rattle.file_line.specs.Walk.{Large}
 use Rattle.file_line.proofs.Meaning.{taken-exactly}

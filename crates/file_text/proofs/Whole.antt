@@ -13,9 +13,9 @@ use borrow.Author.Tests.{eq-eqb, ne-eqb}
 use Rattle.ground.proofs.Stores.{sets-both}
 use Rattle.file_digits.specs.Frame.{block, twos}
 use Rattle.net.specs.Net.{Net}
-use Rattle.net.specs.Given.{Fine}
 use Rattle.net.specs.Letter.{row}
 use Rattle.net.proofs.Rows.{row-end, row-length}
+use Rattle.refusals.specs.Given.{Fine}
 use Rattle.file_line.specs.declared.Reading.{Reading}
 use Rattle.file_line.specs.Read.{Rooms, rooms, fresh}
 use Rattle.file_line.specs.Walk.{Large}

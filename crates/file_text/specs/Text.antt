@@ -6,9 +6,9 @@ use lib.ListN.{length, take}
 use lib.Seq.{sets}
 use Rattle.ground.specs.Limits.{noCapacity, wordLimit}
 use Rattle.file_digits.specs.Frame.{block, lineText, twos}
-use Rattle.net.specs.Net.{Net, netOf}
+use Rattle.net.specs.Net.{Net, netOf, Sized, Light}
 use Rattle.net.specs.Letter.{row, Small}
-use Rattle.net.specs.Given.{Sized, Light, Fine, Letters}
+use Rattle.refusals.specs.Given.{Fine, Letters}
 use Rattle.file_line.specs.declared.Reading.{Reading}
 use Rattle.file_line.specs.Read.{Rooms, rooms}
 

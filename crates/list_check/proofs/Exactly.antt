@@ -10,10 +10,10 @@ use lib.Dec.{eqb}
 use borrow.Author.Tests.{eq-eqb, eqb-true}
 use Rattle.ground.proofs.Tests.{and-true}
 use Rattle.net.specs.Net.{Net}
-use Rattle.net.specs.First.{StartFirst}
-use Rattle.net.specs.declared.Fault.{Fault}
-use Rattle.net.specs.declared.Fault.the-variants.{Sound}
-use Rattle.net.proofs.Exactly.{Chain, Reads, reads-both, reads-all, start-reads, Answers, exactly-refused, is-answered, is-allowed}
+use Rattle.refusals.specs.First.{StartFirst}
+use Rattle.refusals.specs.declared.Fault.{Fault}
+use Rattle.refusals.specs.declared.Fault.the-variants.{Sound}
+use Rattle.refusals.proofs.Exactly.{Chain, Reads, reads-both, reads-all, start-reads, Answers, exactly-refused, is-answered, is-allowed}
 use Rattle.lists.specs.Whole.{count, whole, targetFault, listFault}
 use Rattle.lists.specs.Demands.{WholeMarkings, EntriesFirst, SizeFirst}
 use Rattle.lists.specs.Match.{held}

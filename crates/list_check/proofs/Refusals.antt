@@ -7,11 +7,11 @@ use native.Mathlib.Omega.{arith}
 use lib.ListN.{length}
 use Rattle.ground.proofs.Tests.{and-true}
 use Rattle.net.specs.Net.{Net}
-use Rattle.net.specs.Given.{startFault, Fine}
-use Rattle.net.specs.declared.Fault.{Fault}
-use Rattle.net.specs.declared.Fault.the-variants.{Sound, Faulty}
-use Rattle.net.proofs.Chains.{or-sound, sound-or}
-use Rattle.net.proofs.Refusals.{start-met, met-start}
+use Rattle.refusals.specs.Given.{startFault, Fine}
+use Rattle.refusals.specs.declared.Fault.{Fault}
+use Rattle.refusals.specs.declared.Fault.the-variants.{Sound, Faulty}
+use Rattle.refusals.proofs.Chains.{or-sound, sound-or}
+use Rattle.refusals.proofs.Refusals.{start-met, met-start}
 use Rattle.lists.specs.Whole.{count, whole, entryFault, sizeFault, listFault}
 use Rattle.lists.specs.declared.Failure.{Failure}
 use Rattle.lists.specs.declared.Kind.{Kind}

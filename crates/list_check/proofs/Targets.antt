@@ -6,7 +6,7 @@ use mathlib.Core.List.{List}
 use lib.ListN.{length}
 use lib.Dec.{eqb}
 use Rattle.net.specs.Net.{Net}
-use Rattle.net.specs.declared.Fault.{Fault}
+use Rattle.refusals.specs.declared.Fault.{Fault}
 use Rattle.lists.specs.Whole.{count, targetFault}
 use Rattle.lists.specs.Match.{held}
 use Rattle.lists.specs.declared.Failure.{Failure}

@@ -4,9 +4,9 @@ use Prim.Native.Nat.{ℕ}
 use mathlib.Core.Path.{_≡_}
 use mathlib.Core.List.{List}
 use lib.ListN.{length}
-use Rattle.net.specs.Net.{Net}
-use Rattle.net.specs.Given.{Sized, Fine}
-use Rattle.net.specs.First.{StartFirst}
+use Rattle.net.specs.Net.{Net, Sized}
+use Rattle.refusals.specs.Given.{Fine}
+use Rattle.refusals.specs.First.{StartFirst}
 use Rattle.lists.specs.Demands.{WholeMarkings, EntriesFine, TargetFine, SomeMarkings, EntriesFirst, TargetFirst, SizeFirst}
 use Rattle.lists.specs.declared.Kind.{Kind}
 use Rattle.lists.specs.declared.Kind.the-variants.{Closed}

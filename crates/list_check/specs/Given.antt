@@ -5,9 +5,9 @@ use mathlib.Core.List.{List}
 use lib.ListN.{length}
 use lib.Dec.{eqb}
 use Rattle.net.specs.Net.{Net}
-use Rattle.net.specs.Given.{orElse, startFault}
-use Rattle.net.specs.declared.Fault.{Fault}
-use Rattle.net.specs.declared.Fault.the-variants.{Sound, Faulty}
+use Rattle.refusals.specs.Given.{orElse, startFault}
+use Rattle.refusals.specs.declared.Fault.{Fault}
+use Rattle.refusals.specs.declared.Fault.the-variants.{Sound, Faulty}
 use Rattle.lists.specs.Whole.{count, whole, targetFault, listFault}
 use Rattle.lists.specs.Match.{held}
 use Rattle.lists.specs.Answers.{claimOf}

@@ -4,9 +4,8 @@ use mathlib.Core.Path.{_≡_}
 use mathlib.Core.Bool.{Bool, not, _&&_}
 use mathlib.Core.List.{List}
 use lib.ListN.{length}
-use Rattle.net.specs.Net.{Net}
+use Rattle.net.specs.Net.{Net, Sized}
 use Rattle.net.specs.Letter.{arcsAt, passes, firedAt}
-use Rattle.net.specs.Given.{Sized}
 use Rattle.lists.specs.Whole.{count, markingAt}
 use Rattle.lists.specs.Match.{held}
 use Rattle.lists.specs.Pairs.{resultsOf, lookedOf}

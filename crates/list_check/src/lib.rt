@@ -6,7 +6,7 @@ use lists::ClaimAnswer;
 use lists::Failure;
 use lists::Kind;
 use lists::ListAnswer;
-use net::Fault;
+use refusals::Fault;
 ghost use mathlib.Core.Path.{_≡_};
 ghost use mathlib.Core.Bool.{true, false};
 ghost use Prim.Native.Nat.{_+_, _*_, _<_, _≤_};
@@ -282,7 +282,7 @@ fn find_fault(
     ensures { λ r. ⌜ r ≡ givenFault kind (netOf places transitions (now (pre .entry)) (now (post .entry)) (now (caps .entry))) (now (initial .entry)) (now (list .entry)) fits next ⌝ }
 {
     let agree = lists::is_fitting(places, list, fits);
-    let found = net::start_fault(places, transitions, pre, post, caps, initial, agree);
+    let found = refusals::start_fault(places, transitions, pre, post, caps, initial, agree);
     match found {
         Fault::Faulty(number, at) => Fault::Faulty(number, at),
         Fault::Sound => lists::list_fault(kind, places, caps, list, next),

@@ -13,11 +13,11 @@ use borrow.Author.Tests.{le-ltb, ltb-true, ltb-false, eq-eqb}
 use Rattle.ground.specs.Limits.{tokenLimit, listLimit}
 use Rattle.ground.proofs.Tests.{and-true, or-false, both-false}
 use Rattle.net.specs.Letter.{Small}
-use Rattle.net.specs.Given.{tokenBad}
-use Rattle.net.specs.First.{Given, GivenAt}
-use Rattle.net.specs.declared.Fault.{Fault}
-use Rattle.net.specs.declared.Fault.the-variants.{Sound, Faulty}
-use Rattle.net.proofs.Exactly.{Tells, tells-as, tells-test, tells-scan, Reads, reads-test}
+use Rattle.refusals.specs.Given.{tokenBad}
+use Rattle.refusals.specs.First.{Given, GivenAt}
+use Rattle.refusals.specs.declared.Fault.{Fault}
+use Rattle.refusals.specs.declared.Fault.the-variants.{Sound, Faulty}
+use Rattle.refusals.proofs.Exactly.{Tells, tells-as, tells-test, tells-scan, Reads, reads-test}
 use Rattle.lists.specs.declared.Kind.{Kind}
 use Rattle.lists.specs.declared.Kind.the-variants.{Closed, Cover}
 use Rattle.lists.specs.Whole.{count, whole, firstBad, entryFault, targetFault, sizeFault}

@@ -13,8 +13,8 @@ use lib.Seq.{length-take-le}
 use Rattle.ground.specs.Limits.{countLimit, listLimit}
 use Rattle.ground.proofs.Tests.{and-true}
 use Rattle.net.specs.Letter.{Small}
-use Rattle.net.specs.declared.Fault.the-variants.{Sound, Faulty}
 use Rattle.net.proofs.Rows.{row-end, row-at}
+use Rattle.refusals.specs.declared.Fault.the-variants.{Sound, Faulty}
 use Rattle.lists.specs.Whole.{count, markingAt, whole, lowestAny, targetFault, sizeFault}
 
 -- whether the list is made of whole markings

@@ -4,7 +4,7 @@ use mathlib.Core.Path.{_≡_}
 use mathlib.Core.List.{List}
 use lib.ListN.{length, getD}
 use Rattle.ground.specs.Limits.{tokenLimit, listLimit}
-use Rattle.net.specs.First.{First, Given, GivenAt}
+use Rattle.refusals.specs.First.{First, Given, GivenAt}
 use Rattle.lists.specs.Whole.{count}
 use Rattle.lists.specs.declared.Kind.{Kind}
 use Rattle.lists.specs.declared.Kind.the-variants.{Closed, Cover}

@@ -5,7 +5,7 @@ use mathlib.Core.List.{List}
 use lib.ListN.{length, getD}
 use lib.Dec.{ltb, leb}
 use Rattle.ground.specs.Limits.{tokenLimit}
-use Rattle.net.specs.Given.{unlike}
+use Rattle.refusals.specs.Given.{unlike}
 use Rattle.lists.specs.Some.{some, none}
 use Rattle.lists.specs.Whole.{markingAt}
 use Rattle.lists.specs.declared.Kind.{Kind}

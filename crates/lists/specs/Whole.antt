@@ -7,8 +7,8 @@ use lib.Dec.{ltb, eqb}
 use Rattle.ground.specs.Limits.{tokenLimit, listLimit}
 use Rattle.ground.specs.Lists.{first}
 use Rattle.net.specs.Letter.{row}
-use Rattle.net.specs.Given.{refuse, orElse, tokenBad}
-use Rattle.net.specs.declared.Fault.{Fault}
+use Rattle.refusals.specs.Given.{refuse, orElse, tokenBad}
+use Rattle.refusals.specs.declared.Fault.{Fault}
 use Rattle.lists.specs.declared.Kind.{Kind}
 use Rattle.lists.specs.declared.Kind.the-variants.{Closed, Cover}
 

@@ -3,14 +3,14 @@
 use ground::COUNT_LIMIT;
 use ground::LIST_LIMIT;
 use ground::TOKEN_LIMIT;
-use net::Fault;
+use refusals::Fault;
 ghost use mathlib.Core.Path.{_≡_};
 ghost use mathlib.Core.Bool.{_&&_};
 ghost use Prim.Native.Nat.{_*_, _≤_};
 ghost use lib.Dec.{ltb};
 ghost use lib.ListN.{length};
 ghost use Rattle.ground.specs.Limits.{countLimit, tokenLimit};
-ghost use Rattle.net.specs.Given.{unlike};
+ghost use Rattle.refusals.specs.Given.{unlike};
 ghost use Rattle.lists.specs.Whole.{whole, lowestAny, targetFault, badEntry, firstBad, sizeFault, listFault};
 ghost use Rattle.lists.specs.Match.{alike, beyond, covering, matches, held};
 
@@ -105,7 +105,7 @@ fn bad_entry(places: usize, caps: &[u16], list: &[u16]) -> usize
     let mut k = 0;
     while k < list.len() {
         let p = k % places;
-        if net::is_bad_token(caps[p], list[k]) {
+        if refusals::is_bad_token(caps[p], list[k]) {
             return k;
         }
         k += 1;

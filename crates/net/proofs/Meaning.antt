@@ -11,10 +11,9 @@ use lib.Seq.{ext-getD}
 use Rattle.ground.specs.Limits.{weightLimit, tokenLimit, wordLimit, replayLimit}
 use Rattle.ground.specs.Parts.{up}
 use Rattle.ground.proofs.Parts.{moved-is, moved-le, le-pos}
-use Rattle.net.specs.Net.{Net, Pre, Post, rise, capacity, Capped, tokens}
+use Rattle.net.specs.Net.{Net, Pre, Post, rise, capacity, Capped, tokens, Light}
 use Rattle.net.specs.Firing.{causeNumber, causeValues, result, level, Keeps, Gives, Firing, Fires, nothing, letter, Reachable, Within}
 use Rattle.net.specs.Letter.{Small}
-use Rattle.net.specs.Given.{Light}
 use Rattle.net.specs.declared.Cause.{Cause}
 use Rattle.net.specs.declared.Cause.the-variants.{Short, Over}
 

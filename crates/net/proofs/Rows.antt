@@ -7,9 +7,8 @@ use native.Mathlib.Nat.{suc-mul, mul-le-mul-right}
 use lib.ListN.{length, getD, drop, length-drop}
 use lib.Seq.{length-take-le, getD-take, getD-drop}
 use Rattle.ground.specs.Limits.{replayLimit}
-use Rattle.net.specs.Net.{Net}
+use Rattle.net.specs.Net.{Net, Sized}
 use Rattle.net.specs.Letter.{row, arcsAt, Small, Rows}
-use Rattle.net.specs.Given.{Sized}
 
 pub row-end : (t n k : ℕ) → t < n → t * k + k ≤ n * k
 row-end t n k h = rw (← suc-mul t k) (mul-le-mul-right k h)

@@ -1,9 +1,10 @@
 -- To be believed: a net as lent, and its parts by document 01's names ("Nets and firing"; 001, "Elementary System Nets" and its capacities).
-use Prim.Native.Nat.{ℕ, _+_, _-_, _*_, _<_}
+use Prim.Native.Nat.{ℕ, _+_, _-_, _*_, _≤_, _<_}
+use mathlib.Core.Path.{_≡_}
 use mathlib.Core.List.{List}
-use lib.ListN.{getD}
+use lib.ListN.{length, getD}
 use lib.IntN.{ℤ, pos, _-ℤ_}
-use Rattle.ground.specs.Limits.{noCapacity}
+use Rattle.ground.specs.Limits.{countLimit, weightLimit, noCapacity}
 
 -- the counts P and T; Pre and Post flat, transition by transition; a capacity for each place
 pub record Net : Type 0 where
@@ -52,3 +53,18 @@ Capped net p = capacity net p < noCapacity
 -- m(p), for a marking m: a number for each place
 abbrev pub tokens : List ℕ → ℕ → ℕ
 tokens m p = getD m p 0
+
+-- no weight is above the limit, as bytes never are
+pub record Light (net : Net) : Type 0 where
+  pub pre : (k : ℕ) → getD (net .pre) k 0 ≤ weightLimit
+  pub post : (k : ℕ) → getD (net .post) k 0 ≤ weightLimit
+
+-- the counts are in range, and the net's lists have the lengths that they say
+pub record Sized (net : Net) : Type 0 where
+  pub some-places : 1 ≤ net .places
+  pub few-places : net .places ≤ countLimit
+  pub some-transitions : 1 ≤ net .transitions
+  pub few-transitions : net .transitions ≤ countLimit
+  pub pres : length (net .pre) ≡ net .transitions * net .places
+  pub posts : length (net .post) ≡ net .transitions * net .places
+  pub capped : length (net .caps) ≡ net .places

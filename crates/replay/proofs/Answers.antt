@@ -8,12 +8,12 @@ use lib.Dec.{leb, eqb}
 use borrow.Author.Tests.{eqb-true, le-leb, lt-leb}
 use Rattle.ground.specs.Limits.{wordLimit}
 use Rattle.ground.proofs.Tests.{never, and-true}
-use Rattle.net.specs.Net.{Net}
-use Rattle.net.specs.Given.{orElse, countsFault, markedFault, wordFault, stretch, inside, Sized, Fine, Letters}
-use Rattle.net.specs.declared.Fault.{Fault}
-use Rattle.net.specs.declared.Fault.the-variants.{Sound, Faulty}
-use Rattle.net.proofs.Chains.{chain-first, chain-next, or-sound, sound-or}
-use Rattle.net.proofs.Refusals.{counts-met, marked-met, met-marked, word-met, met-word, counts-unfit, marked-unfit}
+use Rattle.net.specs.Net.{Net, Sized}
+use Rattle.refusals.specs.Given.{orElse, countsFault, markedFault, wordFault, stretch, inside, Fine, Letters}
+use Rattle.refusals.specs.declared.Fault.{Fault}
+use Rattle.refusals.specs.declared.Fault.the-variants.{Sound, Faulty}
+use Rattle.refusals.proofs.Chains.{chain-first, chain-next, or-sound, sound-or}
+use Rattle.refusals.proofs.Refusals.{counts-met, marked-met, met-marked, word-met, met-word, counts-unfit, marked-unfit}
 use Rattle.replay.specs.Replay.{Ran, playFrom, Ended}
 use Rattle.replay.specs.Entry.{replayFault, answered, replayOf, numbers, Replayed}
 use Rattle.replay.specs.declared.Replay.{Replay}

@@ -9,12 +9,12 @@ use Rattle.ground.proofs.Fill.{mapAt-length}
 use Rattle.net.specs.Net.{Net}
 use Rattle.net.specs.Firing.{Enabled, Firing, Fires, nothing, letter, Names}
 use Rattle.net.specs.Letter.{arcsAt, after, judgeAt, firedAt}
-use Rattle.net.specs.Given.{Letters}
 use Rattle.net.specs.declared.Cause.{Cause}
 use Rattle.net.specs.declared.Letter.{Letter}
 use Rattle.net.specs.declared.Letter.the-variants.{Passes, Stops}
 use Rattle.net.proofs.Judged.{enabled-of, gives-fired, names-of, passes-judged}
 use Rattle.net.proofs.Meaning.{gives-one, fires-nil, fires-cons}
+use Rattle.refusals.specs.Given.{Letters}
 use Rattle.replay.specs.Replay.{Ran, playFrom}
 use Rattle.replay.specs.declared.Replay.the-variants.{Fired, Blocked}
 

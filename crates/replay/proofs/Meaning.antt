@@ -11,17 +11,16 @@ use lib.Dec.{eqb}
 use borrow.Author.Tests.{eqb-true, eq-eqb}
 use Rattle.ground.specs.Limits.{replayLimit}
 use Rattle.ground.proofs.Tests.{and-true}
-use Rattle.net.specs.Net.{Net}
+use Rattle.net.specs.Net.{Net, Light}
 use Rattle.net.specs.Firing.{Fires, Reachable, Within, Names, causeNumber, causeValues}
-use Rattle.net.specs.Given.{Light}
 use Rattle.net.specs.Letter.{Small}
 use Rattle.net.specs.declared.Cause.{Cause}
 use Rattle.net.specs.declared.Cause.the-variants.{Short, Over}
-use Rattle.net.specs.declared.Fault.{Fault}
-use Rattle.net.specs.declared.Fault.the-variants.{Sound, Faulty}
 use Rattle.net.proofs.Judged.{named-stops}
 use Rattle.net.proofs.Meaning.{cause-apart, cause-some, deterministic, within-stays, replay-reaches}
-use Rattle.net.proofs.Exactly.{Answers, Chain, reads-both, reads-all, marked-reads, word-reads, fault-is, exactly-refused, is-answered, is-allowed}
+use Rattle.refusals.proofs.Exactly.{Answers, Chain, reads-both, reads-all, marked-reads, word-reads, fault-is, exactly-refused, is-answered, is-allowed}
+use Rattle.refusals.specs.declared.Fault.{Fault}
+use Rattle.refusals.specs.declared.Fault.the-variants.{Sound, Faulty}
 use Rattle.replay.specs.Replay.{playFrom}
 use Rattle.replay.specs.Entry.{replayFault, replayOf, numbers, Replayed, Allowed, Refusal, lettersFired, Longest}
 use Rattle.replay.specs.declared.Replay.{Replay}

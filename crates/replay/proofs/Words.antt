@@ -11,14 +11,13 @@ use lib.Seq.{drop-cons}
 use Rattle.ground.specs.Limits.{weightLimit, tokenLimit, wordLimit, tokensAfter, replayLimit}
 use Rattle.ground.specs.Lists.{mapAt}
 use Rattle.ground.proofs.Fill.{mapAt-length, mapAt-at}
-use Rattle.net.specs.Net.{Net}
-use Rattle.net.specs.Given.{Light}
+use Rattle.net.specs.Net.{Net, Light}
 use Rattle.net.specs.Letter.{arcsAt, passes, after, judgeAt, firedAt, Small, Played}
-use Rattle.net.specs.Given.{Letters}
 use Rattle.net.specs.declared.Cause.{Cause}
 use Rattle.net.specs.declared.Letter.{Letter}
 use Rattle.net.specs.declared.Letter.the-variants.{Passes, Stops}
 use Rattle.net.proofs.Rows.{row-at}
+use Rattle.refusals.specs.Given.{Letters}
 use Rattle.replay.specs.Replay.{Ran, playFrom, Ended}
 use Rattle.replay.specs.declared.Replay.the-variants.{Fired, Blocked}
 

@@ -6,12 +6,12 @@ use mathlib.Core.List.{List, [], _∷_}
 use lib.ListN.{length, take}
 use lib.Dec.{eqb}
 use Rattle.ground.specs.Limits.{wordLimit}
-use Rattle.net.specs.Net.{Net}
+use Rattle.net.specs.Net.{Net, Sized}
 use Rattle.net.specs.Firing.{Fires, causeNumber, causeValues}
-use Rattle.net.specs.Given.{orElse, markedFault, wordFault, Sized, Fine, Letters}
-use Rattle.net.specs.First.{MarkedFirst, WordFirst}
-use Rattle.net.specs.declared.Fault.{Fault}
-use Rattle.net.specs.declared.Fault.the-variants.{Sound, Faulty}
+use Rattle.refusals.specs.Given.{orElse, markedFault, wordFault, Fine, Letters}
+use Rattle.refusals.specs.First.{MarkedFirst, WordFirst}
+use Rattle.refusals.specs.declared.Fault.{Fault}
+use Rattle.refusals.specs.declared.Fault.the-variants.{Sound, Faulty}
 use Rattle.replay.specs.Replay.{Ran, playFrom}
 use Rattle.replay.specs.declared.Replay.{Replay}
 use Rattle.replay.specs.declared.Replay.the-variants.{Fired, Blocked, Refused}

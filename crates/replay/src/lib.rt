@@ -2,17 +2,17 @@
 // which letter and for which cause.
 use ground::Weight;
 use net::Cause;
-use net::Fault;
 use net::Letter;
+use refusals::Fault;
 ghost use mathlib.Core.Path.{_≡_};
 ghost use mathlib.Core.Bool.{true, _&&_};
 ghost use Prim.Native.Nat.{_≤_};
 ghost use lib.Dec.{eqb};
 ghost use lib.ListN.{length};
 ghost use Rattle.ground.specs.Limits.{tokenLimit, wordLimit};
-ghost use Rattle.net.specs.Net.{netOf};
+ghost use Rattle.net.specs.Net.{netOf, Sized, Light};
 ghost use Rattle.net.specs.Letter.{Small};
-ghost use Rattle.net.specs.Given.{Sized, Light, Letters, stretch, inside};
+ghost use Rattle.refusals.specs.Given.{Letters, stretch, inside};
 ghost use Rattle.replay.specs.Replay.{Ended};
 ghost use Rattle.replay.specs.Entry.{replayFault, Replayed};
 
@@ -70,10 +70,10 @@ fn find_fault(
 ) -> Fault
     ensures { λ r. ⌜ r ≡ replayFault (netOf places transitions (now (pre .entry)) (now (post .entry)) (now (caps .entry))) (now (initial .entry)) (now (word .entry)) fits ⌝ }
 {
-    let found = net::marked_fault(places, transitions, pre, post, caps, initial, fits);
+    let found = refusals::marked_fault(places, transitions, pre, post, caps, initial, fits);
     match found {
         Fault::Faulty(number, at) => Fault::Faulty(number, at),
-        Fault::Sound => net::word_fault(transitions, word),
+        Fault::Sound => refusals::word_fault(transitions, word),
     }
 }
 

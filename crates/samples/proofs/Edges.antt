@@ -3,8 +3,8 @@
 use mathlib.Core.Path.{_≡_, refl}
 use mathlib.Core.Bool.{true}
 use Rattle.ground.specs.Lists.{first, tally, mapAt}
-use Rattle.net.specs.Given.{countsFault, markingFault, startFault}
-use Rattle.net.specs.declared.Fault.the-variants.{Sound}
+use Rattle.refusals.specs.Given.{countsFault, markingFault, startFault}
+use Rattle.refusals.specs.declared.Fault.the-variants.{Sound}
 use Rattle.lists.specs.Some.{some, none}
 use Rattle.lists.specs.Whole.{firstBad, entryFault, sizeFault, listFault}
 use Rattle.lists.specs.Match.{matches}

@@ -9,7 +9,7 @@ use Rattle.ground.specs.Lists.{first, tally, most, mapAt, table}
 use Rattle.net.specs.Net.{tokens}
 use Rattle.net.specs.Firing.{Fires, Reachable, Names}
 use Rattle.net.specs.declared.Cause.the-variants.{Over}
-use Rattle.net.specs.Given.{countsFault, netFault, markingFault, startFault, markedFault, wordFault}
+use Rattle.refusals.specs.Given.{countsFault, netFault, markingFault, startFault, markedFault, wordFault}
 use Rattle.replay.specs.Replay.{playFrom}
 use Rattle.replay.specs.Entry.{replayFault, Replayed}
 use Rattle.replay.specs.declared.Replay.the-variants.{Fired, Blocked}

@@ -4,7 +4,7 @@ use mathlib.Core.Path.{_≡_}
 use mathlib.Core.Bool.{true}
 use mathlib.Core.List.{List, [], _∷_}
 use lib.ListN.{take, getD}
-use Rattle.net.specs.declared.Fault.the-variants.{Sound}
+use Rattle.refusals.specs.declared.Fault.the-variants.{Sound}
 use Rattle.replay.specs.Entry.{Replayed}
 use Rattle.replay.specs.declared.Replay.{Replay}
 use Rattle.summary_place.specs.Slots.{nil}

@@ -8,7 +8,7 @@ use lib.IntN.{ℤ, pos, negℤ}
 use Rattle.ground.specs.Limits.{noCapacity}
 use Rattle.net.specs.Net.{Net, netOf}
 use Rattle.net.specs.declared.Cause.the-variants.{Short, Over}
-use Rattle.net.specs.declared.Fault.the-variants.{Sound}
+use Rattle.refusals.specs.declared.Fault.the-variants.{Sound}
 use Rattle.replay.specs.Entry.{replayOf}
 use Rattle.replay.specs.declared.Replay.{Replay}
 use Rattle.replay.specs.declared.Replay.the-variants.{Fired, Blocked}

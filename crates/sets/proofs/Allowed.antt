@@ -12,11 +12,11 @@ use Rattle.ground.specs.Lists.{first}
 use Rattle.ground.proofs.Tests.{never}
 use Rattle.ground.proofs.Scan.{first-below, first-passes}
 use Rattle.net.specs.Net.{Net}
-use Rattle.net.specs.Given.{refuse, netFault}
-use Rattle.net.specs.declared.Fault.the-variants.{Sound}
-use Rattle.net.proofs.Chains.{or-sound, sound-or, refuse-sound, sound-refuse}
-use Rattle.net.proofs.Refusals.{net-met, met-net}
-use Rattle.net.proofs.Exactly.{Chain, reads-both, reads-test, reads-all, tells-test, net-reads}
+use Rattle.refusals.specs.Given.{refuse, netFault}
+use Rattle.refusals.specs.declared.Fault.the-variants.{Sound}
+use Rattle.refusals.proofs.Chains.{or-sound, sound-or, refuse-sound, sound-refuse}
+use Rattle.refusals.proofs.Refusals.{net-met, met-net}
+use Rattle.refusals.proofs.Exactly.{Chain, reads-both, reads-test, reads-all, tells-test, net-reads}
 use Rattle.sets.specs.Sets.{In}
 use Rattle.sets.specs.Allowed.{SomePlace, Allowed, Refusal}
 use Rattle.sets.specs.Answer.{noPlaces, setFault}

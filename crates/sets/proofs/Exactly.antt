@@ -8,8 +8,8 @@ use mathlib.Core.List.{List}
 use native.Mathlib.Omega.{arith}
 use lib.Dec.{ltb}
 use Rattle.net.specs.Net.{Net}
-use Rattle.net.specs.declared.Fault.{Fault}
-use Rattle.net.proofs.Exactly.{Answers, answers-of, exactly-refused, is-answered, is-allowed}
+use Rattle.refusals.specs.declared.Fault.{Fault}
+use Rattle.refusals.proofs.Exactly.{Answers, answers-of, exactly-refused, is-answered, is-allowed}
 use Rattle.sets.specs.Allowed.{Allowed, Refusal}
 use Rattle.sets.specs.Answer.{lowestEscape, turned, setFault, judgedSet, setAnswer, siphonOf, trapOf, setNumbers}
 use Rattle.sets.specs.declared.SetAnswer.{SetAnswer}

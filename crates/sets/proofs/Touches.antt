@@ -9,10 +9,9 @@ use lib.Dec.{ltb, leb}
 use borrow.Author.Tests.{lt-ltb, le-ltb, ltb-true, ltb-false, le-leb, lt-leb, not-true, not-false}
 use Rattle.ground.specs.Lists.{first}
 use Rattle.ground.proofs.Scan.{Below, scan-hit, scan-end}
-use Rattle.net.specs.Net.{Net, Pre, Post}
-use Rattle.net.specs.Given.{Sized}
-use Rattle.net.specs.declared.Fault.{Fault}
-use Rattle.net.specs.declared.Fault.the-variants.{Sound, Faulty}
+use Rattle.net.specs.Net.{Net, Pre, Post, Sized}
+use Rattle.refusals.specs.declared.Fault.{Fault}
+use Rattle.refusals.specs.declared.Fault.the-variants.{Sound, Faulty}
 use Rattle.sets.specs.Answer.{meets, touches, escapes, lowestEscape, turned, noPlaces, judgedSet, setAnswer, setNumbers}
 use Rattle.sets.specs.declared.SetAnswer.{SetAnswer}
 use Rattle.sets.specs.declared.SetAnswer.the-variants.{Yes, No, Refused}

@@ -3,9 +3,8 @@ use Prim.Native.Nat.{ℕ}
 use mathlib.Core.Path.{_≡_}
 use mathlib.Core.List.{List}
 use lib.ListN.{length}
-use Rattle.net.specs.Net.{Net}
-use Rattle.net.specs.Given.{Sized}
-use Rattle.net.specs.First.{First, Given, NetFirst}
+use Rattle.net.specs.Net.{Net, Sized}
+use Rattle.refusals.specs.First.{First, Given, NetFirst}
 use Rattle.sets.specs.Sets.{In}
 
 -- 8 unless: not "a set without places"

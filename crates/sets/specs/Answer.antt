@@ -7,9 +7,9 @@ use lib.ListN.{length, getD}
 use lib.Dec.{ltb, leb, eqb}
 use Rattle.ground.specs.Lists.{first}
 use Rattle.net.specs.Net.{Net, netOf, Pre, Post}
-use Rattle.net.specs.Given.{refuse, orElse, netFault}
-use Rattle.net.specs.declared.Fault.{Fault}
-use Rattle.net.specs.declared.Fault.the-variants.{Sound, Faulty}
+use Rattle.refusals.specs.Given.{refuse, orElse, netFault}
+use Rattle.refusals.specs.declared.Fault.{Fault}
+use Rattle.refusals.specs.declared.Fault.the-variants.{Sound, Faulty}
 use Rattle.sets.specs.declared.SetAnswer.{SetAnswer}
 use Rattle.sets.specs.declared.SetAnswer.the-variants.{Yes, No, Refused}
 

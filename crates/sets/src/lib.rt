@@ -1,11 +1,10 @@
 // Siphons and traps of a net: whether a set of places, a byte for each with 0 for out, is one.
 use ground::Weight;
-use net::Fault;
+use refusals::Fault;
 ghost use mathlib.Core.Path.{_≡_};
 ghost use Prim.Native.Nat.{_+_, _≤_, _<_};
 ghost use lib.ListN.{length, getD};
-ghost use Rattle.net.specs.Net.{netOf};
-ghost use Rattle.net.specs.Given.{Sized};
+ghost use Rattle.net.specs.Net.{netOf, Sized};
 ghost use Rattle.sets.specs.Answer.{meets, touches, escapes, lowestEscape, setFault, judgedSet, siphonOf, trapOf, setNumbers};
 
 // The answer for a set: it is one; it is none, with the lowest failing transition; or refused,
@@ -98,7 +97,7 @@ fn set_fault(
     ensures { λ r. ⌜ r ≡ setFault (netOf places transitions (now (pre .entry)) (now (post .entry)) (now (caps .entry))) (now (set .entry)) ⌝ }
 {
     let fits = set.len() == places;
-    let found = net::net_fault(places, transitions, pre, post, caps, fits);
+    let found = refusals::net_fault(places, transitions, pre, post, caps, fits);
     match found {
         Fault::Faulty(number, at) => Fault::Faulty(number, at),
         Fault::Sound => {

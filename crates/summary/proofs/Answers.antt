@@ -9,12 +9,12 @@ use lib.Dec.{leb}
 use borrow.Author.Tests.{le-leb, lt-leb}
 use Rattle.ground.specs.Limits.{wordLimit}
 use Rattle.ground.proofs.Tests.{never}
-use Rattle.net.specs.Net.{Net}
-use Rattle.net.specs.Given.{outside, countsFault, netFault, wordFault, stretch, inside, Sized, Letters}
-use Rattle.net.specs.declared.Fault.{Fault}
-use Rattle.net.specs.declared.Fault.the-variants.{Sound, Faulty}
-use Rattle.net.proofs.Chains.{or-sound, sound-or}
-use Rattle.net.proofs.Refusals.{counts-met, net-met, met-net, word-met, met-word, counts-unfit, net-unfit}
+use Rattle.net.specs.Net.{Net, Sized}
+use Rattle.refusals.specs.Given.{outside, countsFault, netFault, wordFault, stretch, inside, Letters}
+use Rattle.refusals.specs.declared.Fault.{Fault}
+use Rattle.refusals.specs.declared.Fault.the-variants.{Sound, Faulty}
+use Rattle.refusals.proofs.Chains.{or-sound, sound-or}
+use Rattle.refusals.proofs.Refusals.{counts-met, net-met, met-net, word-met, met-word, counts-unfit, net-unfit}
 use Rattle.summary_place.specs.Slots.{slotsOf}
 use Rattle.summary_place.specs.declared.Slot.{Slot}
 use Rattle.summary.specs.Summary.{summaryOf, emptySummary, refusal, summed, madeNumbers, Answers, emptyAnswer, partFault, wordAnswer}

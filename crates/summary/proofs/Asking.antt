@@ -9,11 +9,11 @@ use lib.Dec.{eqb}
 use borrow.Author.Tests.{lt-leb, le-leb, leb-true, eqb-true, eq-eqb}
 use Rattle.ground.proofs.Tests.{and-true}
 use Rattle.net.specs.Net.{Net}
-use Rattle.net.specs.Given.{refuse, orElse, outside, markedFault}
-use Rattle.net.specs.declared.Fault.{Fault}
-use Rattle.net.specs.declared.Fault.the-variants.{Sound, Faulty}
-use Rattle.net.proofs.Chains.{or-sound, sound-or, sound-refuse}
-use Rattle.net.proofs.Refusals.{marked-met, met-marked, inside-is}
+use Rattle.refusals.specs.Given.{refuse, orElse, outside, markedFault}
+use Rattle.refusals.specs.declared.Fault.{Fault}
+use Rattle.refusals.specs.declared.Fault.the-variants.{Sound, Faulty}
+use Rattle.refusals.proofs.Chains.{or-sound, sound-or, sound-refuse}
+use Rattle.refusals.proofs.Refusals.{marked-met, met-marked, inside-is}
 use Rattle.summary_place.specs.Asked.{lowestNo, ends, Suffices}
 use Rattle.summary_place.specs.declared.Slot.{Slot}
 use Rattle.summary_place.proofs.Tests.{suffices-of, of-suffices}

@@ -12,13 +12,13 @@ use borrow.Author.Tests.{le-leb, leb-true, le-ltb, ltb-false}
 use Rattle.ground.specs.Limits.{countLimit, weightLimit, wordLimit}
 use Rattle.ground.proofs.Tests.{or-false, both-false, and-true, unlike-false, like-false}
 use Rattle.net.specs.Net.{Net}
-use Rattle.net.specs.Given.{refuse, outside, stretch, inside}
-use Rattle.net.specs.First.{NetFirst, WordFirst}
-use Rattle.net.specs.declared.Fault.{Fault}
-use Rattle.net.specs.declared.Fault.the-variants.{Sound}
-use Rattle.net.proofs.Chains.{refuse-sound, sound-refuse}
-use Rattle.net.proofs.Exactly as law
-use Rattle.net.proofs.Exactly.{Chain, Reads, tells-as, tells-test, tells-scan, reads-test, reads-both, reads-all, net-reads, marked-reads, word-reads, fault-is, exactly-refused, is-answered, is-allowed}
+use Rattle.refusals.specs.Given.{refuse, outside, stretch, inside}
+use Rattle.refusals.specs.First.{NetFirst, WordFirst}
+use Rattle.refusals.specs.declared.Fault.{Fault}
+use Rattle.refusals.specs.declared.Fault.the-variants.{Sound}
+use Rattle.refusals.proofs.Chains.{refuse-sound, sound-refuse}
+use Rattle.refusals.proofs.Exactly as law
+use Rattle.refusals.proofs.Exactly.{Chain, Reads, tells-as, tells-test, tells-scan, reads-test, reads-both, reads-all, net-reads, marked-reads, word-reads, fault-is, exactly-refused, is-answered, is-allowed}
 use Rattle.summary_place.specs.Slots.{nil, badAt}
 use Rattle.summary_place.proofs.Tests.{not-bad, well-not}
 use Rattle.summary.specs.Summary.{summaryOf, emptySummary, refusal, made, summed, Answers, emptyAnswer, partFault, wordAnswer, shapeFault, FormedAt, SlotsFormed, Count}

@@ -14,9 +14,8 @@ use borrow.Author.Tests.{lt-ltb, le-ltb}
 use Rattle.ground.specs.Limits.{countLimit, weightLimit, wordLimit}
 use Rattle.ground.proofs.Fill.{table-length, table-at}
 use Rattle.ground.proofs.Parts.{parts-eq, le-pos, neg-le}
-use Rattle.net.specs.Net.{Net}
-use Rattle.net.specs.Given.{Light}
-use Rattle.net.specs.declared.Fault.the-variants.{Sound}
+use Rattle.net.specs.Net.{Net, Light}
+use Rattle.refusals.specs.declared.Fault.the-variants.{Sound}
 use Rattle.summary_place.specs.Place.{letterAt}
 use Rattle.summary_place.specs.Slots.{nil, slotOf, slotAt, slotsOf, joined, joinedAll}
 use Rattle.summary_place.specs.Walk.{Well}

@@ -9,11 +9,11 @@ use mir.Val.{Fits}
 use borrow.Author.Tests.{lt-ltb, le-ltb, ltb-false, eq-eqb, ne-eqb}
 use Rattle.ground.specs.Limits.{wordLimit}
 use Rattle.ground.proofs.Tests.{or-false, both-false, unlike-false, like-false}
-use Rattle.net.specs.Given.{refuse, orElse, outside, unlike}
-use Rattle.net.specs.declared.Fault.{Fault}
-use Rattle.net.specs.declared.Fault.the-variants.{Sound, Faulty}
-use Rattle.net.proofs.Chains.{or-sound, sound-or, refuse-sound, sound-refuse}
-use Rattle.net.proofs.Refusals.{inside-of, inside-is}
+use Rattle.refusals.specs.Given.{refuse, orElse, outside, unlike}
+use Rattle.refusals.specs.declared.Fault.{Fault}
+use Rattle.refusals.specs.declared.Fault.the-variants.{Sound, Faulty}
+use Rattle.refusals.proofs.Chains.{or-sound, sound-or, refuse-sound, sound-refuse}
+use Rattle.refusals.proofs.Refusals.{inside-of, inside-is}
 use Rattle.summary.specs.Summary.{shapeFault, WellFormed, Count}
 use Rattle.summary.specs.Join.{laterFault, joinFault}
 use Rattle.summary.specs.Allowed.{JoinAllowed}

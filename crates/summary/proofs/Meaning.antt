@@ -16,11 +16,11 @@ use Rattle.ground.specs.Parts.{up}
 use Rattle.ground.specs.Lists.{most}
 use Rattle.ground.proofs.Fill.{table-length, table-at}
 use Rattle.ground.proofs.Parts.{parts-eq, up-sum, dn-sum}
-use Rattle.net.specs.Net.{Net, tokens}
-use Rattle.net.specs.Given.{stretch, inside, Light, Sized, Letters}
+use Rattle.net.specs.Net.{Net, tokens, Light, Sized}
 use Rattle.net.specs.Firing.{Fires, Within}
-use Rattle.net.specs.declared.Fault.the-variants.{Sound}
 use Rattle.net.proofs.Meaning.{within-stays}
+use Rattle.refusals.specs.Given.{stretch, inside, Letters}
+use Rattle.refusals.specs.declared.Fault.the-variants.{Sound}
 use Rattle.replay.specs.Entry.{Replayed, Allowed}
 use Rattle.replay.specs.declared.Replay.{Replay}
 use Rattle.replay.specs.declared.Replay.the-variants.{Fired}

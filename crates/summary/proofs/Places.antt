@@ -7,11 +7,11 @@ use native.Mathlib.Nat.{le-trans}
 use lib.ListN.{length}
 use lib.IntN.{ℤ, pos, _+ℤ_, +ℤ-assoc, +ℤ-idr}
 use Rattle.net.specs.Net.{Net, Pre, Post, Change, rise, capacity, Capped, tokens}
-use Rattle.net.specs.Given.{Letters}
 use Rattle.net.specs.Letter.{firedAt}
 use Rattle.net.specs.Firing.{Enabled, Gives, Fires, nothing, letter, Within}
 use Rattle.net.proofs.Meaning.{keeps-rise, gives-plain, firing-within}
 use Rattle.net.proofs.Judged.{gives-fired}
+use Rattle.refusals.specs.Given.{Letters}
 use Rattle.summary_place.specs.Place.{letterAt, change}
 use Rattle.summary_place.proofs.Words.{Rising}
 use Rattle.summary_place.proofs.Firing.{FiresAt, at-none, at-more, more-at}

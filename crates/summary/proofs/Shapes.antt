@@ -8,10 +8,10 @@ use lib.ListN.{getD}
 use lib.Dec.{ltb}
 use borrow.Author.Tests.{lt-ltb, le-ltb, ltb-false}
 use Rattle.ground.specs.Limits.{countLimit, weightLimit, wordLimit}
-use Rattle.net.specs.Given.{refuse}
-use Rattle.net.specs.declared.Fault.{Fault}
-use Rattle.net.specs.declared.Fault.the-variants.{Sound, Faulty}
-use Rattle.net.proofs.Chains.{or-sound, sound-or, refuse-sound, sound-refuse}
+use Rattle.refusals.specs.Given.{refuse}
+use Rattle.refusals.specs.declared.Fault.{Fault}
+use Rattle.refusals.specs.declared.Fault.the-variants.{Sound, Faulty}
+use Rattle.refusals.proofs.Chains.{or-sound, sound-or, refuse-sound, sound-refuse}
 use Rattle.summary_place.specs.Slots.{nil}
 use Rattle.summary_place.specs.Walk.{slotLimit, Well, Wells}
 use Rattle.summary_place.proofs.Tests.{of-wells, wells}

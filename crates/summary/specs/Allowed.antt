@@ -4,9 +4,9 @@ use mathlib.Core.Path.{_≡_}
 use mathlib.Core.List.{List}
 use lib.ListN.{length}
 use Rattle.ground.specs.Limits.{countLimit, wordLimit}
-use Rattle.net.specs.Net.{Net}
-use Rattle.net.specs.Given.{stretch, Sized, Fine, Letters}
-use Rattle.net.specs.First.{First, Given, GivenAt, NetFirst, MarkedFirst, WordFirst}
+use Rattle.net.specs.Net.{Net, Sized}
+use Rattle.refusals.specs.Given.{stretch, Fine, Letters}
+use Rattle.refusals.specs.First.{First, Given, GivenAt, NetFirst, MarkedFirst, WordFirst}
 use Rattle.summary.specs.Summary.{FormedAt, SlotsFormed, WellFormed, Count}
 use Rattle.summary.specs.declared.Summary.{Summary}
 

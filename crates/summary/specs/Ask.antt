@@ -7,9 +7,9 @@ use mathlib.Core.List.{List, [], _∷_}
 use lib.ListN.{length}
 use lib.Dec.{eqb, leb}
 use Rattle.net.specs.Net.{Net, capacity, tokens}
-use Rattle.net.specs.Given.{refuse, orElse, outside, markedFault}
-use Rattle.net.specs.declared.Fault.{Fault}
-use Rattle.net.specs.declared.Fault.the-variants.{Sound, Faulty}
+use Rattle.refusals.specs.Given.{refuse, orElse, outside, markedFault}
+use Rattle.refusals.specs.declared.Fault.{Fault}
+use Rattle.refusals.specs.declared.Fault.the-variants.{Sound, Faulty}
 use Rattle.summary_place.specs.Place.{letterAt, need, prefixClimb}
 use Rattle.summary_place.specs.Asked.{lowestNo, ends, SufficesAt}
 use Rattle.summary_place.specs.declared.Slot.{Slot}

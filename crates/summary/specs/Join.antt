@@ -3,8 +3,8 @@ use Prim.Native.Nat.{ℕ, _+_}
 use mathlib.Core.Bool.{_||_}
 use lib.Dec.{ltb}
 use Rattle.ground.specs.Limits.{wordLimit}
-use Rattle.net.specs.Given.{refuse, orElse, outside, unlike}
-use Rattle.net.specs.declared.Fault.{Fault}
+use Rattle.refusals.specs.Given.{refuse, orElse, outside, unlike}
+use Rattle.refusals.specs.declared.Fault.{Fault}
 use Rattle.summary_place.specs.Slots.{joinedAll}
 use Rattle.summary.specs.Summary.{summed, shapeFault}
 use Rattle.summary.specs.declared.Summary.{Summary}

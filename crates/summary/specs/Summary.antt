@@ -9,9 +9,9 @@ use lib.IntN.{pos, negℤ}
 use lib.Signed.{_≤ℤ_}
 use Rattle.ground.specs.Limits.{countLimit, weightLimit, wordLimit}
 use Rattle.net.specs.Net.{Net}
-use Rattle.net.specs.Given.{refuse, orElse, outside, netFault, wordFault}
-use Rattle.net.specs.declared.Fault.{Fault}
-use Rattle.net.specs.declared.Fault.the-variants.{Sound, Faulty}
+use Rattle.refusals.specs.Given.{refuse, orElse, outside, netFault, wordFault}
+use Rattle.refusals.specs.declared.Fault.{Fault}
+use Rattle.refusals.specs.declared.Fault.the-variants.{Sound, Faulty}
 use Rattle.summary_place.specs.Slots.{nil, slotsOf, badSlot}
 use Rattle.summary_place.specs.declared.Slot.{Slot}
 use Rattle.summary.specs.declared.Summary.{Summary}

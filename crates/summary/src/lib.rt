@@ -4,7 +4,7 @@ use ground::COUNT_LIMIT;
 use ground::WEIGHT_LIMIT;
 use ground::WORD_LIMIT;
 use ground::Weight;
-use net::Fault;
+use refusals::Fault;
 use summary_place::Slot;
 ghost use mathlib.Core.Path.{_≡_};
 ghost use mathlib.Core.Bool.{true, _&&_};
@@ -13,7 +13,7 @@ ghost use lib.Dec.{eqb};
 ghost use lib.ListN.{length};
 ghost use Rattle.ground.specs.Limits.{countLimit, wordLimit};
 ghost use Rattle.net.specs.Net.{netOf};
-ghost use Rattle.net.specs.Given.{stretch, inside};
+ghost use Rattle.refusals.specs.Given.{stretch, inside};
 ghost use Rattle.summary_place.specs.Walk.{slotLimit, Wells};
 ghost use Rattle.summary.specs.Summary.{emptySummary, refusal, Answers, emptyAnswer, partFault, wordAnswer, shapeFault};
 ghost use Rattle.summary.specs.Join.{laterFault, joinFault, joinAnswer};
@@ -73,7 +73,7 @@ fn refuse_with(number: u8, at: usize) -> Summed
 pub fn empty_summary(places: usize) -> Summed
     ensures { λ r. ⌜ Answers (emptyAnswer places) r ⌝ }
 {
-    if net::is_outside(places) {
+    if refusals::is_outside(places) {
         return refuse_with(1, 0);
     }
     let summary = no_letters(places);
@@ -95,10 +95,10 @@ fn find_fault(
 ) -> Fault
     ensures { λ r. ⌜ r ≡ partFault (netOf places transitions (now (pre .entry)) (now (post .entry)) (now (caps .entry))) (now (part .entry)) within ⌝ }
 {
-    let found = net::net_fault(places, transitions, pre, post, caps, within);
+    let found = refusals::net_fault(places, transitions, pre, post, caps, within);
     match found {
         Fault::Faulty(number, at) => Fault::Faulty(number, at),
-        Fault::Sound => net::word_fault(transitions, part),
+        Fault::Sound => refusals::word_fault(transitions, part),
     }
 }
 
@@ -222,10 +222,10 @@ fn join_fault(a: Summary, b: Summary) -> Fault
     let first = a.places;
     let second = b.places;
     let letters = a.letters;
-    if net::is_outside(first) {
+    if refusals::is_outside(first) {
         return Fault::Faulty(1, 0);
     }
-    if net::is_outside(second) {
+    if refusals::is_outside(second) {
         return Fault::Faulty(1, 0);
     }
     if first != second {
@@ -280,11 +280,11 @@ fn ask_fault(
     ensures { λ r. ⌜ r ≡ askFault (netOf places transitions (now (pre .entry)) (now (post .entry)) (now (caps .entry))) (now (marking .entry)) summary roomy ⌝ }
 {
     let count = summary.places;
-    if net::is_outside(count) {
+    if refusals::is_outside(count) {
         return Fault::Faulty(1, 0);
     }
     let fits = same_count(roomy, count, places);
-    let found = net::marked_fault(places, transitions, pre, post, caps, marking, fits);
+    let found = refusals::marked_fault(places, transitions, pre, post, caps, marking, fits);
     match found {
         Fault::Faulty(number, at) => Fault::Faulty(number, at),
         Fault::Sound => shape_fault(summary),

@@ -14,8 +14,8 @@ use Rattle.ground.specs.Limits.{countLimit, weightLimit}
 use Rattle.ground.specs.Lists.{most}
 use Rattle.ground.proofs.Most.{most-none}
 use Rattle.ground.proofs.Fill.{Filled, table-length, table-at}
-use Rattle.net.specs.Net.{Net, Pre, Post, riseOf}
-use Rattle.net.specs.Given.{Light, Letters}
+use Rattle.net.specs.Net.{Net, Pre, Post, riseOf, Light}
+use Rattle.refusals.specs.Given.{Letters}
 use Rattle.summary_place.specs.Place.{Move, letterAt}
 use Rattle.summary_place.specs.Slots.{nil, slotOf, slotAt, slotsOf}
 use Rattle.summary_place.specs.Walk.{step}

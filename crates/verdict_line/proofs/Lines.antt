@@ -17,8 +17,8 @@ use Rattle.net.specs.Net.{Net}
 use Rattle.net.specs.Firing.{Names, causePlace}
 use Rattle.net.specs.declared.Cause.{Cause}
 use Rattle.net.specs.declared.Cause.the-variants.{Short, Over}
-use Rattle.net.specs.declared.Fault.{Fault}
-use Rattle.net.specs.declared.Fault.the-variants.{Sound, Faulty}
+use Rattle.refusals.specs.declared.Fault.{Fault}
+use Rattle.refusals.specs.declared.Fault.the-variants.{Sound, Faulty}
 use Rattle.replay.specs.Replay.{playFrom}
 use Rattle.replay.specs.Entry.{replayFault, replayOf, answered, Replayed}
 use Rattle.replay.specs.declared.Replay.{Replay}

@@ -3,7 +3,7 @@ use Prim.Native.Nat.{ℕ}
 use mathlib.Core.Path.{_≡_, refl, sym, ap, _∙_}
 use mathlib.Core.List.{List, [], _∷_, _++_}
 use Rattle.ground.specs.Lists.{first, tally, mapAt, table}
-use Rattle.net.specs.Given.{countsFault, netFault, markingFault, startFault, markedFault, wordFault}
+use Rattle.refusals.specs.Given.{countsFault, netFault, markingFault, startFault, markedFault, wordFault}
 use Rattle.file_digits.specs.Frame.{lineFeed, valueOf, isDigit, allDigits, digitOf, digitsOf, byteAt, bytesFrom, wordsFrom, four, fours}
 use Rattle.file_line.specs.declared.Reading.{Reading}
 use Rattle.file_line.specs.declared.Took.the-variants.{Next}

@@ -11,11 +11,11 @@ use lib.IntN.{ℤ, pos}
 use borrow.Author.Tests.{lt-leb, leb-false, eq-eqb, eqb-true}
 use Rattle.ground.proofs.Scan.{first-passes}
 use Rattle.net.specs.Net.{Net}
-use Rattle.net.specs.Given.{refuse, orElse, netFault, markedFault}
-use Rattle.net.specs.declared.Fault.the-variants.{Sound}
-use Rattle.net.proofs.Chains.{or-sound, sound-or, refuse-sound, sound-refuse}
-use Rattle.net.proofs.Refusals.{net-met, met-net, marked-met, met-marked}
-use Rattle.net.proofs.Exactly.{Chain, reads-both, reads-test, reads-all, tells-test, net-reads, marked-reads}
+use Rattle.refusals.specs.Given.{refuse, orElse, netFault, markedFault}
+use Rattle.refusals.specs.declared.Fault.the-variants.{Sound}
+use Rattle.refusals.proofs.Chains.{or-sound, sound-or, refuse-sound, sound-refuse}
+use Rattle.refusals.proofs.Refusals.{net-met, met-net, marked-met, met-marked}
+use Rattle.refusals.proofs.Exactly.{Chain, reads-both, reads-test, reads-all, tells-test, net-reads, marked-reads}
 use Rattle.weighting.specs.Weighting.{entry}
 use Rattle.weighting.specs.Tests.{picks, lowestEntry, allZero, weightingFault, boundFault}
 use Rattle.weighting.specs.Allowed.{SomeEntry, Allowed, Refusal, BoundAllowed, BoundRefusal}

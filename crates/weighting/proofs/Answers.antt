@@ -8,9 +8,9 @@ use lib.IntN.{ℤ}
 use borrow.Author.Tests.{lt-ltb, le-ltb, le-leb, lt-leb}
 use Rattle.ground.specs.Parts.{up}
 use Rattle.net.specs.Net.{Net}
-use Rattle.net.specs.Given.{refuse}
-use Rattle.net.specs.declared.Fault.{Fault}
-use Rattle.net.specs.declared.Fault.the-variants.{Sound, Faulty}
+use Rattle.refusals.specs.Given.{refuse}
+use Rattle.refusals.specs.declared.Fault.{Fault}
+use Rattle.refusals.specs.declared.Fault.the-variants.{Sound, Faulty}
 use Rattle.weighting.specs.Weighting.{entry, weight}
 use Rattle.weighting.specs.Tests.{lowestTransition, lowestPlace, lowestEntry, allZero, weightingFault}
 use Rattle.weighting.specs.Walk.{total, held}

@@ -9,9 +9,9 @@ use native.Mathlib.Omega.{arith}
 use lib.Dec.{ltb}
 use lib.IntN.{ℤ}
 use Rattle.net.specs.Net.{Net}
-use Rattle.net.specs.declared.Fault.{Fault}
-use Rattle.net.specs.declared.Fault.the-variants.{Sound, Faulty}
-use Rattle.net.proofs.Exactly.{Answers, answers-of, exactly-refused, is-answered, is-allowed}
+use Rattle.refusals.specs.declared.Fault.{Fault}
+use Rattle.refusals.specs.declared.Fault.the-variants.{Sound, Faulty}
+use Rattle.refusals.proofs.Exactly.{Answers, answers-of, exactly-refused, is-answered, is-allowed}
 use Rattle.weighting.specs.Tests.{lowestTransition, lowestPlace, hasNegative, weightingFault, boundFault}
 use Rattle.weighting.specs.Allowed.{Allowed, Refusal, BoundAllowed, BoundRefusal}
 use Rattle.weighting.specs.Place.{placeAnswer, placeOf, placeNumbers}

@@ -18,9 +18,9 @@ use Rattle.ground.proofs.Tests.{never}
 use Rattle.ground.proofs.Parts.{parts-eq, le-pos, pos-lt, neg-le}
 use Rattle.net.specs.Net.{Net, Change, tokens}
 use Rattle.net.specs.Firing.{Gives, Fires, nothing, letter, Reachable}
-use Rattle.net.specs.declared.Fault.{Fault}
-use Rattle.net.specs.declared.Fault.the-variants.{Sound, Faulty}
 use Rattle.net.proofs.Meaning.{kept}
+use Rattle.refusals.specs.declared.Fault.{Fault}
+use Rattle.refusals.specs.declared.Fault.the-variants.{Sound, Faulty}
 use Rattle.weighting.specs.Weighting.{sum, entry, placeSum, PlaceInvariant, transitionSum, TransitionInvariant, NoNegative, weight, count, Lowest}
 use Rattle.weighting.specs.Tests.{lowestTransition, lowestPlace, lowestEntry, hasNegative}
 use Rattle.weighting.specs.Allowed.{Allowed}

@@ -7,8 +7,7 @@ use native.Mathlib.Omega.{arith}
 use lib.ListN.{length, getD}
 use lib.IntN.{ℤ, pos, _-ℤ_, _*ℤ_, *ℤ-comm}
 use Rattle.ground.specs.Lists.{first}
-use Rattle.net.specs.Net.{Net, Change}
-use Rattle.net.specs.Given.{Sized}
+use Rattle.net.specs.Net.{Net, Change, Sized}
 use Rattle.net.proofs.Rows.{pre-end}
 use Rattle.weighting.specs.Weighting.{sum, entry, placeSum, transitionSum}
 use Rattle.weighting.specs.Tests.{isZero, lowestTransition, lowestPlace}

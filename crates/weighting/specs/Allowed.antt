@@ -4,9 +4,9 @@ use mathlib.Core.Path.{_≡_}
 use mathlib.Core.List.{List}
 use lib.ListN.{length}
 use lib.IntN.{ℤ, pos}
-use Rattle.net.specs.Net.{Net}
-use Rattle.net.specs.Given.{Sized, Fine}
-use Rattle.net.specs.First.{First, Given, NetFirst, MarkedFirst}
+use Rattle.net.specs.Net.{Net, Sized}
+use Rattle.refusals.specs.Given.{Fine}
+use Rattle.refusals.specs.First.{First, Given, NetFirst, MarkedFirst}
 use Rattle.weighting.specs.Weighting.{entry}
 
 -- 8 unless: not "a weighting all zero"

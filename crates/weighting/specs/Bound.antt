@@ -7,8 +7,8 @@ use lib.IntN.{ℤ, pos, _*ℤ_}
 use lib.Signed.{_≤ℤ_, _<ℤ_}
 use Rattle.ground.specs.Parts.{up}
 use Rattle.net.specs.Net.{Net}
-use Rattle.net.specs.declared.Fault.{Fault}
-use Rattle.net.specs.declared.Fault.the-variants.{Sound, Faulty}
+use Rattle.refusals.specs.declared.Fault.{Fault}
+use Rattle.refusals.specs.declared.Fault.the-variants.{Sound, Faulty}
 use Rattle.weighting.specs.Weighting.{entry, weight, PlaceInvariant, NoNegative}
 use Rattle.weighting.specs.Tests.{lowestTransition, hasNegative, boundFault}
 use Rattle.weighting.specs.declared.NoBoundCause.{NoBoundCause}

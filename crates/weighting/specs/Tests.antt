@@ -7,8 +7,8 @@ use lib.Dec.{ltb, leb, eqb}
 use lib.IntN.{ℤ, pos, negsuc}
 use Rattle.ground.specs.Lists.{first}
 use Rattle.net.specs.Net.{Net}
-use Rattle.net.specs.Given.{refuse, orElse, netFault, markedFault}
-use Rattle.net.specs.declared.Fault.{Fault}
+use Rattle.refusals.specs.Given.{refuse, orElse, netFault, markedFault}
+use Rattle.refusals.specs.declared.Fault.{Fault}
 use Rattle.weighting.specs.Weighting.{entry, placeSum, transitionSum}
 
 abbrev pub isZero : ℤ → Bool

@@ -3,15 +3,15 @@
 use ground::Weight;
 use ground::down_entry;
 use ground::up_entry;
-use net::Fault;
+use refusals::Fault;
 ghost use mathlib.Core.Path.{_≡_};
 ghost use mathlib.Core.Bool.{not};
 ghost use Prim.Native.Nat.{_+_, _*_, _≤_, _<_};
 ghost use lib.ListN.{length};
 ghost use Rattle.ground.specs.Limits.{countLimit, entryLimit};
 ghost use Rattle.ground.specs.Lists.{first};
-ghost use Rattle.net.specs.Net.{netOf};
-ghost use Rattle.net.specs.Given.{Sized, refuse};
+ghost use Rattle.net.specs.Net.{netOf, Sized};
+ghost use Rattle.refusals.specs.Given.{refuse};
 ghost use Rattle.weighting.specs.Tests.{isZero, picks, lowestEntry, lowestTransition, lowestPlace, allZero, weightingFault, boundFault};
 ghost use Rattle.weighting.specs.Walk.{productLimit, share, shareLimit, total, signed, lineSum, lineFails, Line, Lines, held};
 ghost use Rattle.weighting.specs.Place.{placeOf, placeNumbers};
@@ -210,7 +210,7 @@ fn weighting_fault(
     ensures { λ r. ⌜ r ≡ weightingFault (netOf places transitions (now (pre .entry)) (now (post .entry)) (now (caps .entry))) entries (now (y .entry)) ⌝ }
 {
     let fits = y.len() == entries;
-    let found = net::net_fault(places, transitions, pre, post, caps, fits);
+    let found = refusals::net_fault(places, transitions, pre, post, caps, fits);
     match found {
         Fault::Faulty(number, at) => Fault::Faulty(number, at),
         Fault::Sound => zero_fault(y),
@@ -302,7 +302,7 @@ fn bound_fault(
     ensures { λ r. ⌜ r ≡ boundFault (netOf places transitions (now (pre .entry)) (now (post .entry)) (now (caps .entry))) (now (initial .entry)) (now (y .entry)) place ⌝ }
 {
     let fits = y.len() == places;
-    let found = net::marked_fault(places, transitions, pre, post, caps, initial, fits);
+    let found = refusals::marked_fault(places, transitions, pre, post, caps, initial, fits);
     match found {
         Fault::Faulty(number, at) => Fault::Faulty(number, at),
         Fault::Sound => {

@@ -5,7 +5,7 @@ use Rattle.list_check.proofs.Refusals.{accepted-lent}
 use Rattle.closed.proofs.Deads.{stall-answers}
 use native.Mathlib.Omega.{arith}
 use mathlib.Core.Bool.{true}
-use Rattle.net.specs.declared.Fault.the-variants.{Sound}
+use Rattle.refusals.specs.declared.Fault.the-variants.{Sound}
 use borrow.Author.Needs.{needs}
 use Rattle.closed.proofs.closed_stall.Statement.{statement}
 use Rattle.closed.proofs.closed_stall.Tie as tie

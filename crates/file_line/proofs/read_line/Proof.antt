@@ -1,6 +1,6 @@
 use denote.Ref.{now}
 use mathlib.Core.Path.{_≡_, sym, _∙_, ap}
-use Rattle.net.specs.declared.Fault.the-variants.{Sound}
+use Rattle.refusals.specs.declared.Fault.the-variants.{Sound}
 use Rattle.file_line.specs.declared.Took.the-variants.{Next}
 use Rattle.file_line.specs.Read.{Rooms, rooms}
 use Rattle.file_line.proofs.Judging.{judge-caps}

@@ -2,7 +2,7 @@ use native.Mathlib.Omega.{arith}
 use denote.Ref.{now}
 use Prim.Native.Nat.{_≤_, _-_, _%_}
 use lib.ListN.{length, getD}
-use Rattle.net.specs.Given.{tokenBad}
+use Rattle.refusals.specs.Given.{tokenBad}
 use Rattle.ground.proofs.Scan.{Below, scans}
 use Rattle.lists.proofs.Entries.{place-below}
 use borrow.Author.Needs.{needs}

@@ -1,7 +1,7 @@
 use Prim.Native.Nat.{ℕ}
 use mathlib.Core.Path.{ap}
 use native.Mathlib.Omega.{arith}
-use Rattle.net.specs.Given.{unlike}
+use Rattle.refusals.specs.Given.{unlike}
 use Rattle.lists.proofs.is_unlike.Statement.{statement}
 use Rattle.lists.proofs.is_unlike.Tie as tie
 

@@ -1,7 +1,7 @@
 use Prim.Native.Nat.{_≤_, _-_}
 use lib.ListN.{length, getD}
 use Rattle.ground.proofs.Scan.{Below, scans}
-use Rattle.net.specs.Given.{unlike}
+use Rattle.refusals.specs.Given.{unlike}
 use Rattle.lists.proofs.Somes.{somes}
 use borrow.Author.Needs.{needs}
 use Rattle.lists.proofs.same_marking.Statement.{statement}

@@ -4,9 +4,8 @@ use lib.Dec.{eqb}
 use lib.ListN.{length}
 use denote.Ref.{now}
 use native.Mathlib.Omega.{arith}
-use Rattle.net.specs.Net.{Net, netOf}
-use Rattle.net.specs.Given.{Light}
-use Rattle.net.specs.declared.Fault.the-variants.{Sound}
+use Rattle.net.specs.Net.{Net, netOf, Light}
+use Rattle.refusals.specs.declared.Fault.the-variants.{Sound}
 use Rattle.replay.proofs.Answers.{replayeds, Sane, sane-room, room-long}
 use borrow.Author.Needs.{needs}
 use Rattle.replay.proofs.replay_part.Statement.{statement}

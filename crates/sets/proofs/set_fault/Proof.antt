@@ -1,4 +1,4 @@
-use Rattle.net.proofs.Chains.{chains, refused, passed}
+use Rattle.refusals.proofs.Chains.{chains, refused, passed}
 use Rattle.sets.specs.Answer.{setFault}
 use Rattle.sets.proofs.Touches.{places-found}
 use borrow.Author.Needs.{needs}

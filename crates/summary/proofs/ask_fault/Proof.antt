@@ -1,4 +1,4 @@
-use Rattle.net.proofs.Chains.{chains}
+use Rattle.refusals.proofs.Chains.{chains}
 use Rattle.summary.proofs.Asking.{ask-faults}
 use borrow.Author.Needs.{needs}
 use Rattle.summary.proofs.ask_fault.Statement.{statement}

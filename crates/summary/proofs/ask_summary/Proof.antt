@@ -3,7 +3,7 @@ use mathlib.Core.Path.{_≡_, refl, sym, _∙_}
 use lib.ListN.{length}
 use lib.Dec.{eqb}
 use Rattle.net.specs.Net.{Net, netOf}
-use Rattle.net.specs.declared.Fault.the-variants.{Sound}
+use Rattle.refusals.specs.declared.Fault.the-variants.{Sound}
 use Rattle.summary.proofs.Shapes.{shape-wells}
 use Rattle.summary.specs.Allowed.{AskAllowed}
 use Rattle.summary.proofs.Formed.{of-formed}

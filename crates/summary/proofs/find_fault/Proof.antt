@@ -1,4 +1,4 @@
-use Rattle.net.proofs.Chains.{chains}
+use Rattle.refusals.proofs.Chains.{chains}
 use Rattle.summary.specs.Summary.{partFault}
 use borrow.Author.Needs.{needs}
 use Rattle.summary.proofs.find_fault.Statement.{statement}

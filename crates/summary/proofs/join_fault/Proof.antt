@@ -1,4 +1,4 @@
-use Rattle.net.proofs.Chains.{chains}
+use Rattle.refusals.proofs.Chains.{chains}
 use Rattle.summary.proofs.Shapes.{shape-few}
 use Rattle.summary.proofs.Joining.{join-faults}
 use borrow.Author.Needs.{needs}

@@ -1,7 +1,7 @@
 use Prim.Native.Nat.{_+_}
 use mathlib.Core.Path.{_≡_, sym, _∙_}
 use native.Mathlib.Omega.{arith}
-use Rattle.net.specs.declared.Fault.the-variants.{Sound}
+use Rattle.refusals.specs.declared.Fault.the-variants.{Sound}
 use Rattle.summary.specs.Join.{joinSummary, joinFault}
 use Rattle.summary.specs.Allowed.{JoinAllowed}
 use Rattle.summary.proofs.Answers.{answers-refused, answers-done}

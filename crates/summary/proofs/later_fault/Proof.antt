@@ -1,5 +1,5 @@
 use Rattle.ground.proofs.Tests.{tests}
-use Rattle.net.proofs.Chains.{chains, refused, passed}
+use Rattle.refusals.proofs.Chains.{chains, refused, passed}
 use Rattle.summary.specs.Join.{laterFault}
 use Rattle.summary.proofs.Joining.{both-fit}
 use borrow.Author.Needs.{needs}

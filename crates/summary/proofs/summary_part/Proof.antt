@@ -1,9 +1,8 @@
 use denote.Ref.{now}
 use mathlib.Core.Path.{_≡_, sym, _∙_}
 use native.Mathlib.Omega.{arith}
-use Rattle.net.specs.Net.{Net, netOf}
-use Rattle.net.specs.Given.{Light}
-use Rattle.net.specs.declared.Fault.the-variants.{Sound}
+use Rattle.net.specs.Net.{Net, netOf, Light}
+use Rattle.refusals.specs.declared.Fault.the-variants.{Sound}
 use Rattle.summary.specs.Summary.{summaryOf, partFault}
 use Rattle.summary.proofs.Answers.{Sane, sane-of, answers-refused, answers-done, word-made}
 use borrow.Author.Needs.{needs}

@@ -5,8 +5,7 @@ use denote.Ref.{now}
 use lib.ListN.{length}
 use Rattle.ground.specs.Limits.{countLimit}
 use Rattle.ground.proofs.Fill.{Filled, fills, fill-next}
-use Rattle.net.specs.Given.{Sized}
-use Rattle.net.specs.Net.{netOf}
+use Rattle.net.specs.Net.{netOf, Sized}
 use Rattle.summary_place.specs.Place.{letterAt}
 use Rattle.summary_place.specs.Slots.{nil, slotOf}
 use Rattle.summary_place.proofs.Running.{slots-end}

@@ -1,5 +1,5 @@
 use Rattle.ground.proofs.Tests.{tests}
-use Rattle.net.proofs.Chains.{chains, refused, passed}
+use Rattle.refusals.proofs.Chains.{chains, refused, passed}
 use borrow.Author.Needs.{needs}
 use Rattle.weighting.proofs.bound_fault.Statement.{statement}
 use Rattle.weighting.proofs.bound_fault.Tie as tie

@@ -1,4 +1,4 @@
-use Rattle.net.proofs.Chains.{chains}
+use Rattle.refusals.proofs.Chains.{chains}
 use borrow.Author.Needs.{needs}
 use Rattle.weighting.proofs.weighting_fault.Statement.{statement}
 use Rattle.weighting.proofs.weighting_fault.Tie as tie

@@ -1,0 +1,302 @@
+-- Laws of the shared refusals: which one is given, and what holds where none is. Assumes nothing.
+use Prim.Native.Nat.{ℕ, _*_, _≤_, _<_, zero-le}
+use mathlib.Core.Path.{_≡_, refl, sym, _∙_}
+use mathlib.Core.Bool.{Bool, true, false, not, _&&_, _||_, and-false}
+use mathlib.Core.List.{List}
+use native.Mathlib.Omega.{arith}
+use native.Mathlib.Nat.{mul-le-mul-right}
+use native.Mathlib.Decide.{decLt}
+use lib.ListN.{length, getD, List·getD-eq-default}
+use lib.Dec.{ltb, leb, eqb}
+use mir.Syntax.{w64}
+use mir.Val.{Fits}
+use borrow.Author.Tests.{lt-ltb, le-ltb, ltb-false, lt-leb, leb-false, eq-eqb, ne-eqb, eqb-true, not-true, not-false}
+use Rattle.ground.specs.Limits.{countLimit, tokenLimit, wordLimit}
+use Rattle.ground.proofs.Tests.{never, or-false, both-false, and-true, unlike-false, like-false}
+use Rattle.ground.proofs.Scan.{first-none, first-below}
+use Rattle.net.specs.Net.{Net, Sized}
+use Rattle.refusals.specs.Given.{refuse, orElse, outside, unlike, misfit, sizedNet, tokenBad, badToken, countsFault, netFault, markingFault, startFault, markedFault, badLetter, wordFault, Fine, Letters}
+use Rattle.refusals.specs.declared.Fault.{Fault}
+use Rattle.refusals.specs.declared.Fault.the-variants.{Sound, Faulty}
+use Rattle.refusals.proofs.Chains.{or-sound, sound-or, refuse-sound, sound-refuse, chain-first, chain-next}
+
+pub cells-fit : (t p : ℕ) → p ≤ countLimit → t ≤ countLimit → Fits w64 (t * p)
+cells-fit t p h l = record { fits = omega (arith, mul-le-mul-right p l) }
+
+pub inside-of : (n : ℕ) → outside n ≡ false → (1 ≤ n) × (n ≤ countLimit)
+inside-of n e = let a = or-false (ltb n 1) (ltb countLimit n) e in (ltb-false n 1 (a .0), ltb-false countLimit n (a .1))
+
+pub few-of : (n : ℕ) (r : Bool) → r ≡ outside n → r ≡ false → n ≤ countLimit
+few-of n r e q = inside-of n (sym e ∙ q) .1
+
+-- which refusal of counts and lengths: a, b, d are the tests' answers
+module _ (net : Net) (fits : Bool) (a : Bool) (ea : a ≡ outside (net .places)) where
+  pub counts-places : a ≡ true → Faulty 1 0 ≡ countsFault net fits
+  unfolding countsFault
+  counts-places q = rw (sym ea ∙ q)
+
+  module _ (b : Bool) (qa : a ≡ false) (eb : b ≡ outside (net .transitions)) where
+    pub counts-transitions : b ≡ true → Faulty 1 0 ≡ countsFault net fits
+    unfolding countsFault
+    counts-transitions q = rw (sym ea ∙ qa, sym eb ∙ q)
+
+    module _ (d : Bool) (qb : b ≡ false) (ed : d ≡ misfit net) where
+      pub counts-lengths : d ≡ true → Faulty 2 0 ≡ countsFault net fits
+      unfolding countsFault
+      counts-lengths q = rw (sym ea ∙ qa, sym eb ∙ qb, sym ed ∙ q)
+
+      pub counts-others : d ≡ false → fits ≡ false → Faulty 2 0 ≡ countsFault net fits
+      unfolding countsFault
+      counts-others q h = rw (sym ea ∙ qa, sym eb ∙ qb, sym ed ∙ q, h)
+
+      pub counts-none : d ≡ false → fits ≡ true → Sound ≡ countsFault net fits
+      unfolding countsFault
+      counts-none q h = rw (sym ea ∙ qa, sym eb ∙ qb, sym ed ∙ q, h)
+
+pub ruleset counts-faults = (few-of, counts-places, counts-transitions, counts-lengths, counts-others, counts-none)
+
+-- which refusal of a marking
+module _ (caps m : List ℕ) (p : ℕ) (e : p ≡ badToken caps m) where
+  pub marking-bad : p < length m → Faulty 3 p ≡ markingFault caps m
+  unfolding markingFault
+  marking-bad h = rw (← e, lt-ltb p (length m) h)
+
+  pub marking-fine : length m ≤ p → Sound ≡ markingFault caps m
+  unfolding markingFault
+  marking-fine h = rw (← e, le-ltb p (length m) h)
+
+pub ruleset marking-faults = (marking-bad, marking-fine)
+
+-- what holds where nothing is refused, a record for each chain, so that a demand more is a field more
+pub record CountsMet (net : Net) (fits : Bool) : Type 0 where
+  pub sized : Sized net
+  pub fitting : fits ≡ true
+
+pub record NetMet (net : Net) (fits : Bool) : Type 0 where
+  pub sized : Sized net
+  pub fitting : fits ≡ true
+
+pub record StartMet (net : Net) (initial : List ℕ) (fits : Bool) : Type 0 where
+  pub sized : Sized net
+  pub marked : length initial ≡ net .places
+  pub fitting : fits ≡ true
+  pub fine : Fine (net .caps) initial
+
+pub record MarkedMet (net : Net) (initial : List ℕ) (fits : Bool) : Type 0 where
+  pub sized : Sized net
+  pub marked : length initial ≡ net .places
+  pub fitting : fits ≡ true
+  pub fine : Fine (net .caps) initial
+
+pub record WordMet (n : ℕ) (w : List ℕ) : Type 0 where
+  pub short : length w ≤ wordLimit
+  pub letters : Letters n w
+
+-- the tests of a sized net
+sized-of : (net : Net) → (outside (net .places) || outside (net .transitions)) ≡ false → misfit net ≡ false → Sized net
+sized-of net c l =
+    let o = or-false (outside (net .places)) (outside (net .transitions)) c in
+    let x = or-false (unlike (length (net .pre)) (net .transitions * net .places)) _ l in
+    let y = or-false (unlike (length (net .post)) (net .transitions * net .places)) _ (x .1) in
+    record {
+      some-places = inside-of (net .places) (o .0) .0;
+      few-places = inside-of (net .places) (o .0) .1;
+      some-transitions = inside-of (net .transitions) (o .1) .0;
+      few-transitions = inside-of (net .transitions) (o .1) .1;
+      pres = unlike-false _ _ (x .0);
+      posts = unlike-false _ _ (y .0);
+      capped = unlike-false _ _ (y .1);
+    }
+
+-- the test of `Sized` as the code comes to it: a, b, d are the tests' answers
+module _ (net : Net) (a : Bool) (ea : a ≡ outside (net .places)) where
+  pub sized-places : a ≡ true → false ≡ sizedNet net
+  sized-places q = rw (sym ea ∙ q)
+
+  module _ (b : Bool) (qa : a ≡ false) (eb : b ≡ outside (net .transitions)) where
+    pub sized-transitions : b ≡ true → false ≡ sizedNet net
+    sized-transitions q = rw (sym ea ∙ qa, sym eb ∙ q)
+
+    pub sized-lengths : (d : Bool) → b ≡ false → d ≡ misfit net → not d ≡ sizedNet net
+    sized-lengths d q ed = rw (sym ea ∙ qa, sym eb ∙ q, ed)
+
+pub ruleset sized-tests = (sized-places, sized-transitions, sized-lengths)
+
+pub sized-true : (net : Net) → sizedNet net ≡ true → Sized net
+sized-true net e =
+    let a = and-true (not (outside (net .places) || outside (net .transitions))) (not (misfit net)) e in
+    sized-of net (not-true _ (a .0)) (not-true _ (a .1))
+
+pub counts-met : (net : Net) (fits : Bool) → countsFault net fits ≡ Sound → CountsMet net fits
+unfolding countsFault
+counts-met net fits e =
+    let a = or-sound (refuse (outside (net .places) || outside (net .transitions)) 1 0) (refuse (misfit net || not fits) 2 0) e in
+    let f = or-false (misfit net) (not fits) (refuse-sound _ 2 0 (a .1)) in
+    record { sized = sized-of net (refuse-sound _ 1 0 (a .0)) (f .0); fitting = not-false fits (f .1) }
+
+pub inside-is : (n : ℕ) → 1 ≤ n → n ≤ countLimit → outside n ≡ false
+inside-is n h l = both-false (ltb n 1) (ltb countLimit n) (le-ltb n 1 h) (le-ltb countLimit n l)
+
+counts-inside : (net : Net) → Sized net → (outside (net .places) || outside (net .transitions)) ≡ false
+counts-inside net s =
+    both-false _ _ (inside-is (net .places) (s .some-places) (s .few-places)) (inside-is (net .transitions) (s .some-transitions) (s .few-transitions))
+
+lengths-like : (net : Net) → Sized net → misfit net ≡ false
+lengths-like net s = both-false _ _ (like-false _ _ (s .pres)) (both-false _ _ (like-false _ _ (s .posts)) (like-false _ _ (s .capped)))
+
+pub met-counts : (net : Net) (fits : Bool) → CountsMet net fits → countsFault net fits ≡ Sound
+unfolding countsFault
+met-counts net fits m =
+    sound-or _ _ (sound-refuse _ 1 0 (counts-inside net (m .sized))) (sound-refuse _ 2 0 (both-false _ _ (lengths-like net (m .sized)) (rw (m .fitting))))
+
+pub net-met : (net : Net) (fits : Bool) → netFault net fits ≡ Sound → NetMet net fits
+unfolding netFault
+net-met net fits e = let m = counts-met net fits e in record { sized = m .sized; fitting = m .fitting }
+
+pub met-net : (net : Net) (fits : Bool) → NetMet net fits → netFault net fits ≡ Sound
+unfolding netFault
+met-net net fits m = met-counts net fits (record { sized = m .sized; fitting = m .fitting })
+
+-- where something else does not fit, 1 or 2 is given whatever follows
+pub counts-unfit : (net : Net) (next : Fault) → orElse (countsFault net false) next ≡ countsFault net false
+unfolding countsFault
+counts-unfit net next = go (outside (net .places) || outside (net .transitions)) (misfit net)
+  where
+    go : (a b : Bool) → orElse (orElse (refuse a 1 0) (refuse (b || true) 2 0)) next ≡ orElse (refuse a 1 0) (refuse (b || true) 2 0)
+    go true b = refl
+    go false true = refl
+    go false false = refl
+
+pub net-unfit : (net : Net) → netFault net false ≡ countsFault net false
+unfolding netFault
+net-unfit net = refl
+
+pub start-unfit : (net : Net) (initial : List ℕ) → startFault net initial false ≡ countsFault net false
+unfolding startFault
+start-unfit net initial = rw (and-false (eqb (length initial) (net .places))) (counts-unfit net (markingFault (net .caps) initial))
+
+pub marked-unfit : (net : Net) (initial : List ℕ) → markedFault net initial false ≡ countsFault net false
+unfolding markedFault
+marked-unfit net initial = start-unfit net initial
+
+-- so it is where the net is not sized, whatever else is lent
+pub unsized-unfit : (net : Net) (fits : Bool) → sizedNet net ≡ false → countsFault net fits ≡ countsFault net false
+unfolding countsFault
+unsized-unfit net fits e = go (outside (net .places) || outside (net .transitions)) (misfit net) fits e
+  where
+    go : (a b f : Bool) → (not a && not b) ≡ false → orElse (refuse a 1 0) (refuse (b || not f) 2 0) ≡ orElse (refuse a 1 0) (refuse (b || true) 2 0)
+    go true b f q = refl
+    go false true f q = refl
+    go false false f q = never q
+
+-- which refusal of counts, lengths and the initial marking
+module _ (net : Net) (initial : List ℕ) (fits : Bool) where
+  pub start-misfit : (r : Fault) → (length initial ≡ net .places → ⊥) → r ≡ countsFault net false → r ≡ startFault net initial fits
+  unfolding startFault
+  start-misfit r h e = rw (ne-eqb (length initial) (net .places) h) (e ∙ sym (counts-unfit net (markingFault (net .caps) initial)))
+
+  module _ (found : Fault) (h : length initial ≡ net .places) (e : found ≡ countsFault net fits) where
+    same-counts : found ≡ countsFault net (eqb (length initial) (net .places) && fits)
+    same-counts = rw (eq-eqb (length initial) (net .places) h) e
+
+    pub start-faulty : (n at : ℕ) → found ≡ Faulty n at → Faulty n at ≡ startFault net initial fits
+    unfolding startFault
+    start-faulty n at q = chain-first _ _ found n at same-counts q
+
+    pub start-marking : (r : Fault) → found ≡ Sound → r ≡ markingFault (net .caps) initial → r ≡ startFault net initial fits
+    unfolding startFault
+    start-marking r q k = chain-next _ _ found r same-counts q k
+
+    pub caps-long : found ≡ Sound → length (net .caps) ≡ length initial
+    caps-long q = counts-met net fits (sym e ∙ q) .sized .capped ∙ sym h
+
+pub ruleset start-faults = (start-misfit, start-faulty, start-marking)
+
+pub net-is : (net : Net) (fits : Bool) (r : Fault) → r ≡ countsFault net fits → r ≡ netFault net fits
+unfolding netFault
+net-is net fits r e = e
+
+pub marked-is : (net : Net) (initial : List ℕ) (fits : Bool) (r : Fault) → r ≡ startFault net initial fits → r ≡ markedFault net initial fits
+unfolding markedFault
+marked-is net initial fits r e = e
+
+pub fine-of : (caps m : List ℕ) → markingFault caps m ≡ Sound → Fine caps m
+unfolding markingFault
+fine-of caps m e =
+    let x = ltb-false (badToken caps m) (length m) (refuse-sound _ 3 (badToken caps m) e) in
+    record { few = record { at = λ p. go p (decLt p (length m)) x }; within = λ p h. ltb-false _ _ (each p h x .1) }
+  where
+    each : (p : ℕ) → p < length m → length m ≤ badToken caps m → (ltb tokenLimit (getD m p 0) ≡ false) × (ltb (getD caps p 0) (getD m p 0) ≡ false)
+    each p h x = or-false _ _ (first-below (λ p. tokenBad (getD caps p 0) (getD m p 0)) (length m) p (omega arith))
+
+    go : (p : ℕ) → Dec (p < length m) → length m ≤ badToken caps m → getD m p 0 ≤ tokenLimit
+    go p (yes h) x = ltb-false tokenLimit (getD m p 0) (each p h x .0)
+    go p (no n) x = rw (List·getD-eq-default m 0 {n = p} (omega arith)) zero-le
+
+pub fine-is : (caps m : List ℕ) → Fine caps m → markingFault caps m ≡ Sound
+unfolding markingFault
+fine-is caps m f =
+    let e = first-none (λ p. tokenBad (getD caps p 0) (getD m p 0)) (length m)
+    (λ p h. both-false _ _ (le-ltb tokenLimit (getD m p 0) (f .few .at p)) (le-ltb (getD caps p 0) (getD m p 0) (f .within p h))) in
+    sound-refuse _ 3 (badToken caps m) (le-ltb (badToken caps m) (length m) (omega arith))
+
+-- nothing of 1, 2 and 3 is refused exactly where the net is sized, all lengths agree and the marking is fine
+pub start-met : (net : Net) (initial : List ℕ) (fits : Bool) → startFault net initial fits ≡ Sound → StartMet net initial fits
+unfolding startFault
+start-met net initial fits e =
+    let a = or-sound (countsFault net (eqb (length initial) (net .places) && fits)) (markingFault (net .caps) initial) e in
+    let c = counts-met net (eqb (length initial) (net .places) && fits) (a .0) in
+    let f = and-true (eqb (length initial) (net .places)) fits (c .fitting) in
+    record { sized = c .sized; marked = eqb-true _ _ (f .0); fitting = f .1; fine = fine-of (net .caps) initial (a .1) }
+
+pub met-start : (net : Net) (initial : List ℕ) (fits : Bool) → StartMet net initial fits → startFault net initial fits ≡ Sound
+unfolding startFault
+met-start net initial fits m =
+    sound-or _ _
+    (met-counts net (eqb (length initial) (net .places) && fits)
+    (record { sized = m .sized; fitting = rw (eq-eqb (length initial) (net .places) (m .marked)) (m .fitting) }))
+    (fine-is (net .caps) initial (m .fine))
+
+pub marked-met : (net : Net) (initial : List ℕ) (fits : Bool) → markedFault net initial fits ≡ Sound → MarkedMet net initial fits
+unfolding markedFault
+marked-met net initial fits e =
+    let m = start-met net initial fits e in
+    record { sized = m .sized; marked = m .marked; fitting = m .fitting; fine = m .fine }
+
+pub met-marked : (net : Net) (initial : List ℕ) (fits : Bool) → MarkedMet net initial fits → markedFault net initial fits ≡ Sound
+unfolding markedFault
+met-marked net initial fits m = met-start net initial fits (record { sized = m .sized; marked = m .marked; fitting = m .fitting; fine = m .fine })
+
+-- which refusal of a word
+module _ (n : ℕ) (w : List ℕ) where
+  pub word-long : wordLimit < length w → Faulty 4 0 ≡ wordFault n w
+  unfolding wordFault
+  word-long h = rw (lt-ltb wordLimit (length w) h)
+
+  module _ (k : ℕ) (h : length w ≤ wordLimit) (e : k ≡ badLetter n w) where
+    pub word-letter : k < length w → Faulty 5 k ≡ wordFault n w
+    unfolding wordFault
+    word-letter l = rw (le-ltb wordLimit (length w) h, ← e, lt-ltb k (length w) l)
+
+    pub word-fine : length w ≤ k → Sound ≡ wordFault n w
+    unfolding wordFault
+    word-fine l = rw (le-ltb wordLimit (length w) h, ← e, le-ltb k (length w) l)
+
+  -- nothing of 4 and 5 is refused exactly where the word is not too long and each letter names a transition
+  pub word-met : wordFault n w ≡ Sound → WordMet n w
+  unfolding wordFault
+  word-met e =
+      let a = or-sound (refuse (ltb wordLimit (length w)) 4 0) (refuse (ltb (badLetter n w) (length w)) 5 (badLetter n w)) e in
+      let x = ltb-false (badLetter n w) (length w) (refuse-sound _ 5 (badLetter n w) (a .1)) in
+      record {
+        short = ltb-false wordLimit (length w) (refuse-sound _ 4 0 (a .0));
+        letters = record { at = λ k h. leb-false n (getD w k 0) (first-below (λ k. leb n (getD w k 0)) (length w) k (omega arith)) };
+      }
+
+  pub met-word : WordMet n w → wordFault n w ≡ Sound
+  unfolding wordFault
+  met-word m =
+      let e = first-none (λ k. leb n (getD w k 0)) (length w) (λ k b. lt-leb n (getD w k 0) (m .letters .at k b)) in
+      sound-or _ _ (sound-refuse _ 4 0 (le-ltb wordLimit (length w) (m .short))) (sound-refuse _ 5 (badLetter n w) (le-ltb (badLetter n w) (length w) (omega arith)))
+
+pub ruleset word-faults = (word-long, word-letter, word-fine)
