@@ -13,7 +13,7 @@ use Rattle.net.specs.Net.{Net}
 use Rattle.net.specs.Firing.{Enabled, Fires}
 use Rattle.net.specs.declared.Cause.{Cause}
 use Rattle.net.proofs.Judged.{named-stops}
-use Rattle.file_digits.specs.Frame.{lineText}
+use Rattle.file_put.specs.Put.{lineText}
 use Rattle.file_line.specs.declared.Reading.{Reading}
 use Rattle.file_line.specs.Read.{Rooms, fresh}
 use Rattle.file_line.specs.Walk.{Large}

@@ -8,9 +8,10 @@ use native.Mathlib.Nat.{not-suc-le-zero}
 use lib.ListN.{length, getD, drop}
 use lib.Seq.{sets, drop-cons}
 use Rattle.ground.proofs.Stores.{sets-both}
-use Rattle.file_digits.specs.Frame.{digitsOf, lineFeed, four, fours, Put}
-use Rattle.file_digits.proofs.Round.{digits-then, digits-long}
-use Rattle.file_digits.proofs.Puts.{put-long, four-long, fours-long, line-put}
+use Rattle.file_digits.specs.Frame.{lineFeed}
+use Rattle.file_put.specs.Put.{digitsOf, four, fours, Put}
+use Rattle.file_put.proofs.Round.{digits-then, digits-long}
+use Rattle.file_put.proofs.Puts.{put-long, four-long, fours-long, line-put}
 use Rattle.verdict_text.specs.Verdict.{WrittenBytes}
 
 -- the marking is put up to place i

@@ -5,7 +5,7 @@ use mathlib.Core.List.{List, [], _∷_, _++_}
 use lib.ListN.{length}
 use lib.Seq.{sets}
 use Rattle.ground.specs.Limits.{countLimit}
-use Rattle.file_digits.specs.Frame.{four, fours, lineText}
+use Rattle.file_put.specs.Put.{four, fours, lineText}
 use Rattle.net.specs.Firing.{causeNumber, causePlace}
 use Rattle.replay.specs.declared.Replay.{Replay}
 use Rattle.replay.specs.declared.Replay.the-variants.{Fired, Blocked, Refused}

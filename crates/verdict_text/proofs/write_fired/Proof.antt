@@ -1,6 +1,6 @@
 use native.Mathlib.Omega.{arith}
 use denote.Ref.{now}
-use Rattle.file_digits.proofs.Puts.{put-then, put-long, four-long, fours-long}
+use Rattle.file_put.proofs.Puts.{put-then, put-long, four-long, fours-long}
 use Rattle.verdict_text.proofs.Puts.{fed}
 use borrow.Author.Needs.{needs}
 use Rattle.verdict_text.proofs.write_fired.Statement.{statement}

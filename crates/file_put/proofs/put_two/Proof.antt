@@ -1,8 +1,8 @@
-use Rattle.file_digits.specs.Frame.{two}
-use Rattle.file_digits.proofs.Puts.{put-then}
+use Rattle.file_put.specs.Put.{two}
+use Rattle.file_put.proofs.Puts.{put-then}
 use borrow.Author.Needs.{needs}
-use Rattle.file_digits.proofs.put_two.Statement.{statement}
-use Rattle.file_digits.proofs.put_two.Tie as tie
+use Rattle.file_put.proofs.put_two.Statement.{statement}
+use Rattle.file_put.proofs.put_two.Tie as tie
 
 cast-put-byte : tie.Need-cast-put-byte
 cast-put-byte c = search needs

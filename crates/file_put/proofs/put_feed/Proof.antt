@@ -4,8 +4,8 @@ use native.Mathlib.Omega.{arith}
 use lib.ListN.{set}
 use denote.Ref.{now}
 use borrow.Author.Needs.{needs}
-use Rattle.file_digits.proofs.put_feed.Statement.{statement}
-use Rattle.file_digits.proofs.put_feed.Tie as tie
+use Rattle.file_put.proofs.put_feed.Statement.{statement}
+use Rattle.file_put.proofs.put_feed.Tie as tie
 
 slice-write-out : tie.Need-slice-write-out
 slice-write-out c = search needs

@@ -1,8 +1,8 @@
 use native.Mathlib.Omega.{arith}
-use Rattle.file_digits.proofs.Puts.{put-then, put-long, two-next, put-four-is}
+use Rattle.file_put.proofs.Puts.{put-then, put-long, two-next, put-four-is}
 use borrow.Author.Needs.{needs}
-use Rattle.file_digits.proofs.put_four.Statement.{statement}
-use Rattle.file_digits.proofs.put_four.Tie as tie
+use Rattle.file_put.proofs.put_four.Statement.{statement}
+use Rattle.file_put.proofs.put_four.Tie as tie
 
 cast-put-two : tie.Need-cast-put-two
 cast-put-two c = search needs

@@ -7,8 +7,9 @@ use native.Mathlib.Numerals.{add-one}
 use lib.ListN.{length, set, length-append}
 use lib.Seq.{sets, length-sets}
 use Rattle.ground.proofs.Stores.{sets-both}
-use Rattle.file_digits.specs.Frame.{digitOf, digitsOf, lineFeed, two, four, fours, Put, PutLine}
-use Rattle.file_digits.proofs.Round.{digits-then, digits-long}
+use Rattle.file_digits.specs.Frame.{lineFeed}
+use Rattle.file_put.specs.Put.{digitOf, digitsOf, two, four, fours, Put, PutLine}
+use Rattle.file_put.proofs.Round.{digits-then, digits-long}
 
 pub put-then : (l : List ℕ) (at : ℕ) (a b : List ℕ) (r s : ℕ) (m n : List ℕ) → Put l at a r m → Put m r b s n → Put l at (a ++ b) s n
 put-then l at a b r s m n p q =
