@@ -1,12 +1,10 @@
 -- To be believed: bytes and numbers written as a line's digits ("Case file lines"), at a position of a room.
-use Prim.Native.Nat.{ℕ, _+_, _*_, _/_, _%_}
-use mathlib.Core.Path.{_≡_}
+use Prim.Native.Nat.{ℕ, _+_, _/_, _%_}
 use mathlib.Core.Bool.{cond}
 use mathlib.Core.List.{List, [], _∷_, _++_}
-use lib.ListN.{length}
-use lib.Seq.{sets}
 use lib.Dec.{leb}
 use Rattle.file_digits.specs.Frame.{lineFeed}
+use Rattle.file_put.specs.Append.{Appended}
 
 -- the digit of the value n
 unfoldable pub digitOf : ℕ → ℕ
@@ -38,11 +36,9 @@ fours [] = []
 fours (n ∷ ns) = four n ++ fours ns
 
 -- bytes were put into the room at number at, as digits; r is the number after them
-pub record Put (room : List ℕ) (at : ℕ) (bytes : List ℕ) (r : ℕ) (room′ : List ℕ) : Type 0 where
-  pub made : room′ ≡ sets room at (digitsOf bytes)
-  pub next : r ≡ at + 2 * length bytes
+abbrev pub Put : List ℕ → ℕ → List ℕ → ℕ → List ℕ → Type 0
+Put room at bytes r room′ = Appended room at (digitsOf bytes) r room′
 
 -- the line of these bytes was put there
-pub record PutLine (room : List ℕ) (at : ℕ) (bytes : List ℕ) (r : ℕ) (room′ : List ℕ) : Type 0 where
-  pub made : room′ ≡ sets room at (lineText bytes)
-  pub next : r ≡ at + length (lineText bytes)
+abbrev pub PutLine : List ℕ → ℕ → List ℕ → ℕ → List ℕ → Type 0
+PutLine room at bytes r room′ = Appended room at (lineText bytes) r room′

@@ -3,8 +3,8 @@ ghost use mathlib.Core.Path.{_≡_};
 ghost use mathlib.Core.List.{[], _∷_};
 ghost use Prim.Native.Nat.{_+_, _<_, _≤_};
 ghost use lib.ListN.{length};
-ghost use lib.Seq.{sets};
 ghost use Rattle.file_digits.specs.Frame.{lineFeed};
+ghost use Rattle.file_put.specs.Append.{Appended};
 ghost use Rattle.file_put.specs.Put.{digitOf, two, four, Put};
 
 // The digit of a value.
@@ -49,8 +49,7 @@ pub fn put_four(out: &mut [u8], at: usize, n: usize) -> usize
 // The line feed after the bytes.
 pub fn put_feed(out: &mut [u8], at: usize) -> usize
     requires { ⌜ at + 1 ≤ length (now out) ⌝ }
-    ensures room { λ r. ⌜ now (out .exit) ≡ sets (now (out .entry)) at (lineFeed ∷ []) ⌝ }
-    ensures next { λ r. ⌜ r ≡ at + 1 ⌝ }
+    ensures { λ r. ⌜ Appended (now (out .entry)) at (lineFeed ∷ []) r (now (out .exit)) ⌝ }
 {
     out[at] = b'\n';
     at + 1
