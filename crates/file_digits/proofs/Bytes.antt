@@ -1,17 +1,22 @@
--- Frames and their digits: entries below a bound, pieces of a frame read back, numbers of two bytes. Assumes nothing.
-use mathlib.Core.Path.{_≡_, refl, sym, _∙_, ap}
+-- Bytes and numbers of two bytes as read: entries below a bound, how many, which. Assumes nothing.
+use mathlib.Core.Path.{_≡_, refl, ap}
 use mathlib.Core.Bool.{Bool, true, false}
-use mathlib.Core.List.{List, [], _∷_, _++_, append-nil}
-use Prim.Native.Nat.{ℕ, zero, suc, _+_, _*_, _/_, _%_, _≤_, _<_, zero-le}
+use mathlib.Core.List.{List, [], _∷_, _++_}
+use Prim.Native.Nat.{ℕ, zero, suc, _+_, _*_, _≤_, _<_, zero-le}
 use native.Mathlib.Omega.{arith}
+use native.Mathlib.Numerals.{add-one}
 use native.Mathlib.Nat.{not-suc-le-zero, zero-add, suc-add}
 use native.Mathlib.Decide.{decLt}
 use lib.Dec.{leb}
 use lib.ListN.{length, take, drop, getD, List·getD-eq-default}
 use borrow.Author.Tests.{leb-true, leb-false}
-use Rattle.file_digits.specs.Frame.{valueOf, allDigits, digitOf, digitsOf, byteAt, wordAt, bytesFrom, wordsFrom, twos}
+use Rattle.file_digits.specs.Frame.{valueOf, byteAt, wordAt, bytesFrom, wordsFrom}
 use Rattle.file_digits.proofs.Frames.{low, num, mid, letter, high}
-use Rattle.file_digits.proofs.Round.{Below, none, more, value-digit, byte-shift, bytes-shift, byte-first}
+
+-- every entry is below n
+pub data Below (n : ℕ) : List ℕ → Type 0 where
+  none : Below n []
+  more : {x : ℕ} {xs : List ℕ} → x < n → Below n xs → Below n (x ∷ xs)
 
 -- entries below a bound, one by one and together
 pub below-of : (n : ℕ) (l : List ℕ) → ((k : ℕ) → k < length l → getD l k 0 < n) → Below n l
@@ -46,15 +51,6 @@ pub below-drop : {n : ℕ} (i : ℕ) (l : List ℕ) → Below n l → Below n (d
 below-drop zero l w = w
 below-drop (suc i) [] w = none
 below-drop (suc i) (x ∷ l) (more h w) = below-drop i l w
-
--- the digits of bytes are digits
-pub digits-all : (f : List ℕ) → Below 256 f → allDigits (digitsOf f) ≡ true
-unfolding digitsOf allDigits
-digits-all [] w = refl
-digits-all (b ∷ f) (more h w) =
-    let hi = value-digit (b / 16) (omega arith) .1 in
-    let lo = value-digit (b % 16) (omega arith) .1 in
-    simp (hi, lo) (digits-all f w)
 
 -- a frame's bytes, as many as asked for, and in two pieces
 pub bytes-long : (d : List ℕ) (i n : ℕ) → length (bytesFrom d i n) ≡ n
@@ -119,69 +115,19 @@ unfolding wordsFrom
 words-small d i zero = none
 words-small d i (suc n) = more {x = byteAt d i * 256 + byteAt d (i + 1)} (omega (arith, byte-small d i, byte-small d (i + 1))) (words-small d (i + 2) n)
 
--- bytes, to digits and back, from a place of the frame on
-pub byte-digits : (f : List ℕ) (i : ℕ) → Below 256 f → i < length f → byteAt (digitsOf f) i ≡ getD f i 0
-unfolding digitsOf
-byte-digits [] i w h = absurd (not-suc-le-zero h)
-byte-digits (b ∷ f) zero (more k w) h =
-    let hi = value-digit (b / 16) (omega arith) .0 in
-    let lo = value-digit (b % 16) (omega arith) .0 in
-    let e : b / 16 * 16 + b % 16 ≡ b = omega arith in
-    rw (byte-first (digitOf (b / 16)) (digitOf (b % 16)) (digitsOf f), hi, lo) e
-byte-digits (b ∷ f) (suc i) (more k w) h = byte-shift (digitOf (b / 16)) (digitOf (b % 16)) (digitsOf f) i ∙ byte-digits f i w (omega arith)
+-- a frame's bytes, one byte further in
+pub byte-shift : (x y : ℕ) (d : List ℕ) (i : ℕ) → byteAt (x ∷ y ∷ d) (suc i) ≡ byteAt d i
+unfolding byteAt
+byte-shift x y d i =
+    let e : 2 * suc i ≡ suc (suc (2 * i)) = omega arith in
+    let f : 2 * suc i + 1 ≡ suc (suc (2 * i + 1)) = omega arith in
+    rw (f, e)
 
-front : (b c : List ℕ) → Below 256 (b ++ c) → bytesFrom (digitsOf (b ++ c)) 0 (length b) ≡ b
-unfolding digitsOf bytesFrom
-front [] c w = refl
-front (x ∷ b) c (more h w) =
-    let e : byteAt (digitsOf (x ∷ (b ++ c))) 0 ≡ x = byte-digits (x ∷ (b ++ c)) 0 (more h w) (omega arith) in
-    let g : bytesFrom (digitsOf (x ∷ (b ++ c))) 1 (length b) ≡ b = bytes-shift (digitOf (x / 16)) (digitOf (x % 16)) (digitsOf (b ++ c)) 0 (length b) ∙ front b c w in
-    ap (λ (z : ℕ). z ∷ bytesFrom (digitsOf (x ∷ (b ++ c))) 1 (length b)) e ∙ ap (λ (l : List ℕ). x ∷ l) g
+pub bytes-shift : (x y : ℕ) (d : List ℕ) (i n : ℕ) → bytesFrom (x ∷ y ∷ d) (suc i) n ≡ bytesFrom d i n
+unfolding bytesFrom
+bytes-shift x y d i zero = refl
+bytes-shift x y d i (suc n) = rw (byte-shift x y d i, add-one (suc i), add-one i, bytes-shift x y d (suc i) n)
 
-pub piece : (a b c : List ℕ) → Below 256 (a ++ (b ++ c)) → bytesFrom (digitsOf (a ++ (b ++ c))) (length a) (length b) ≡ b
-unfolding digitsOf
-piece [] b c w = front b c w
-piece (x ∷ a) b c (more h w) = bytes-shift (digitOf (x / 16)) (digitOf (x % 16)) (digitsOf (a ++ (b ++ c))) (length a) (length b) ∙ piece a b c w
-
--- numbers of two bytes
-pub twos-long : (l : List ℕ) → length (twos l) ≡ 2 * length l
-unfolding twos
-twos-long [] = refl
-twos-long (n ∷ l) = let e = twos-long l in omega (arith, e)
-
-pub twos-small : (l : List ℕ) → Below 65536 l → Below 256 (twos l)
-unfolding twos
-twos-small [] none = none
-twos-small (n ∷ l) (more h w) = more {x = n / 256} (omega arith) (more {x = n % 256} (omega arith) (twos-small l w))
-
-pub twos-apart : (a b : List ℕ) → length a ≡ length b → twos a ≡ twos b → a ≡ b
-unfolding twos
-twos-apart [] [] h e = refl
-twos-apart [] (y ∷ b) h e = absurd (omega arith)
-twos-apart (x ∷ a) [] h e = absurd (omega arith)
-twos-apart (x ∷ a) (y ∷ b) h e =
-    let p : x / 256 ≡ y / 256 = cc in
-    let q : x % 256 ≡ y % 256 = cc in
-    let r : twos a ≡ twos b = cc in
-    let s : x ≡ y = omega arith in
-    let t : a ≡ b = twos-apart a b (omega arith) r in
-    ap (λ (z : ℕ). z ∷ a) s ∙ ap (λ (z : List ℕ). y ∷ z) t
-
-pub words-bytes : (d : List ℕ) (i n : ℕ) → twos (wordsFrom d i n) ≡ bytesFrom d i (2 * n)
-unfolding twos wordsFrom bytesFrom
-words-bytes d i zero = refl
-words-bytes d i (suc n) =
-    let e : 2 * suc n ≡ suc (suc (2 * n)) = omega arith in
-    let j : i + 1 + 1 ≡ i + 2 = omega arith in
-    let h : (byteAt d i * 256 + byteAt d (i + 1)) / 256 ≡ byteAt d i = omega (arith, byte-small d (i + 1)) in
-    let l : (byteAt d i * 256 + byteAt d (i + 1)) % 256 ≡ byteAt d (i + 1) = omega (arith, byte-small d (i + 1)) in
-    rw (e, h, l, j, words-bytes d (i + 2) n)
-
--- the numbers of a frame of kind k, read back
-pub words-digits : (k n : ℕ) (l : List ℕ) → k < 256 → Below 65536 l → length l ≡ n → wordsFrom (digitsOf (k ∷ twos l)) 1 n ≡ l
-words-digits k n l h w e =
-    let m : length (twos l) ≡ 2 * n = rw (← e) (twos-long l) in
-    let b : Below 256 ((k ∷ []) ++ (twos l ++ [])) = more h (below-append (twos l) [] (twos-small l w) none) in
-    let p : bytesFrom (digitsOf (k ∷ (twos l ++ []))) 1 (length (twos l)) ≡ twos l = piece (k ∷ []) (twos l) [] b in
-    let q : bytesFrom (digitsOf (k ∷ twos l)) 1 (2 * n) ≡ twos l = rw (← m) (rw append-nil at p) in
-    twos-apart (wordsFrom (digitsOf (k ∷ twos l)) 1 n) l (words-long (digitsOf (k ∷ twos l)) 1 n ∙ sym e) (words-bytes (digitsOf (k ∷ twos l)) 1 n ∙ q)
+pub byte-first : (x y : ℕ) (d : List ℕ) → byteAt (x ∷ y ∷ d) 0 ≡ valueOf x * 16 + valueOf y
+unfolding byteAt
+byte-first x y d = refl

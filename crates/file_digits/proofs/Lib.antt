@@ -1,4 +1,2 @@
 pub mod Frames
-pub mod Round
 pub mod Bytes
-pub mod Puts

@@ -1,12 +1,10 @@
-// Inner: the digits of a line, and the bytes and numbers that they spell: first read, then written at
-// a position of a room. The limits of a line and of a frame of letters are named here once (their
-// numbers in the definitions are in specs/Frame.antt).
+// Inner: the digits of a line, and the bytes and numbers that they spell. The limits of a line and of
+// a frame of letters are named here once (their numbers in the definitions are in specs/Frame.antt).
 ghost use mathlib.Core.Path.{_≡_};
-ghost use mathlib.Core.List.{[], _∷_};
 ghost use Prim.Native.Nat.{_+_, _*_, _<_, _≤_};
 ghost use lib.ListN.{length};
 ghost use lib.Seq.{sets};
-ghost use Rattle.file_digits.specs.Frame.{valueOf, isDigit, allDigits, byteAt, wordAt, bytesFrom, wordsFrom, digitOf, lineFeed, two, four, Put};
+ghost use Rattle.file_digits.specs.Frame.{valueOf, isDigit, allDigits, byteAt, wordAt, bytesFrom, wordsFrom};
 
 // The most digits of a line.
 pub const LINE_LIMIT: usize = 260;
@@ -34,17 +32,6 @@ pub fn is_digit(b: u8) -> bool
         b'0'..=b'9' => true,
         b'A'..=b'F' => true,
         _ => false,
-    }
-}
-
-// The digit of a value.
-pub fn digit(n: u8) -> u8
-    requires { ⌜ n < 16 ⌝ }
-    ensures { λ r. ⌜ r ≡ digitOf n ⌝ }
-{
-    match n {
-        0..=9 => n + b'0',
-        _ => n - 10 + b'A',
     }
 }
 
@@ -116,42 +103,4 @@ pub fn store_words(d: &[u8], from: usize, room: &mut [u16], count: usize)
         j = j + 2;
         left = left - 1;
     }
-}
-
-// A byte, as its two digits; answers the number after them.
-pub fn put_byte(out: &mut [u8], at: usize, b: u8) -> usize
-    requires { ⌜ at + 2 ≤ length (now out) ⌝ }
-    ensures { λ r. ⌜ Put (now (out .entry)) at (b ∷ []) r (now (out .exit)) ⌝ }
-{
-    out[at] = digit(b / 16);
-    out[at + 1] = digit(b % 16);
-    at + 2
-}
-
-// A number of two bytes, the high byte first.
-pub fn put_two(out: &mut [u8], at: usize, n: u16) -> usize
-    requires { ⌜ at + 4 ≤ length (now out) ⌝ }
-    ensures { λ r. ⌜ Put (now (out .entry)) at (two n) r (now (out .exit)) ⌝ }
-{
-    let a = put_byte(out, at, (n / 256) as u8);
-    put_byte(out, a, (n % 256) as u8)
-}
-
-// A number of four bytes, the high byte first.
-pub fn put_four(out: &mut [u8], at: usize, n: usize) -> usize
-    requires { ⌜ at + 8 ≤ length (now out) ⌝ }
-    ensures { λ r. ⌜ Put (now (out .entry)) at (four n) r (now (out .exit)) ⌝ }
-{
-    let a = put_two(out, at, (n / 65536 % 65536) as u16);
-    put_two(out, a, (n % 65536) as u16)
-}
-
-// The line feed after the bytes.
-pub fn put_feed(out: &mut [u8], at: usize) -> usize
-    requires { ⌜ at + 1 ≤ length (now out) ⌝ }
-    ensures room { λ r. ⌜ now (out .exit) ≡ sets (now (out .entry)) at (lineFeed ∷ []) ⌝ }
-    ensures next { λ r. ⌜ r ≡ at + 1 ⌝ }
-{
-    out[at] = b'\n';
-    at + 1
 }

@@ -8,8 +8,9 @@ use lib.Dec.{eqb}
 use lib.ListN.{length, length-append}
 use lib.Seq.{sets}
 use Rattle.ground.specs.Limits.{countLimit, wordLimit}
-use Rattle.file_digits.specs.Frame.{lineLimit, lineFeed, block, digitsOf, lineText, byteAt, bytesFrom, wordsFrom, twos}
-use Rattle.file_digits.proofs.Round.{Below, none, more, canon, digits-long}
+use Rattle.file_digits.specs.Frame.{lineLimit, lineFeed, block, byteAt, bytesFrom, wordsFrom}
+use Rattle.file_put.specs.Put.{digitsOf, lineText, twos}
+use Rattle.file_put.proofs.Round.{canon, digits-long, byte-digits, piece}
 use Rattle.file_line.specs.declared.Reading.{Reading}
 use Rattle.refusals.specs.Given.{Fine}
 use Rattle.refusals.specs.declared.Fault.the-variants.{Sound}
@@ -20,7 +21,8 @@ use Rattle.file_line.proofs.Order.{no-counts, no-tokens, no-long, no-letters, f
 use Rattle.file_line.proofs.Meaning.{taken-exactly}
 use Rattle.file_parts.specs.File.{both, going, feedAll}
 use Rattle.file_parts.proofs.Line.{line-taken, held}
-use Rattle.file_digits.proofs.Bytes.{below-of, of-below, below-more, below-append, bytes-long, bytes-split, byte-digits, piece, twos-long, twos-small, words-bytes, words-digits}
+use Rattle.file_digits.proofs.Bytes.{Below, none, more, below-of, of-below, below-more, below-append, bytes-long, bytes-split}
+use Rattle.file_put.proofs.Twos.{twos-long, twos-small, words-bytes, words-digits}
 use Rattle.file_text.proofs.Rules.{no-feed, rule-digits}
 
 -- a state of the reading, by its numbers

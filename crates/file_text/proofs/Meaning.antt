@@ -10,7 +10,7 @@ use lib.Dec.{eqb}
 use lib.ListN.{length, drop, replicate, length-replicate}
 use borrow.Author.Tests.{eqb-true}
 use Rattle.ground.specs.Limits.{noCapacity, weightLimit, wordLimit}
-use Rattle.file_digits.specs.Frame.{digitOf, digitsOf, twos}
+use Rattle.file_put.specs.Put.{digitOf, digitsOf, twos}
 use Rattle.net.specs.Net.{Net, netOf}
 use Rattle.refusals.specs.declared.Fault.the-variants.{Faulty}
 use Rattle.replay.specs.Entry.{Allowed}

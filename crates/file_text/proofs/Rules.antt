@@ -7,10 +7,11 @@ use native.Mathlib.Omega.{arith}
 use lib.Dec.{eqb}
 use lib.ListN.{length}
 use borrow.Author.Tests.{le-ltb, ne-eqb}
-use Rattle.file_digits.specs.Frame.{lineLimit, lineFeed, isDigit, allDigits, digitsOf}
+use Rattle.file_digits.specs.Frame.{lineLimit, lineFeed, isDigit, allDigits}
+use Rattle.file_put.specs.Put.{digitsOf}
 use Rattle.file_digits.proofs.Frames.{low}
-use Rattle.file_digits.proofs.Round.{Below, digits-long}
-use Rattle.file_digits.proofs.Bytes.{digits-all}
+use Rattle.file_digits.proofs.Bytes.{Below}
+use Rattle.file_put.proofs.Round.{digits-long, digits-all}
 use Rattle.file_line.specs.Read.{ruleOf}
 use Rattle.file_parts.specs.File.{lineLen, NoFeed}
 

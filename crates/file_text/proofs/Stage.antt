@@ -12,7 +12,6 @@ use borrow.Author.Tests.{eqb-true, eqb-false}
 use Rattle.ground.specs.Limits.{countLimit, wordLimit}
 use Rattle.ground.proofs.Stores.{sets-both}
 use Rattle.file_digits.specs.Frame.{block, lineFeed, byteAt, bytesFrom, wordsFrom}
-use Rattle.file_digits.proofs.Round.{Below, none}
 use Rattle.net.specs.Net.{Net, netOf}
 use Rattle.net.specs.Letter.{row}
 use Rattle.net.proofs.Rows.{row-end}
@@ -24,7 +23,7 @@ use Rattle.file_line.specs.Walk.{Large}
 use Rattle.file_line.proofs.Meaning.{taken-exactly}
 use Rattle.file_text.specs.Text.{countsLine, capsLine, tokensLine, rowLine, lettersLine, lettersLines, joined, fileOf, endOf, filled}
 use Rattle.file_text.specs.Refusal.{TakenLines, no-line, one-more}
-use Rattle.file_digits.proofs.Bytes.{below-append, bytes-long, bytes-small, words-long, words-small}
+use Rattle.file_digits.proofs.Bytes.{Below, none, below-append, bytes-long, bytes-small, words-long, words-small}
 use Rattle.file_text.proofs.Fronts.{getD-sets}
 use Rattle.file_text.proofs.Lines.{state, kind-next, counts-of, caps-of, tokens-of, tokens-fine, row-of, letters-of}
 

@@ -11,7 +11,8 @@ use lib.ListN.{length, take, drop, length-append, length-take, length-drop}
 use lib.Seq.{sets, length-take-le, take-add, take-all}
 use borrow.Author.Tests.{eq-eqb, ne-eqb}
 use Rattle.ground.proofs.Stores.{sets-both}
-use Rattle.file_digits.specs.Frame.{block, twos}
+use Rattle.file_digits.specs.Frame.{block}
+use Rattle.file_put.specs.Put.{twos}
 use Rattle.net.specs.Net.{Net}
 use Rattle.net.specs.Letter.{row}
 use Rattle.net.proofs.Rows.{row-end, row-length}

@@ -5,7 +5,8 @@ use mathlib.Core.List.{List, [], _∷_, _++_}
 use lib.ListN.{length, take}
 use lib.Seq.{sets}
 use Rattle.ground.specs.Limits.{noCapacity, wordLimit}
-use Rattle.file_digits.specs.Frame.{block, lineText, twos}
+use Rattle.file_digits.specs.Frame.{block}
+use Rattle.file_put.specs.Put.{lineText, twos}
 use Rattle.net.specs.Net.{Net, netOf, Sized, Light}
 use Rattle.net.specs.Letter.{row, Small}
 use Rattle.refusals.specs.Given.{Fine, Letters}

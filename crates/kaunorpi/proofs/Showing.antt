@@ -5,7 +5,7 @@ use mathlib.Core.List.{List, [], _∷_}
 use native.Mathlib.Omega.{arith}
 use lib.ListN.{getD, set}
 use lib.Seq.{sets}
-use Rattle.file_digits.specs.Frame.{digitOf, digitsOf, lineText}
+use Rattle.file_put.specs.Put.{digitOf, digitsOf, lineText}
 use Rattle.file_line.specs.Read.{Rooms}
 use Rattle.file_parts.specs.declared.Case.{Case}
 use Rattle.file_parts.specs.declared.Case.the-variants as file

@@ -83,4 +83,4 @@ module _ (c d : Case) (e : c ≡ d) where
 
 -- a refusal's line is no longer than the limit
 pub refused-few : (number line : ℕ) (out : List ℕ) (n : ℕ) (out′ : List ℕ) → WrittenBytes out (bytesOf (Refused number line) []) n out′ → n ≤ answerLimit
-refused-few number line out n out′ w = omega (arith, w .long, line-few (Refused number line) [] (omega arith))
+refused-few number line out n out′ w = omega (arith, w .next, line-few (Refused number line) [] (omega arith))

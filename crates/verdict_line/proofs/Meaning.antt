@@ -6,8 +6,9 @@ use mathlib.Core.List.{List, [], _∷_, _++_}
 use native.Mathlib.Omega.{arith}
 use lib.ListN.{length}
 use Rattle.ground.proofs.Fill.{table-length}
-use Rattle.file_digits.specs.Frame.{allDigits, digitsOf, lineFeed, lineText}
-use Rattle.file_digits.proofs.Round.{Below}
+use Rattle.file_digits.specs.Frame.{allDigits, lineFeed}
+use Rattle.file_put.specs.Put.{digitsOf, lineText}
+use Rattle.file_digits.proofs.Bytes.{Below}
 use Rattle.file_line.specs.declared.Reading.{Reading}
 use Rattle.file_line.specs.Read.{Rooms, fresh}
 use Rattle.file_line.specs.Walk.{Large}
@@ -22,7 +23,7 @@ use Rattle.replay.proofs.Meaning.{allowed-answered, fires-fired}
 use Rattle.verdict_text.specs.Verdict.{bytesOf}
 use Rattle.verdict_text.proofs.Meaning.{bytes-below}
 use Rattle.file_text.specs.Text.{netIn, markingIn, wordIn}
-use Rattle.file_digits.proofs.Bytes.{digits-all}
+use Rattle.file_put.proofs.Round.{digits-all}
 use Rattle.file_text.proofs.Meaning.{limited-allowed, read-file}
 use Rattle.verdict_line.specs.Answer.{roomFor, ranRead, answerFor, lineFor, lineAt, fileLine}
 use Rattle.verdict_line.proofs.Lines.{placed}

@@ -4,7 +4,8 @@ use mathlib.Core.Path.{_≡_, refl, sym, ap, _∙_}
 use mathlib.Core.List.{List, [], _∷_, _++_}
 use Rattle.ground.specs.Lists.{first, tally, mapAt, table}
 use Rattle.refusals.specs.Given.{countsFault, netFault, markingFault, startFault, markedFault, wordFault}
-use Rattle.file_digits.specs.Frame.{lineFeed, valueOf, isDigit, allDigits, digitOf, digitsOf, byteAt, bytesFrom, wordsFrom, four, fours}
+use Rattle.file_digits.specs.Frame.{lineFeed, valueOf, isDigit, allDigits, byteAt, bytesFrom, wordsFrom}
+use Rattle.file_put.specs.Put.{digitOf, digitsOf, four, fours}
 use Rattle.file_line.specs.declared.Reading.{Reading}
 use Rattle.file_line.specs.declared.Took.the-variants.{Next}
 use Rattle.file_line.specs.Read.{Rooms, fresh, ruleOf, formedKind, formedOf, judgeOf, advancedKind, storedKind, lineOf, roomsOf, rooms}

@@ -13,7 +13,8 @@ use Rattle.net.specs.Net.{Net}
 use Rattle.net.specs.Firing.{Enabled, Fires}
 use Rattle.net.specs.declared.Cause.{Cause}
 use Rattle.net.proofs.Judged.{named-stops}
-use Rattle.file_digits.specs.Frame.{lineText}
+use Rattle.file_put.specs.Put.{lineText}
+use Rattle.file_put.proofs.Appends.{append-so-far}
 use Rattle.file_line.specs.declared.Reading.{Reading}
 use Rattle.file_line.specs.Read.{Rooms, fresh}
 use Rattle.file_line.specs.Walk.{Large}
@@ -24,7 +25,6 @@ use Rattle.file_parts.specs.File.{both, readOf, caseOf}
 use Rattle.file_parts.specs.Held.{abs}
 use Rattle.file_text.specs.Text.{fileOf, Limited, Written, markingIn, wordIn, endOf, filled}
 use Rattle.file_text.specs.Refusal.{RefusedFile}
-use Rattle.file_text.proofs.Fronts.{front-of}
 use Rattle.file_text.proofs.Meaning.{limited-allowed, file-read, filled-net, filled-marking, filled-word, accepted-exactly}
 use Rattle.file_text.proofs.Refusal.{refused-means, refused-early}
 use Rattle.replay.specs.Replay.{Ran}
@@ -182,4 +182,4 @@ module _ (file : List ℕ) (x : Rooms) (big : Large x) where
 -- what `answer_line` promises, at the end of a file that was read so far: the room begins with the file's line, as long as is answered
 pub answered-line : (f : List ℕ) (x y : Rooms) (h : Held) (out : List ℕ) (n : ℕ) (out′ : List ℕ) → both (abs h) y ≡ readOf x f → n ≤ length out
     → WrittenBytes out (answerFor (caseOf (abs h)) y) n out′ → take n out′ ≡ fileLine f x
-answered-line f x y h out n out′ e k w = ap (take n) (w .made) ∙ front-of (lineFor (caseOf (abs h)) y) out n (sym (w .long)) k ∙ ap lineAt e
+answered-line f x y h out n out′ e k w = append-so-far w (omega (arith, w .next, k)) ∙ ap lineAt e

@@ -12,7 +12,7 @@ use Rattle.file_text.specs.Text.{netIn, markingIn, wordIn}
 use Rattle.replay.specs.Replay.{Ran}
 use Rattle.replay.specs.Entry.{replayOf}
 use Rattle.replay.specs.declared.Replay.the-variants.{Refused}
-use Rattle.file_digits.specs.Frame.{lineText}
+use Rattle.file_put.specs.Put.{lineText}
 use Rattle.verdict_text.specs.Verdict.{bytesOf}
 
 -- a number for each place, in which a replay leaves its marking; what it holds before does not show (`any-room`)

@@ -7,7 +7,8 @@ use lib.ListN.{length, length-append}
 use mir.Syntax.{w8}
 use mir.Val.{Fits}
 use Rattle.ground.specs.Limits.{countLimit}
-use Rattle.file_digits.specs.Frame.{digitsOf, lineFeed, lineText, four, fours}
+use Rattle.file_digits.specs.Frame.{lineFeed}
+use Rattle.file_put.specs.Put.{digitsOf, lineText, four, fours}
 use Rattle.net.specs.declared.Cause.{Cause}
 use Rattle.net.specs.declared.Cause.the-variants.{Short, Over}
 use Rattle.net.specs.Firing.{causePlace}
@@ -15,8 +16,8 @@ use Rattle.replay.specs.declared.Replay.{Replay}
 use Rattle.replay.specs.declared.Replay.the-variants.{Fired, Blocked, Refused}
 use Rattle.verdict_text.specs.Verdict.{bytesOf, answerLimit, WrittenBytes}
 use Rattle.verdict_text.specs.Walk.{Placed}
-use Rattle.file_digits.proofs.Round.{digits-long}
-use Rattle.file_digits.proofs.Puts.{four-long, fours-long}
+use Rattle.file_put.proofs.Round.{digits-long}
+use Rattle.file_put.proofs.Puts.{four-long, fours-long}
 
 -- the line of an answer is that of the case that it is
 pub line-of : (a b : Replay) (room marking : List ℕ) (r : ℕ) (room′ : List ℕ) → a ≡ b → WrittenBytes room (bytesOf b marking) r room′ → WrittenBytes room (bytesOf a marking) r room′

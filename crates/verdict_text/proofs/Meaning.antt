@@ -5,9 +5,11 @@ use mathlib.Core.List.{List, [], _∷_, _++_, append-nil}
 use native.Mathlib.Omega.{arith}
 use lib.ListN.{length, getD, take, drop, length-append}
 use lib.Seq.{take-at}
-use Rattle.file_digits.specs.Frame.{bytesFrom, digitsOf, lineFeed, lineText, four, fours}
-use Rattle.file_digits.proofs.Round.{Below, none, more, digits-long, back}
-use Rattle.file_digits.proofs.Puts.{fours-long}
+use Rattle.file_digits.specs.Frame.{bytesFrom, lineFeed}
+use Rattle.file_put.specs.Put.{digitsOf, lineText, four, fours}
+use Rattle.file_digits.proofs.Bytes.{Below, none, more}
+use Rattle.file_put.proofs.Round.{digits-long, back}
+use Rattle.file_put.proofs.Puts.{fours-long}
 use Rattle.net.specs.Firing.{causeNumber, causeValues}
 use Rattle.net.specs.Letter.{Small}
 use Rattle.net.specs.declared.Cause.the-variants.{Short, Over}

@@ -1,4 +1,4 @@
--- Laws of a marking put place by place, and of a line at the front of a room. Assumes nothing.
+-- Laws of a marking put place by place. Assumes nothing.
 use mathlib.Core.Path.{_≡_, refl, sym, _∙_, ap}
 use mathlib.Core.List.{List, [], _∷_}
 use Prim.Native.Nat.{ℕ, zero, suc, _+_, _*_, _≤_, _<_}
@@ -7,11 +7,10 @@ use native.Mathlib.Numerals.{add-one}
 use native.Mathlib.Nat.{not-suc-le-zero}
 use lib.ListN.{length, getD, drop}
 use lib.Seq.{sets, drop-cons}
-use Rattle.ground.proofs.Stores.{sets-both}
-use Rattle.file_digits.specs.Frame.{digitsOf, lineFeed, four, fours, Put}
-use Rattle.file_digits.proofs.Round.{digits-then, digits-long}
-use Rattle.file_digits.proofs.Puts.{put-long, four-long, fours-long, line-put}
-use Rattle.verdict_text.specs.Verdict.{WrittenBytes}
+use Rattle.file_put.specs.Put.{digitsOf, four, fours, Put}
+use Rattle.file_put.proofs.Appends.{append-long, append-rest}
+use Rattle.file_put.proofs.Round.{digits-then, digits-long}
+use Rattle.file_put.proofs.Puts.{put-moved, four-long, fours-long}
 
 -- the marking is put up to place i
 pub record Putting (l : List ℕ) (at : ℕ) (m : List ℕ) (i r : ℕ) (o : List ℕ) : Type 0 where
@@ -27,13 +26,11 @@ module _ (l : List ℕ) (at : ℕ) (m : List ℕ) (i r : ℕ) (o : List ℕ) (p 
   pub putting-next : (n s : ℕ) (o′ : List ℕ) → i < length m → n ≡ getD m i 0 → Put o r (four n) s o′ → Putting l at m (i + 1) s o′
   unfolding fours
   putting-next n s o′ h e q =
-      let k : s ≡ r + length (digitsOf (four n)) = q .next ∙ rw (digits-long (four n)) in
       record {
         inside = omega arith;
-        long = put-long o r (four n) s o′ q ∙ p .long;
-        next = omega (arith, p .next, q .next, four-long n);
-        same = rw (q .made, k) (sets-both (digitsOf (four n)) (digitsOf (fours (drop (i + 1) m))) o r
-            ∙ ap (sets o r) (sym (digits-then (four n) (fours (drop (i + 1) m)))) ∙ rw (e, add-one i) (ap (λ (z : List ℕ). sets o r (digitsOf (fours z))) (sym (drop-cons m i 0 h)) ∙ p .same));
+        long = append-long q ∙ p .long;
+        next = omega (arith, p .next, put-moved (four n) q (four-long n));
+        same = append-rest q (digitsOf (fours (drop (i + 1) m))) ∙ ap (sets o r) (sym (digits-then (four n) (fours (drop (i + 1) m)))) ∙ rw (e, add-one i) (ap (λ (z : List ℕ). sets o r (digitsOf (fours z))) (sym (drop-cons m i 0 h)) ∙ p .same);
       }
 
   pub putting-end : length m ≤ i → Put l at (fours m) r o
@@ -46,16 +43,10 @@ module _ (l : List ℕ) (at : ℕ) (m : List ℕ) (i r : ℕ) (o : List ℕ) (p 
       none (x ∷ w) zero o r h = absurd (not-suc-le-zero h)
       none (x ∷ w) (suc i) o r h = none w i o r (omega arith)
 
-      all : i ≡ length m → r ≡ at + 2 * length (fours m)
-      all e = let c = fours-long m in omega (arith, p .next)
+      all : i ≡ length m → r ≡ at + length (digitsOf (fours m))
+      all e = omega (arith, p .next, digits-long (fours m), fours-long m)
 
   pub putting-long : length o ≡ length l
   putting-long = p .long
 
 pub ruleset puttings = (putting-start, putting-next, putting-end, putting-long)
-
--- the line feed after the bytes
-pub fed : (l a : List ℕ) (r s : ℕ) (m n : List ℕ) → Put l 0 a r m → n ≡ sets m r (lineFeed ∷ []) → s ≡ r + 1 → WrittenBytes l a s n
-fed l a r s m n p e f =
-    let q = line-put l 0 a r s m n p e f in
-    record { made = q .made; long = omega (arith, q .next) }

@@ -1,11 +1,8 @@
 -- To be believed: the verdict line ("Output, one such line with its line feed").
 use Prim.Native.Nat.{ℕ, _+_, _*_}
-use mathlib.Core.Path.{_≡_}
 use mathlib.Core.List.{List, [], _∷_, _++_}
-use lib.ListN.{length}
-use lib.Seq.{sets}
 use Rattle.ground.specs.Limits.{countLimit}
-use Rattle.file_digits.specs.Frame.{four, fours, lineText}
+use Rattle.file_put.specs.Put.{four, fours, lineText, PutLine}
 use Rattle.net.specs.Firing.{causeNumber, causePlace}
 use Rattle.replay.specs.declared.Replay.{Replay}
 use Rattle.replay.specs.declared.Replay.the-variants.{Fired, Blocked, Refused}
@@ -27,6 +24,5 @@ abbrev pub answerLimit : ℕ
 answerLimit = 13 + 8 * countLimit
 
 -- the line of these bytes stands at the front of the room; r is its length
-pub record WrittenBytes (room bytes : List ℕ) (r : ℕ) (room′ : List ℕ) : Type 0 where
-  pub made : room′ ≡ sets room 0 (lineText bytes)
-  pub long : r ≡ length (lineText bytes)
+abbrev pub WrittenBytes : List ℕ → List ℕ → ℕ → List ℕ → Type 0
+WrittenBytes room bytes r room′ = PutLine room 0 bytes r room′

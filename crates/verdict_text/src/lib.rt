@@ -7,7 +7,7 @@ ghost use mathlib.Core.List.{[], _∷_, _++_};
 ghost use Prim.Native.Nat.{_+_, _*_, _≤_};
 ghost use lib.ListN.{length};
 ghost use Rattle.ground.specs.Limits.{countLimit};
-ghost use Rattle.file_digits.specs.Frame.{four, fours, Put};
+ghost use Rattle.file_put.specs.Put.{four, fours, Put};
 ghost use Rattle.verdict_text.specs.Verdict.{bytesOf, answerLimit, WrittenBytes};
 ghost use Rattle.verdict_text.specs.Walk.{Placed};
 
@@ -30,7 +30,7 @@ fn put_marking(out: &mut [u8], at: usize, marking: &[u32]) -> usize
     let mut r = at;
     let mut p = 0;
     while p < marking.len() {
-        r = file_digits::put_four(out, r, wide(marking[p]));
+        r = file_put::put_four(out, r, wide(marking[p]));
         p += 1;
     }
     r
@@ -41,11 +41,11 @@ pub fn write_fired(out: &mut [u8], n: usize, marking: &[u32]) -> usize
     requires { ⌜ 13 + 8 * length (now marking) ≤ length (now out) ⌝ }
     ensures { λ r. ⌜ WrittenBytes (now (out .entry)) ((0x81 ∷ []) ++ ((0 ∷ []) ++ (four n ++ fours (now (marking .entry))))) r (now (out .exit)) ⌝ }
 {
-    let a = file_digits::put_byte(out, 0, 0x81);
-    let b = file_digits::put_byte(out, a, 0);
-    let c = file_digits::put_four(out, b, n);
+    let a = file_put::put_byte(out, 0, 0x81);
+    let b = file_put::put_byte(out, a, 0);
+    let c = file_put::put_four(out, b, n);
     let d = put_marking(out, c, marking);
-    file_digits::put_feed(out, d)
+    file_put::put_feed(out, d)
 }
 
 // 81 and the cause, the letter's position, and the place.
@@ -53,11 +53,11 @@ pub fn write_blocked(out: &mut [u8], i: usize, cause: u8, place: u8) -> usize
     requires { ⌜ 15 ≤ length (now out) ⌝ }
     ensures { λ r. ⌜ WrittenBytes (now (out .entry)) ((0x81 ∷ []) ++ ((cause ∷ []) ++ (four i ++ (place ∷ [])))) r (now (out .exit)) ⌝ }
 {
-    let a = file_digits::put_byte(out, 0, 0x81);
-    let b = file_digits::put_byte(out, a, cause);
-    let c = file_digits::put_four(out, b, i);
-    let d = file_digits::put_byte(out, c, place);
-    file_digits::put_feed(out, d)
+    let a = file_put::put_byte(out, 0, 0x81);
+    let b = file_put::put_byte(out, a, cause);
+    let c = file_put::put_four(out, b, i);
+    let d = file_put::put_byte(out, c, place);
+    file_put::put_feed(out, d)
 }
 
 // 82, the refusal's number, and its line.
@@ -65,10 +65,10 @@ pub fn write_refused(out: &mut [u8], number: u8, line: usize) -> usize
     requires { ⌜ 13 ≤ length (now out) ⌝ }
     ensures { λ r. ⌜ WrittenBytes (now (out .entry)) ((0x82 ∷ []) ++ ((number ∷ []) ++ four line)) r (now (out .exit)) ⌝ }
 {
-    let a = file_digits::put_byte(out, 0, 0x82);
-    let b = file_digits::put_byte(out, a, number);
-    let c = file_digits::put_four(out, b, line);
-    file_digits::put_feed(out, c)
+    let a = file_put::put_byte(out, 0, 0x82);
+    let b = file_put::put_byte(out, a, number);
+    let c = file_put::put_four(out, b, line);
+    file_put::put_feed(out, c)
 }
 
 // A block's line, by its cause.

@@ -1,7 +1,7 @@
 use native.Mathlib.Omega.{arith}
-use denote.Ref.{now}
-use Rattle.file_digits.proofs.Puts.{put-then, put-long, four-long, fours-long}
-use Rattle.verdict_text.proofs.Puts.{fed}
+use mathlib.Core.Path.{refl}
+use Rattle.file_put.proofs.Appends.{append-then}
+use Rattle.file_put.proofs.Puts.{put-then, put-moved, four-long, fours-long}
 use borrow.Author.Needs.{needs}
 use Rattle.verdict_text.proofs.write_fired.Statement.{statement}
 use Rattle.verdict_text.proofs.write_fired.Tie as tie
@@ -10,10 +10,17 @@ put-byte-requires : tie.Need-put-byte-requires
 put-byte-requires c κs = search needs
 
 put-byte-requires-2 : tie.Need-put-byte-requires-2
-put-byte-requires-2 c κs = search needs
+put-byte-requires-2 c κs =
+    let a : tie.After-put-byte = search needs in
+    let s : tie.Start = search needs in
+    omega (arith, s .pre, put-moved _ (a .put-byte .ensures) refl)
 
 put-four-requires : tie.Need-put-four-requires
-put-four-requires c κs = search needs
+put-four-requires c κs =
+    let a : tie.After-put-byte = search needs in
+    let b : tie.After-put-byte2 = search needs in
+    let s : tie.Start = search needs in
+    omega (arith, s .pre, put-moved _ (a .put-byte .ensures) refl, put-moved _ (b .put-byte2 .ensures) refl)
 
 put-marking-requires : tie.Need-put-marking-requires
 put-marking-requires c κs =
@@ -21,7 +28,7 @@ put-marking-requires c κs =
     let b : tie.After-put-byte2 = search needs in
     let f : tie.After-put-four = search needs in
     let s : tie.Start = search needs in
-    omega (arith, four-long (s .args .n), a .put-byte .ensures .next, b .put-byte2 .ensures .next, f .put-four .ensures .next, s .pre, put-long _ _ _ _ _ (a .put-byte .ensures), put-long _ _ _ _ _ (b .put-byte2 .ensures), put-long _ _ _ _ _ (f .put-four .ensures))
+    omega (arith, s .pre, put-moved _ (a .put-byte .ensures) refl, put-moved _ (b .put-byte2 .ensures) refl, put-moved _ (f .put-four .ensures) (four-long _))
 
 put-feed-requires : tie.Need-put-feed-requires
 put-feed-requires c κs =
@@ -30,7 +37,7 @@ put-feed-requires c κs =
     let f : tie.After-put-four = search needs in
     let s : tie.Start = search needs in
     let g : tie.After-put-marking = search needs in
-    omega (arith, four-long (s .args .n), a .put-byte .ensures .next, b .put-byte2 .ensures .next, f .put-four .ensures .next, s .pre, put-long _ _ _ _ _ (a .put-byte .ensures), put-long _ _ _ _ _ (b .put-byte2 .ensures), put-long _ _ _ _ _ (f .put-four .ensures), fours-long (now (s .args .marking)), g .put-marking .ensures .next, put-long _ _ _ _ _ (g .put-marking .ensures))
+    omega (arith, s .pre, put-moved _ (a .put-byte .ensures) refl, put-moved _ (b .put-byte2 .ensures) refl, put-moved _ (f .put-four .ensures) (four-long _), put-moved _ (g .put-marking .ensures) (fours-long _))
 
 same-length : tie.Need-same-length
 same-length c = search needs
@@ -43,7 +50,7 @@ returns c =
     let s : tie.Start = search needs in
     let g : tie.After-put-marking = search needs in
     let e : tie.After-put-feed = search needs in
-    fed _ _ _ _ _ _ (put-then _ _ _ _ _ _ _ _ (a .put-byte .ensures) (put-then _ _ _ _ _ _ _ _ (b .put-byte2 .ensures) (put-then _ _ _ _ _ _ _ _ (f .put-four .ensures) (g .put-marking .ensures)))) (e .put-feed .ensures .0) (e .put-feed .ensures .1)
+    append-then (put-then _ _ _ _ _ _ _ _ (a .put-byte .ensures) (put-then _ _ _ _ _ _ _ _ (b .put-byte2 .ensures) (put-then _ _ _ _ _ _ _ _ (f .put-four .ensures) (g .put-marking .ensures)))) (e .put-feed .ensures)
 
 pub write-fired-spec : {M : Type 1} → statement M
 write-fired-spec =

@@ -32,7 +32,7 @@ returns : tie.Need-returns
 returns c =
     let s : tie.Start = search needs in
     let w = line-of (s .args .answer) _ _ (now (s .args .marking)) _ _ (c .before .before .before .before .before .answer .given .1) (c .before .before .write-fired .ensures) in
-    (w, omega (arith, w .long, line-few (s .args .answer) (now (s .args .marking)) (s .pre .1)))
+    (w, omega (arith, w .next, line-few (s .args .answer) (now (s .args .marking)) (s .pre .1)))
 
 same-length-2 : tie.Need-same-length-2
 same-length-2 c = search needs
@@ -41,7 +41,7 @@ returns-2 : tie.Need-returns-2
 returns-2 c =
     let s : tie.Start = search needs in
     let w = line-of (s .args .answer) _ _ (now (s .args .marking)) _ _ (c .before .before .before .before .before .answer2 .given .1) (c .before .before .write-cause .ensures) in
-    (w, omega (arith, w .long, line-few (s .args .answer) (now (s .args .marking)) (s .pre .1)))
+    (w, omega (arith, w .next, line-few (s .args .answer) (now (s .args .marking)) (s .pre .1)))
 
 same-length-3 : tie.Need-same-length-3
 same-length-3 c = search needs
@@ -50,7 +50,7 @@ returns-3 : tie.Need-returns-3
 returns-3 c =
     let s : tie.Start = search needs in
     let w = line-of (s .args .answer) _ _ (now (s .args .marking)) _ _ (c .before .before .before .before .before .answer3 .given .1) (c .before .before .write-refused .ensures) in
-    (w, omega (arith, w .long, line-few (s .args .answer) (now (s .args .marking)) (s .pre .1)))
+    (w, omega (arith, w .next, line-few (s .args .answer) (now (s .args .marking)) (s .pre .1)))
 
 pub write-verdict-spec : {M : Type 1} → statement M
 write-verdict-spec =

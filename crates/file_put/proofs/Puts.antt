@@ -1,31 +1,29 @@
 -- Laws of bytes put one after another. Assumes nothing.
-use mathlib.Core.Path.{_≡_, refl, sym, _∙_, ap}
+use mathlib.Core.Path.{_≡_, refl}
 use mathlib.Core.List.{List, [], _∷_, _++_}
 use Prim.Native.Nat.{ℕ, _+_, _*_, _/_, _%_}
 use native.Mathlib.Omega.{arith}
 use native.Mathlib.Numerals.{add-one}
 use lib.ListN.{length, set, length-append}
-use lib.Seq.{sets, length-sets}
-use Rattle.ground.proofs.Stores.{sets-both}
-use Rattle.file_digits.specs.Frame.{digitOf, digitsOf, lineFeed, two, four, fours, Put, PutLine}
-use Rattle.file_digits.proofs.Round.{digits-then, digits-long}
+use Rattle.file_put.specs.Put.{digitOf, digitsOf, two, four, fours, Put}
+use Rattle.file_put.proofs.Appends.{append-then, append-long}
+use Rattle.file_put.proofs.Round.{digits-then, digits-long}
 
 pub put-then : (l : List ℕ) (at : ℕ) (a b : List ℕ) (r s : ℕ) (m n : List ℕ) → Put l at a r m → Put m r b s n → Put l at (a ++ b) s n
-put-then l at a b r s m n p q =
-    let e : r ≡ at + length (digitsOf a) = p .next ∙ rw (digits-long a) in
-    record {
-      made = q .made ∙ rw (p .made, e) (sets-both (digitsOf a) (digitsOf b) l at ∙ ap (sets l at) (sym (digits-then a b)));
-      next = omega (arith, p .next, q .next, length-append a b);
-    }
+put-then l at a b r s m n p q = rw (digits-then a b) (append-then p q)
 
 pub put-one : (l : List ℕ) (at b x y : ℕ) → x ≡ digitOf (b / 16) → y ≡ digitOf (b % 16) → Put l at (b ∷ []) (at + 2) (set (set l at x) (at + 1) y)
 unfolding digitsOf
 put-one l at b x y e f = record { made = rw (e, f, add-one at); next = omega arith }
 
-pub put-long : (l : List ℕ) (at : ℕ) (a : List ℕ) (r : ℕ) (m : List ℕ) → Put l at a r m → length m ≡ length l
-put-long l at a r m p = rw (p .made, length-sets)
+pub put-next : (a : List ℕ) {l : List ℕ} {at r : ℕ} {m : List ℕ} → Put l at a r m → r ≡ at + 2 * length a
+put-next a p = omega (arith, p .next, digits-long a)
 
-two-long : (n : ℕ) → length (two n) ≡ 2
+-- where the next is put, and the room's length, for a caller that shows that there is room
+pub put-moved : (a : List ℕ) {l : List ℕ} {at r : ℕ} {m : List ℕ} {n : ℕ} → Put l at a r m → length a ≡ n → (r ≡ at + 2 * n) × (length m ≡ length l)
+put-moved a p e = (omega (arith, put-next a p, e), append-long p)
+
+pub two-long : (n : ℕ) → length (two n) ≡ 2
 unfolding two
 two-long n = refl
 
@@ -41,9 +39,6 @@ fours-long (x ∷ w) =
     let f = fours-long w in
     omega (arith, four-long x)
 
-pub two-next : (l : List ℕ) (at n r : ℕ) (m : List ℕ) → Put l at (two n) r m → r ≡ at + 4
-two-next l at n r m p = omega (arith, p .next, two-long n)
-
 -- four bytes are two and two
 pub four-twos : (n : ℕ) → two (n / 65536 % 65536) ++ two (n % 65536) ≡ four n
 unfolding two four
@@ -56,12 +51,3 @@ four-twos n =
 
 pub put-four-is : (l : List ℕ) (at n r : ℕ) (m : List ℕ) → Put l at (two (n / 65536 % 65536) ++ two (n % 65536)) r m → Put l at (four n) r m
 put-four-is l at n r m p = rw (four-twos n) at p
-
--- the line feed after the bytes
-pub line-put : (l : List ℕ) (at : ℕ) (a : List ℕ) (r s : ℕ) (m n : List ℕ) → Put l at a r m → n ≡ sets m r (lineFeed ∷ []) → s ≡ r + 1 → PutLine l at a s n
-line-put l at a r s m n p e f =
-    let k : r ≡ at + length (digitsOf a) = p .next ∙ rw (digits-long a) in
-    record {
-      made = e ∙ rw (p .made, k) (sets-both (digitsOf a) (lineFeed ∷ []) l at);
-      next = let z = length-append (digitsOf a) (lineFeed ∷ []) in omega (arith, k);
-    }

@@ -1,8 +1,10 @@
-use Rattle.file_digits.specs.Frame.{two}
-use Rattle.file_digits.proofs.Puts.{put-then}
+use native.Mathlib.Omega.{arith}
+use mathlib.Core.Path.{refl}
+use Rattle.file_put.specs.Put.{two}
+use Rattle.file_put.proofs.Puts.{put-then, put-moved}
 use borrow.Author.Needs.{needs}
-use Rattle.file_digits.proofs.put_two.Statement.{statement}
-use Rattle.file_digits.proofs.put_two.Tie as tie
+use Rattle.file_put.proofs.put_two.Statement.{statement}
+use Rattle.file_put.proofs.put_two.Tie as tie
 
 cast-put-byte : tie.Need-cast-put-byte
 cast-put-byte c = search needs
@@ -14,7 +16,10 @@ cast-put-byte-2 : tie.Need-cast-put-byte-2
 cast-put-byte-2 c = search needs
 
 put-byte-requires-2 : tie.Need-put-byte-requires-2
-put-byte-requires-2 c κs = search needs
+put-byte-requires-2 c κs =
+    let x : tie.After-put-byte = search needs in
+    let s : tie.Start = search needs in
+    omega (arith, s .pre, put-moved _ (x .put-byte .ensures) refl)
 
 same-length : tie.Need-same-length
 same-length c = search needs

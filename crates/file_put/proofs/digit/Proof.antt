@@ -1,10 +1,10 @@
 use native.Mathlib.Omega.{arith}
 use mathlib.Core.Path.{_≡_, sym, _∙_}
 use Prim.Native.Nat.{ℕ, _+_, _-_, _≤_}
-use Rattle.file_digits.proofs.Round.{digit-num, digit-letter}
+use Rattle.file_put.proofs.Round.{digit-num, digit-letter}
 use borrow.Author.Needs.{needs}
-use Rattle.file_digits.proofs.digit.Statement.{statement}
-use Rattle.file_digits.proofs.digit.Tie as tie
+use Rattle.file_put.proofs.digit.Statement.{statement}
+use Rattle.file_put.proofs.digit.Tie as tie
 
 add-result : tie.Need-add-result
 add-result c = search needs

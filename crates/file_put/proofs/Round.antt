@@ -4,17 +4,14 @@ use mathlib.Core.Bool.{Bool, true, false, cond, false≢true}
 use mathlib.Core.List.{List, [], _∷_, _++_}
 use Prim.Native.Nat.{ℕ, zero, suc, _+_, _-_, _*_, _/_, _%_, _≤_, _<_}
 use native.Mathlib.Omega.{arith}
-use native.Mathlib.Numerals.{add-one}
+use native.Mathlib.Nat.{not-suc-le-zero}
 use lib.Dec.{leb}
-use lib.ListN.{length}
+use lib.ListN.{length, getD}
 use borrow.Author.Tests.{le-leb, lt-leb, leb-true, leb-false}
-use Rattle.file_digits.specs.Frame.{valueOf, isDigit, allDigits, byteAt, bytesFrom, digitOf, digitsOf}
+use Rattle.file_digits.specs.Frame.{valueOf, isDigit, allDigits, byteAt, bytesFrom}
 use Rattle.file_digits.proofs.Frames.{low, num, mid, letter, high}
-
--- every entry is below n
-pub data Below (n : ℕ) : List ℕ → Type 0 where
-  none : Below n []
-  more : {x : ℕ} {xs : List ℕ} → x < n → Below n xs → Below n (x ∷ xs)
+use Rattle.file_digits.proofs.Bytes.{Below, none, more, byte-shift, bytes-shift, byte-first}
+use Rattle.file_put.specs.Put.{digitOf, digitsOf}
 
 pub digit-num : (n : ℕ) → n ≤ 9 → digitOf n ≡ n + 48
 unfolding digitOf
@@ -65,23 +62,6 @@ digit-value x t = go (leb 48 x) refl (leb x 57) refl (leb 65 x) refl (leb x 70) 
       let m : x - 55 + 55 ≡ x = omega arith in
       (rw (v .0) (digit-letter (x - 55) (omega arith) ∙ m), rw (v .0) (omega arith))
 
--- a frame's bytes, one byte further in
-pub byte-shift : (x y : ℕ) (d : List ℕ) (i : ℕ) → byteAt (x ∷ y ∷ d) (suc i) ≡ byteAt d i
-unfolding byteAt
-byte-shift x y d i =
-    let e : 2 * suc i ≡ suc (suc (2 * i)) = omega arith in
-    let f : 2 * suc i + 1 ≡ suc (suc (2 * i + 1)) = omega arith in
-    rw (f, e)
-
-pub bytes-shift : (x y : ℕ) (d : List ℕ) (i n : ℕ) → bytesFrom (x ∷ y ∷ d) (suc i) n ≡ bytesFrom d i n
-unfolding bytesFrom
-bytes-shift x y d i zero = refl
-bytes-shift x y d i (suc n) = rw (byte-shift x y d i, add-one (suc i), add-one i, bytes-shift x y d (suc i) n)
-
-pub byte-first : (x y : ℕ) (d : List ℕ) → byteAt (x ∷ y ∷ d) 0 ≡ valueOf x * 16 + valueOf y
-unfolding byteAt
-byte-first x y d = refl
-
 -- the digits of two frames, and how many they are
 pub digits-then : (a b : List ℕ) → digitsOf (a ++ b) ≡ digitsOf a ++ digitsOf b
 unfolding digitsOf
@@ -92,6 +72,15 @@ pub digits-long : (a : List ℕ) → length (digitsOf a) ≡ 2 * length a
 unfolding digitsOf
 digits-long [] = refl
 digits-long (x ∷ a) = let e = digits-long a in omega (arith, e)
+
+-- the digits of bytes are digits
+pub digits-all : (f : List ℕ) → Below 256 f → allDigits (digitsOf f) ≡ true
+unfolding digitsOf allDigits
+digits-all [] w = refl
+digits-all (b ∷ f) (more h w) =
+    let hi = value-digit (b / 16) (omega arith) .1 in
+    let lo = value-digit (b % 16) (omega arith) .1 in
+    simp (hi, lo) (digits-all f w)
 
 -- bytes, to digits and back
 pub back : (bs : List ℕ) → Below 256 bs → bytesFrom (digitsOf bs) 0 (length bs) ≡ bs
@@ -125,3 +114,27 @@ canon (suc n) (x ∷ y ∷ d) e t = go (isDigit x) refl (isDigit y) refl t (λ u
       let g : digitsOf (bytesFrom (x ∷ y ∷ d) 1 n) ≡ d = ap digitsOf (bytes-shift x y d 0 n) ∙ r u in
       let f : digitsOf (byteAt (x ∷ y ∷ d) 0 ∷ []) ≡ x ∷ y ∷ [] = rw (byte-first x y d, h, l, vx .0, vy .0) refl in
       ap (λ (z : List ℕ). z ++ digitsOf (bytesFrom (x ∷ y ∷ d) 1 n)) f ∙ ap (λ (z : List ℕ). x ∷ y ∷ z) g
+
+-- bytes, to digits and back, from a place of the frame on
+pub byte-digits : (f : List ℕ) (i : ℕ) → Below 256 f → i < length f → byteAt (digitsOf f) i ≡ getD f i 0
+unfolding digitsOf
+byte-digits [] i w h = absurd (not-suc-le-zero h)
+byte-digits (b ∷ f) zero (more k w) h =
+    let hi = value-digit (b / 16) (omega arith) .0 in
+    let lo = value-digit (b % 16) (omega arith) .0 in
+    let e : b / 16 * 16 + b % 16 ≡ b = omega arith in
+    rw (byte-first (digitOf (b / 16)) (digitOf (b % 16)) (digitsOf f), hi, lo) e
+byte-digits (b ∷ f) (suc i) (more k w) h = byte-shift (digitOf (b / 16)) (digitOf (b % 16)) (digitsOf f) i ∙ byte-digits f i w (omega arith)
+
+front : (b c : List ℕ) → Below 256 (b ++ c) → bytesFrom (digitsOf (b ++ c)) 0 (length b) ≡ b
+unfolding digitsOf bytesFrom
+front [] c w = refl
+front (x ∷ b) c (more h w) =
+    let e : byteAt (digitsOf (x ∷ (b ++ c))) 0 ≡ x = byte-digits (x ∷ (b ++ c)) 0 (more h w) (omega arith) in
+    let g : bytesFrom (digitsOf (x ∷ (b ++ c))) 1 (length b) ≡ b = bytes-shift (digitOf (x / 16)) (digitOf (x % 16)) (digitsOf (b ++ c)) 0 (length b) ∙ front b c w in
+    ap (λ (z : ℕ). z ∷ bytesFrom (digitsOf (x ∷ (b ++ c))) 1 (length b)) e ∙ ap (λ (l : List ℕ). x ∷ l) g
+
+pub piece : (a b c : List ℕ) → Below 256 (a ++ (b ++ c)) → bytesFrom (digitsOf (a ++ (b ++ c))) (length a) (length b) ≡ b
+unfolding digitsOf
+piece [] b c w = front b c w
+piece (x ∷ a) b c (more h w) = bytes-shift (digitOf (x / 16)) (digitOf (x % 16)) (digitsOf (a ++ (b ++ c))) (length a) (length b) ∙ piece a b c w

@@ -1,8 +1,8 @@
 use native.Mathlib.Omega.{arith}
-use Rattle.file_digits.proofs.Puts.{put-then, put-long, two-next, put-four-is}
+use Rattle.file_put.proofs.Puts.{put-then, put-moved, two-long, put-four-is}
 use borrow.Author.Needs.{needs}
-use Rattle.file_digits.proofs.put_four.Statement.{statement}
-use Rattle.file_digits.proofs.put_four.Tie as tie
+use Rattle.file_put.proofs.put_four.Statement.{statement}
+use Rattle.file_put.proofs.put_four.Tie as tie
 
 cast-put-two : tie.Need-cast-put-two
 cast-put-two c = search needs
@@ -17,7 +17,7 @@ put-two-requires-2 : tie.Need-put-two-requires-2
 put-two-requires-2 c κs =
     let x : tie.After-put-two = search needs in
     let s : tie.Start = search needs in
-    omega (arith, two-next _ _ _ _ _ (x .put-two .ensures), s .pre, put-long _ _ _ _ _ (x .put-two .ensures))
+    omega (arith, s .pre, put-moved _ (x .put-two .ensures) (two-long _))
 
 same-length : tie.Need-same-length
 same-length c = search needs

@@ -1,0 +1,4 @@
+pub mod Appends
+pub mod Round
+pub mod Twos
+pub mod Puts
