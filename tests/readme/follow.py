@@ -58,8 +58,10 @@ def main():
     page = Path(sys.argv[1] if len(sys.argv) > 1 else ROOT / "README.md").read_text()
     with tempfile.TemporaryDirectory() as folder:
         tree = Path(folder)
+        made = {part for name in dict(PROGRAM.findall(page)) for part in (name, name.removesuffix(".c"))}
         for part in ROOT.iterdir():
-            (tree / part.name).symlink_to(part)
+            if part.name not in made:  # else a program that someone tried here would be written over
+                (tree / part.name).symlink_to(part)
         faults = [*missing_paths(page), *make_calls(page, tree)]
     for fault in faults:
         print(f"tests/readme: {fault}")
