@@ -9,7 +9,7 @@ use native.Mathlib.Nat.{not-suc-le-zero}
 use lib.ListN.{length, getD, drop, set}
 use lib.Seq.{sets, drop-cons}
 use borrow.Author.Tests.{le-leb, lt-leb}
-use Rattle.file_digits.specs.Frame.{valueOf, isDigit, allDigits, byteAt, bytesFrom, wordsFrom}
+use Rattle.file_digits.specs.Frame.{valueOf, isDigit, allDigits, byteAt, wordAt, bytesFrom, wordsFrom}
 
 module _ (b : ℕ) where
   pub low : b < 48 → (valueOf b ≡ 0) × (isDigit b ≡ false)
@@ -58,21 +58,21 @@ digits-end (x ∷ d) zero h = absurd (not-suc-le-zero h)
 digits-end (x ∷ d) (suc i) h = digits-end d i (omega arith)
 
 -- a turn of a store of bytes, and of words
-pub bytes-turn : (room d : List ℕ) (i j left : ℕ) → 0 < left
-    → sets (set room i (byteAt d j)) (i + 1) (bytesFrom d (j + 1) (left - 1)) ≡ sets room i (bytesFrom d j left)
+pub bytes-turn : (room d : List ℕ) (i j left x i′ j′ left′ : ℕ) → 0 < left → x ≡ byteAt d j → i′ ≡ i + 1 → j′ ≡ j + 1 → left′ ≡ left - 1
+    → sets (set room i x) i′ (bytesFrom d j′ left′) ≡ sets room i (bytesFrom d j left)
 unfolding bytesFrom
-bytes-turn room d i j zero h = absurd (not-suc-le-zero h)
-bytes-turn room d i j (suc left) h =
-    let e : suc left - 1 ≡ left = omega arith in
-    rw (e, add-one i)
+bytes-turn room d i j zero x i′ j′ left′ h v e f g = absurd (not-suc-le-zero h)
+bytes-turn room d i j (suc left) x i′ j′ left′ h v e f g =
+    let k : left′ ≡ left = omega arith in
+    rw (v, e, f, k, add-one i)
 
-pub words-turn : (room d : List ℕ) (i j left : ℕ) → 0 < left
-    → sets (set room i (byteAt d j * 256 + byteAt d (j + 1))) (i + 1) (wordsFrom d (j + 2) (left - 1)) ≡ sets room i (wordsFrom d j left)
+pub words-turn : (room d : List ℕ) (i j left x i′ j′ left′ : ℕ) → 0 < left → x ≡ wordAt d j → i′ ≡ i + 1 → j′ ≡ j + 2 → left′ ≡ left - 1
+    → sets (set room i x) i′ (wordsFrom d j′ left′) ≡ sets room i (wordsFrom d j left)
 unfolding wordsFrom
-words-turn room d i j zero h = absurd (not-suc-le-zero h)
-words-turn room d i j (suc left) h =
-    let e : suc left - 1 ≡ left = omega arith in
-    rw (e, add-one i)
+words-turn room d i j zero x i′ j′ left′ h v e f g = absurd (not-suc-le-zero h)
+words-turn room d i j (suc left) x i′ j′ left′ h v e f g =
+    let k : left′ ≡ left = omega arith in
+    rw (v, e, f, k, add-one i)
 
 pub bytes-none : (room d : List ℕ) (i j left : ℕ) → left ≤ 0 → sets room i (bytesFrom d j left) ≡ room
 unfolding bytesFrom

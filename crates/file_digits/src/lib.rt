@@ -54,7 +54,9 @@ pub fn byte_at(d: &[u8], i: usize) -> u8
     requires { ⌜ 2 * i + 1 < length (now d) ⌝ }
     ensures { λ r. ⌜ r ≡ byteAt (now (d .entry)) i ⌝ }
 {
-    value(d[2 * i]) * 16 + value(d[2 * i + 1])
+    let high = value(d[2 * i]);
+    let low = value(d[2 * i + 1]);
+    high * 16 + low
 }
 
 // The number of two bytes; a leaf of its own, so that a must-fail edit can exchange the two and
@@ -96,11 +98,11 @@ pub fn store_words(d: &[u8], from: usize, room: &mut [u16], count: usize)
 {
     let mut j = from;
     let mut i: usize = 0;
-    let mut left = count;
-    while 0 < left {
+    let mut words = count;
+    while 0 < words {
         room[i] = word_at(d, j);
         i = i + 1;
         j = j + 2;
-        left = left - 1;
+        words = words - 1;
     }
 }

@@ -12,9 +12,9 @@ use Rattle.file_put.proofs.Round.{digits-then, digits-long}
 pub put-then : (l : List ℕ) (at : ℕ) (a b : List ℕ) (r s : ℕ) (m n : List ℕ) → Put l at a r m → Put m r b s n → Put l at (a ++ b) s n
 put-then l at a b r s m n p q = rw (digits-then a b) (append-then p q)
 
-pub put-one : (l : List ℕ) (at b x y : ℕ) → x ≡ digitOf (b / 16) → y ≡ digitOf (b % 16) → Put l at (b ∷ []) (at + 2) (set (set l at x) (at + 1) y)
+pub put-one : (l : List ℕ) (at b h n x y : ℕ) → x ≡ digitOf h → h ≡ b / 16 → y ≡ digitOf n → n ≡ b % 16 → Put l at (b ∷ []) (at + 2) (set (set l at x) (at + 1) y)
 unfolding digitsOf
-put-one l at b x y e f = record { made = rw (e, f, add-one at); next = omega arith }
+put-one l at b h n x y e f g k = record { made = rw (e, f, g, k, add-one at); next = omega arith }
 
 pub put-next : (a : List ℕ) {l : List ℕ} {at r : ℕ} {m : List ℕ} → Put l at a r m → r ≡ at + 2 * length a
 put-next a p = omega (arith, p .next, digits-long a)

@@ -1,7 +1,7 @@
 use native.Mathlib.Omega.{arith}
 use borrow.Author.Needs.{needs}
 use mathlib.Core.Path.{_≡_, sym, _∙_, refl}
-use Prim.Native.Nat.{_-_, _≤_}
+use Prim.Native.Nat.{_-_}
 use lib.ListN.{length, drop}
 use borrow.Author.Tests.{not-true, not-false}
 use Rattle.file_digits.specs.Frame.{allDigits}
@@ -10,13 +10,13 @@ use Rattle.file_digits.proofs.all_digits.Statement.{statement}
 use Rattle.file_digits.proofs.all_digits.Tie as tie
 
 abbrev Inv-loop : tie.InvT-loop
-Inv-loop d i₀ i = (i ≤ length d) × (allDigits (drop i d) ≡ allDigits d)
+Inv-loop d i₀ i = allDigits (drop i d) ≡ allDigits d
 
 abbrev μ-loop : tie.MeasureT-loop
 μ-loop d i₀ i = length d - i
 
 loop-holds : tie.Need-loop-holds Inv-loop μ-loop
-loop-holds c = (omega arith, refl)
+loop-holds c = refl
 
 shared-slice-read-is-digit : tie.Need-shared-slice-read-is-digit Inv-loop μ-loop
 shared-slice-read-is-digit c = search needs
@@ -27,7 +27,7 @@ is-digit-requires c κs = search needs
 returns : tie.Need-returns Inv-loop μ-loop
 returns c =
     let l = c .before .before .before .before .loop in
-    sym (sym (l .inv .1) ∙ digits-less _ (l .i) (omega arith) (sym (c .before .is-digit .ensures) ∙ not-true _ (c .if1 .taken)))
+    sym (sym (l .inv) ∙ digits-less _ (l .i) (omega arith) (sym (c .before .is-digit .ensures) ∙ not-true _ (c .if1 .taken)))
 
 add-i : tie.Need-add-i Inv-loop μ-loop
 add-i c = search needs
@@ -38,12 +38,12 @@ loop-less c = search needs
 loop-again : tie.Need-loop-again Inv-loop μ-loop
 loop-again c =
     let l = c .before .before .before .before .loop in
-    (omega arith, digits-more _ (l .i) (omega arith) (sym (c .before .is-digit .ensures) ∙ not-false _ (c .if1 .left)) ∙ l .inv .1)
+    digits-more _ (l .i) (omega arith) (sym (c .before .is-digit .ensures) ∙ not-false _ (c .if1 .left)) ∙ l .inv
 
 returns-2 : tie.Need-returns-2 Inv-loop μ-loop
 returns-2 c =
     let l = c .before .loop in
-    sym (sym (l .inv .1) ∙ digits-end _ (l .i) (omega arith))
+    sym (sym (l .inv) ∙ digits-end _ (l .i) (omega arith))
 
 pub all-digits-spec : {M : Type 1} → statement M
 all-digits-spec =

@@ -1,3 +1,4 @@
+use native.Mathlib.Omega.{arith}
 use Rattle.file_digits.specs.Frame.{byteAt}
 use borrow.Author.Needs.{needs}
 use Rattle.file_digits.proofs.byte_at.Statement.{statement}
@@ -12,9 +13,6 @@ shared-slice-read-value c = search needs
 value-requires : tie.Need-value-requires
 value-requires c κs = search needs
 
-mul-result : tie.Need-mul-result
-mul-result c = search needs
-
 mul-value-2 : tie.Need-mul-value-2
 mul-value-2 c = search needs
 
@@ -27,12 +25,18 @@ shared-slice-read-value-2 c = search needs
 value-requires-2 : tie.Need-value-requires-2
 value-requires-2 c κs = search needs
 
+mul-result : tie.Need-mul-result
+mul-result c = search needs
+
 add-result : tie.Need-add-result
 add-result c = search needs
 
 returns : tie.Need-returns
 unfolding byteAt
-returns c = cc
+returns c =
+    let h : tie.After-value = search needs in
+    let l : tie.After-value2 = search needs in
+    omega (arith, h .value .ensures .0, l .value2 .ensures .0)
 
 pub byte-at-spec : {M : Type 1} → statement M
 byte-at-spec =
@@ -41,10 +45,10 @@ byte-at-spec =
     mul-value
     shared-slice-read-value
     value-requires
-    mul-result
     mul-value-2
     add-value
     shared-slice-read-value-2
     value-requires-2
+    mul-result
     add-result
     returns)

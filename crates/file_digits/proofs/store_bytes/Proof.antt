@@ -40,7 +40,7 @@ loop-again : tie.Need-loop-again Inv-loop μ-loop
 loop-again c =
     let l = c .before .before .loop in
     let a = c .before .before .before .before .before .args in
-    (omega arith, omega arith, simp length-set (l .inv .2), cc (bytes-turn (l .room) (a .d .now) (l .i) (l .j) (l .left) (omega arith), c .byte-at .ensures, l .inv .3))
+    (omega arith, omega arith, simp length-set (l .inv .2), bytes-turn (l .room) (a .d .now) (l .i) (l .j) (l .left) _ _ _ _ (omega arith) (c .byte-at .ensures) (omega arith) (omega arith) (omega arith) ∙ l .inv .3)
 
 same-length : tie.Need-same-length Inv-loop μ-loop
 same-length c = c .before .loop .inv .2

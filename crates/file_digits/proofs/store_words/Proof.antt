@@ -10,10 +10,10 @@ use Rattle.file_digits.proofs.store_words.Statement.{statement}
 use Rattle.file_digits.proofs.store_words.Tie as tie
 
 abbrev Inv-loop : tie.InvT-loop
-Inv-loop d from room₀ count j₀ i₀ left₀ room j i left = (2 * (j + 2 * left) ≤ length d) × (i + left ≤ length room₀) × (length room ≡ length room₀) × (sets room i (wordsFrom d j left) ≡ sets room₀ i₀ (wordsFrom d j₀ left₀))
+Inv-loop d from room₀ count j₀ i₀ words₀ room j i words = (2 * (j + 2 * words) ≤ length d) × (i + words ≤ length room₀) × (length room ≡ length room₀) × (sets room i (wordsFrom d j words) ≡ sets room₀ i₀ (wordsFrom d j₀ words₀))
 
 abbrev μ-loop : tie.MeasureT-loop
-μ-loop d from room₀ count j₀ i₀ left₀ room j i left = left
+μ-loop d from room₀ count j₀ i₀ words₀ room j i words = words
 
 loop-holds : tie.Need-loop-holds Inv-loop μ-loop
 loop-holds c = (omega arith, omega arith, refl, refl)
@@ -33,8 +33,8 @@ add-i c = search needs
 add-j : tie.Need-add-j Inv-loop μ-loop
 add-j c = search needs
 
-sub-left : tie.Need-sub-left Inv-loop μ-loop
-sub-left c = search needs
+sub-words : tie.Need-sub-words Inv-loop μ-loop
+sub-words c = search needs
 
 loop-less : tie.Need-loop-less Inv-loop μ-loop
 loop-less c = search needs
@@ -43,7 +43,7 @@ loop-again : tie.Need-loop-again Inv-loop μ-loop
 loop-again c =
     let l = c .before .before .loop in
     let a = c .before .before .before .before .before .args in
-    (omega arith, omega arith, simp length-set (l .inv .2), cc (words-turn (l .room) (a .d .now) (l .i) (l .j) (l .left) (omega arith), c .word-at .ensures, l .inv .3))
+    (omega arith, omega arith, simp length-set (l .inv .2), words-turn (l .room) (a .d .now) (l .i) (l .j) (l .words) _ _ _ _ (omega arith) (c .word-at .ensures) (omega arith) (omega arith) (omega arith) ∙ l .inv .3)
 
 same-length : tie.Need-same-length Inv-loop μ-loop
 same-length c = c .before .loop .inv .2
@@ -51,7 +51,7 @@ same-length c = c .before .loop .inv .2
 returns : tie.Need-returns Inv-loop μ-loop
 returns c =
     let l = c .before .loop in
-    sym (words-none _ _ (l .i) (l .j) (l .left) (omega arith)) ∙ l .inv .3
+    sym (words-none _ _ (l .i) (l .j) (l .words) (omega arith)) ∙ l .inv .3
 
 pub store-words-spec : {M : Type 1} → statement M
 store-words-spec =
@@ -65,7 +65,7 @@ store-words-spec =
     slice-write-room
     add-i
     add-j
-    sub-left
+    sub-words
     loop-less
     loop-again
     same-length

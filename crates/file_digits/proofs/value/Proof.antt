@@ -1,6 +1,5 @@
 use native.Mathlib.Omega.{arith}
-use mathlib.Core.Path.{_≡_, sym, _∙_}
-use Prim.Native.Nat.{ℕ, _+_, _-_, _≤_}
+use mathlib.Core.Path.{sym}
 use Rattle.file_digits.proofs.Frames.{low, num, mid, letter, high}
 use borrow.Author.Needs.{needs}
 use Rattle.file_digits.proofs.value.Statement.{statement}
@@ -12,11 +11,10 @@ add-result c = search needs
 returns : tie.Need-returns
 returns c = (sym (num _ (omega arith) (omega arith) .0), omega arith)
 
-from-A : (b : ℕ) → 65 ≤ b → b - 65 + 10 ≡ b - 55
-from-A b h = omega arith
-
 returns-2 : tie.Need-returns-2
-returns-2 c = (from-A _ (omega arith) ∙ sym (letter _ (omega arith) (omega arith) .0), omega arith)
+returns-2 c =
+    let s : tie.Start = search needs in
+    (omega (arith, letter (s .args .b) (omega arith) (omega arith) .0), omega arith)
 
 returns-3 : tie.Need-returns-3
 returns-3 c = (sym (low _ (omega arith) .0), omega arith)

@@ -30,7 +30,7 @@ returns : tie.Need-returns
 returns c =
     let d : tie.After-digit = search needs in
     let e : tie.After-digit2 = search needs in
-    put-one _ _ _ _ _ (d .digit .ensures) (e .digit2 .ensures)
+    put-one _ _ _ _ _ _ _ (d .digit .ensures) (omega arith) (e .digit2 .ensures) (omega arith)
 
 pub put-byte-spec : {M : Type 1} → statement M
 put-byte-spec =
