@@ -215,7 +215,7 @@ def main(mend, root):
     for file in tree.pages:
         page, text = file.relative_to(root), file.read_text()
         check_paths(tree, page, text)
-        if file.name in ("STATEMENTS.md", "TRUST.md"):
+        if file.name in ("STATEMENTS.md", "TRUST.md", "DECISIONS.md"):
             check_names(tree, page, text, edits)
             check_files(tree, page, text)
     page = root / "docs/STATEMENTS.md"
