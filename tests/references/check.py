@@ -11,7 +11,8 @@
   STATEMENTS cites one that is there.
 - include/kaunorpi.h: each function has its contract in the file named, and its theorems are declared in theirs.
 
---mend writes the right lines into STATEMENTS, and the right file where a name is declared in exactly one other."""
+--mend writes the right lines into the documents, and the right file or crate where a name is declared, or a file of that
+place in a crate stands, in exactly one other. It says what was wrong; what it could not mend is said again next time."""
 import re
 import sys
 from pathlib import Path
@@ -57,10 +58,12 @@ class Tree:
         form = re.escape(name).replace(r"\.\.", r"\S+")
         return any(re.fullmatch(form, one) for one in self.declared(file))
 
+    def named(self, path):
+        return str(path.relative_to(self.root))
+
     def where_else(self, name, file):
         """The one other file that declares the name: one of the same place in another crate first."""
-        files = [str(p.relative_to(self.root)) for p in self.sources]
-        files = [f for f in files if f != file and self.has(f, name)]
+        files = [f for f in map(self.named, self.sources) if f != file and self.has(f, name)]
         alike = [f for f in files if f.split("/")[2:] == file.split("/")[2:]]
         return alike[0] if len(alike) == 1 else files[0] if len(files) == 1 else None
 
@@ -73,10 +76,16 @@ class Tree:
         return any(next(self.root.glob(f"{above}{path}"), None) for above in ("", "crates/", "docs/", "crates/*/"))
 
 
+def rewritten(text, pieces):
+    """The text with new words at some places: (start, end, new)."""
+    for start, end, new in sorted(pieces, reverse=True):
+        text = text[:start] + new + text[end:]
+    return text
+
+
 def check_lines(tree, page, text):
-    """`name` FILE:LINE. The text with the lines, and the files that moved, set right."""
-    last, count, parts, end = "", 0, [], 0
-    written = ""
+    """`name` FILE:LINE"""
+    last, written, pieces, count = "", "", [], 0
     for one in AT_LINE.finditer(text):
         name, file, line = one[1], one[3] or last, int(one[4])
         last, count = file, count + 1
@@ -88,11 +97,11 @@ def check_lines(tree, page, text):
         elif right != line:
             tree.tell(page, text, one.start(), f"`{name}` is declared in {file} on line {right}, not {line}")
         short = not one[3] and now == written
-        parts += [text[end:one.start(3)], "" if short else now, f":{right}"]
-        written, end = now, one.end()
+        pieces.append((one.start(3), one.end(), f"{'' if short else now}:{right}"))
+        written = now
     if count < 100:
         tree.wrong.append(f"{page}: only {count} references to a line were found")
-    return "".join(parts) + text[end:]
+    return rewritten(text, pieces)
 
 
 def files_meant(said):
@@ -109,25 +118,32 @@ def files_meant(said):
 
 def check_files(tree, page, text):
     """`name`, `name` (FILE)"""
-    parts, end = [], 0
+    pieces = []
     for one in IN_FILES.finditer(text):
-        files = files_meant(one[2])
-        lost = [n for n in SPAN.findall(one[1]) if " " not in n and not any(tree.has(f, n) for f in files)]
+        files, names = files_meant(one[2]), [name for name in SPAN.findall(one[1]) if " " not in name]
+        lost = [name for name in names if not any(tree.has(file, name) for file in files)]
         for name in lost:
             tree.tell(page, text, one.start(), f"`{name}` is not declared in {' or '.join(files)}")
-        others = {tree.where_else(name, files[0]) for name in SPAN.findall(one[1])} if lost else set()
-        if len(files) == 1 and len(others) == 1 and None not in others:
-            parts += [text[end:one.start(2)], others.pop().removeprefix("crates/")]
-            end = one.end(2)
-    return "".join(parts) + text[end:]
+        others = {tree.where_else(name, files[0]) for name in names}
+        if lost and len(files) == len(others) == 1 and None not in others:
+            pieces.append((one.start(2), one.end(2), others.pop().removeprefix("crates/")))
+    return rewritten(text, pieces)
+
+
+def check_functions(tree, page, text):
+    """`crate::function`"""
+    pieces = []
+    for one in OF_CRATE.finditer(text):
+        having = [p.parent.parent.name for p in tree.sources if p.parent.name == "src" and tree.has(tree.named(p), one[2])]
+        if one[1] not in having:
+            tree.tell(page, text, one.start(), f"crates/{one[1]} has no function {one[2]}")
+            pieces += [(one.start(1), one.end(1), having[0])] * (len(having) == 1)
+    return rewritten(text, pieces)
 
 
 def check_names(tree, page, text, edits):
-    """Functions of a crate, edits, and whatever else has a name with - in it."""
-    anywhere = {name for file in tree.sources for name in tree.declared(str(file.relative_to(tree.root)))}
-    for one in OF_CRATE.finditer(text):
-        if not any(one[2] in tree.declared(f"crates/{one[1]}/src/{file}.rt") for file in ("lib", "main")):
-            tree.tell(page, text, one.start(), f"crates/{one[1]} has no function {one[2]}")
+    """Edits, and whatever else has a name with - in it."""
+    anywhere = {name for file in tree.sources for name in tree.declared(tree.named(file))}
     for one in SPAN.finditer(text):
         name = one[1]
         if not re.fullmatch(r"[a-z][a-z0-9_]*(-[a-z0-9_]+)+", name):
@@ -136,6 +152,22 @@ def check_names(tree, page, text, edits):
             tree.tell(page, text, one.start(), f"there is no edit {name}")
         if "_" not in name and name not in anywhere:
             tree.tell(page, text, one.start(), f"`{name}` is declared nowhere")
+
+
+def check_paths(tree, page, text):
+    pieces = []
+    for one in list(SPAN.finditer(text)) + list(BARE_PATH.finditer(text)):
+        path, start = (one[1], one.start(1)) if one.re is SPAN else (one[0], one.start())
+        capitals = any(re.fullmatch(r"[A-Z0-9]+(\.(?!md)\w+)?", part) for part in path.split("/"))
+        if not PATH.fullmatch(path) or capitals or ".." in path or path.startswith("target/") or tree.exists(path):
+            continue
+        tree.tell(page, text, start, f"there is no {path}")
+        moved = re.fullmatch(r"(crates/)?\w+/((?:specs|proofs|src)/.*)", path)
+        others = sorted(tree.root.glob(f"crates/*/{moved[2]}")) if moved else []
+        if len(others) == 1:
+            new = tree.named(others[0])
+            pieces.append((start, start + len(path), new if moved[1] else new.removeprefix("crates/")))
+    return rewritten(text, pieces)
 
 
 def edits_in(tree):
@@ -154,16 +186,6 @@ def check_edits(tree, page, text, edits):
                     tree.tell(page, text, one.start(), f"the edit {name} stands under {one[1]}, and is not there")
     for name in sorted(edits.keys() - said.keys()):
         tree.wrong.append(f"{page}: the edit {name} ({edits[name]}) is not named under gate: or also:")
-
-
-def check_paths(tree, page, text):
-    for one in list(SPAN.finditer(text)) + list(BARE_PATH.finditer(text)):
-        path = one[1] if one.re is SPAN else one[0]
-        capitals = any(re.fullmatch(r"[A-Z0-9]+(\.(?!md)\w+)?", part) for part in path.split("/"))
-        if not PATH.fullmatch(path) or capitals or ".." in path or path.startswith("target/"):
-            continue
-        if not tree.exists(path):
-            tree.tell(page, text, one.start(), f"there is no {path}")
 
 
 def check_numbers(tree):
@@ -213,21 +235,20 @@ def main(mend, root):
     tree = Tree(root)
     edits = edits_in(tree)
     for file in tree.pages:
-        page, text = file.relative_to(root), file.read_text()
-        check_paths(tree, page, text)
+        page, text = tree.named(file), file.read_text()
+        if file.name == "STATEMENTS.md":
+            check_edits(tree, page, text, edits)
         if file.name in ("STATEMENTS.md", "TRUST.md", "DECISIONS.md"):
             check_names(tree, page, text, edits)
-            check_files(tree, page, text)
-    page = root / "docs/STATEMENTS.md"
-    text = page.read_text()
-    check_edits(tree, page.relative_to(root), text, edits)
-    mended = check_lines(tree, page.relative_to(root), text)
+            right = check_lines(tree, page, text) if file.name == "STATEMENTS.md" else text
+            right = check_functions(tree, page, check_files(tree, page, right))
+        else:
+            right = text
+        right = check_paths(tree, page, right)
+        if mend and right != text:
+            file.write_text(right)
     check_numbers(tree)
     check_header(tree)
-    if mend:
-        before, tree.wrong = tree.wrong, []
-        page.write_text(check_files(tree, page.relative_to(root), mended))
-        tree.wrong = before
     for sentence in tree.wrong:
         print(f"tests/references: {sentence}")
     return 1 if tree.wrong else 0
