@@ -4,7 +4,7 @@
     tests/references/check.py [--mend] [ROOT]
 
 - docs/STATEMENTS.md: `name` crates/FILE:LINE (or :LINE, in the file named last): the name is declared on that line.
-  `name`, `name` (FILE): each is declared in that file; with .. for a part of it, some such name is.
+  `name`, `name` (FILE): each is declared in that file; `word-..` stands for the three names of section 1.2.
   `crate::function`: it is a function of that crate. Its edits, after gate: and also:, are those that stand in
   crates/*/must-fail and in tests/edits. Elsewhere, too, a name with - and _ is an edit, and one with - is declared.
 - docs/*.md: each path exists. docs/DECISIONS.md is numbered from 1, and whoever cites a decision or a section of
@@ -17,6 +17,9 @@ import re
 import sys
 from pathlib import Path
 
+ANTT = re.compile(r" *(?:(?:pub|abbrev|unfoldable|told) )*(?:(?:record|data) (\S+)|(\S+) :(?: |$))")
+RT = re.compile(r'(?:pub )?(?:extern "C" )?(?:fn|struct|enum|const|type) (\w+)()')
+REFUSING = ("refused-exactly", "allowed-answered", "answered-allowed")
 NAME = r"[^\s`]+"
 FILE = r"\w+/(?:specs|proofs|src)/[\w/]+\.(?:antt|rt)"
 AT_LINE = re.compile(rf"`({NAME})`(\s+)((?:crates/{FILE})?):(\d+)")
@@ -39,24 +42,20 @@ class Tree:
         self.pages = sorted((root / "docs").glob("*.md"))
 
     def declared(self, file):
-        """name -> the first line of this file on which it is declared."""
+        """name -> the line of this file on which it is declared; one inside a module or record gives way to another."""
         if file not in self.known:
-            self.known[file] = found = {}
-            path = self.root / file
+            self.known[file], inner, path = {}, {}, self.root / file
             for number, line in enumerate(path.read_text().split("\n") if path.is_file() else [], 1):
-                name = (re.match(r" *(?:(?:pub|abbrev|unfoldable|told) )*(?:(?:record|data) (\S+)|(\S+) :(?: |$))", line)
-                        if path.suffix == ".antt" else
-                        re.match(r'(?:pub )?(?:extern "C" )?(?:fn|struct|enum|const|type) (\w+)()', line))
+                name = (ANTT if path.suffix == ".antt" else RT).match(line)
                 if name:
-                    found.setdefault(name[1] or name[2], number)
+                    (inner if line[0] == " " else self.known[file]).setdefault(name[1] or name[2], number)
+            self.known[file] = {**inner, **self.known[file]}
         return self.known[file]
 
     def has(self, file, name):
-        """Whether the file declares the name, in which .. stands for any letters."""
-        if ".." not in name:
-            return name in self.declared(file)
-        form = re.escape(name).replace(r"\.\.", r"\S+")
-        return any(re.fullmatch(form, one) for one in self.declared(file))
+        """Whether the file declares the name, or with .. at its end the three names that it stands for."""
+        names = [name.removesuffix("..") + end for end in REFUSING] if name.endswith("..") else [name]
+        return all(one in self.declared(file) for one in names)
 
     def named(self, path):
         return str(path.relative_to(self.root))
