@@ -7,8 +7,16 @@
  * is `const` is only read, another is a room that the answer is written to; both are used during the call and
  * never after it. A pointer may be null where its length is 0; else it must be valid for its length and aligned for
  * its type. A room must not overlap anything else that is lent in the same call. The lengths are compared with the
- * counts: a wrong one is refusal 2, and is not used. kaunorpi_read_case needs some 75 KB of stack, for rooms of its own
- * in which a whole file is read before anything is written; the others need far less.
+ * counts: a wrong one is refusal 2, and is not used.
+ *
+ * Stack. kaunorpi_read_case needs some 75 KB, for rooms of its own in which a whole file is read before anything is
+ * written; every other function needs less than 4 KB. Measured in the machine code of the archive for x86-64: 74,960
+ * bytes, and at most 3,392 (kaunorpi_summary_stretch), with what a function calls and without memcpy and memset, which
+ * are the C library's.
+ *
+ * What is proved. Each function's comment ends with its contract, which says that the answer is the entry's of that
+ * name, number by number, and with theorems that say what such an answer means; docs/STATEMENTS.md has them in words,
+ * and in section 1.2 those that say when a refusal is given.
  *
  * The net comes first in every question, always whole and in this order:
  *   places, transitions   how many there are, 1 to 64 each
@@ -132,11 +140,15 @@ typedef struct kaunorpi_case {
  * 0x81 1: letter `position` cannot happen, since `place` has fewer tokens than it takes; no lower place has.
  * 0x81 2: letter `position` cannot happen: no place is short, but `place` would hold more than its capacity; no
  *         lower place would.
- * In the last two cases room holds the tokens after the letters before that one. room: places entries. */
+ * In the last two cases room holds the tokens after the letters before that one. room: places entries.
+ * Contract: crates/c_replay/src/lib.rt. Theorems: fired-means, fires-fired, fired-longest, blocked-cause in
+ * crates/replay/proofs/Meaning.antt. */
 kaunorpi_replay kaunorpi_replay_word(KAUNORPI_NET, const uint16_t *initial, size_t initial_len, const uint8_t *word,
                                      size_t word_len, uint32_t *room, size_t room_len);
 /* The same for the letters from number start up to, and without, number end. Positions count from start, and the
- * rest of the word is not looked at. */
+ * rest of the word is not looked at.
+ * Contract: crates/c_replay/src/lib.rt. Theorems: fired-means, fires-fired, fired-longest, blocked-cause in
+ * crates/replay/proofs/Meaning.antt. */
 kaunorpi_replay kaunorpi_replay_stretch(KAUNORPI_NET, const uint16_t *initial, size_t initial_len, const uint8_t *word,
                                         size_t word_len, size_t start, size_t end, uint32_t *room, size_t room_len);
 
@@ -145,17 +157,26 @@ kaunorpi_replay kaunorpi_replay_stretch(KAUNORPI_NET, const uint16_t *initial, s
  * zeros past the place count. Another length of any of them is refusal 2.
  * 0x81 0: made. places, letters: the summary's own. need, climb, change: its lists, all 64 entries written. */
 
-/* The summary of no letters. Refusals 1 2. */
+/* The summary of no letters. Refusals 1 2.
+ * Contract: crates/c_summary/src/lib.rt. Theorems: empty-allowed-made in crates/summary/proofs/Exactly.antt;
+ * empty-left, empty-right in crates/summary/proofs/Meaning.antt. */
 kaunorpi_summary kaunorpi_empty_summary(size_t places, uint32_t *need, size_t need_len, uint32_t *climb,
                                         size_t climb_len, int32_t *change, size_t change_len);
-/* The summary of a word, or of a stretch of it (see kaunorpi_replay_stretch). Refusals 1 2 4 5. */
+/* The summary of a word. Refusals 1 2 4 5.
+ * Contract: crates/c_summary/src/lib.rt. Theorems: word-allowed-made in crates/summary/proofs/Exactly.antt;
+ * summary-published, fires-iff in crates/summary/proofs/Meaning.antt. */
 kaunorpi_summary kaunorpi_summary_word(KAUNORPI_NET, const uint8_t *word, size_t word_len, uint32_t *need,
                                        size_t need_len, uint32_t *climb, size_t climb_len, int32_t *change,
                                        size_t change_len);
+/* The same for a stretch of a word (see kaunorpi_replay_stretch). Refusals 1 2 4 5.
+ * Contract: crates/c_summary/src/lib.rt. Theorems: stretch-allowed-made in crates/summary/proofs/Exactly.antt;
+ * summary-published, fires-iff in crates/summary/proofs/Meaning.antt. */
 kaunorpi_summary kaunorpi_summary_stretch(KAUNORPI_NET, const uint8_t *word, size_t word_len, size_t start, size_t end,
                                           uint32_t *need, size_t need_len, uint32_t *climb, size_t climb_len,
                                           int32_t *change, size_t change_len);
-/* The summary of the first word followed by the second, from their summaries. Refusals 1 2 6 7. */
+/* The summary of the first word followed by the second, from their summaries. Refusals 1 2 6 7.
+ * Contract: crates/c_summary/src/lib.rt. Theorems: join-allowed-made in crates/summary/proofs/Exactly.antt;
+ * join-of-words, join-associative in crates/summary/proofs/Meaning.antt. */
 kaunorpi_summary kaunorpi_join_summaries(size_t first_places, uint32_t first_letters, const uint32_t *first_need,
                                          size_t first_need_len, const uint32_t *first_climb, size_t first_climb_len,
                                          const int32_t *first_change, size_t first_change_len, size_t second_places,
@@ -165,7 +186,9 @@ kaunorpi_summary kaunorpi_join_summaries(size_t first_places, uint32_t first_let
                                          size_t need_len, uint32_t *climb, size_t climb_len, int32_t *change,
                                          size_t change_len);
 /* Does the word of this summary fire from this marking? Refusals 1 2 3 6. room: places entries.
- * 0x81 0: yes, and room holds the tokens of each place afterwards. 0x81 1: no, and room is as it was. */
+ * 0x81 0: yes, and room holds the tokens of each place afterwards. 0x81 1: no, and room is as it was.
+ * Contract: crates/c_summary/src/lib.rt. Theorems: ask-fires, fires-ask, ask-yes, ask-no in
+ * crates/summary/proofs/Meaning.antt. */
 kaunorpi_answer kaunorpi_ask_summary(KAUNORPI_NET, const uint16_t *marking, size_t marking_len, size_t summary_places,
                                      uint32_t summary_letters, const uint32_t *need, size_t need_len,
                                      const uint32_t *climb, size_t climb_len, const int32_t *change, size_t change_len,
@@ -173,21 +196,33 @@ kaunorpi_answer kaunorpi_ask_summary(KAUNORPI_NET, const uint16_t *marking, size
 
 /* ---- Weightings. Refusals 1 2 8.
  * y: places entries. 0x81 0: invariant: every firing keeps the sum of y x tokens. 0x81 1: not invariant; position: the
- * lowest transition that changes the sum. */
+ * lowest transition that changes the sum.
+ * Contract: crates/c_weighting/src/lib.rt. Theorems: place-invariant-exactly, place-no-exactly, accepted-keeps-sum
+ * in crates/weighting/proofs/Promise.antt. */
 kaunorpi_answer kaunorpi_place_weighting(KAUNORPI_NET, const int16_t *y, size_t y_len);
 /* x: transitions entries. 0x81 0: invariant, with a negative entry. 0x81 1: not invariant; position: the lowest place
- * that would change. 0x81 2: invariant and proper, no entry is negative: firing each t x(t) times changes nothing. */
+ * that would change. 0x81 2: invariant and proper, no entry is negative: firing each t x(t) times changes nothing.
+ * Contract: crates/c_weighting/src/lib.rt. Theorems: transition-proper-exactly, transition-invariant-exactly,
+ * transition-no-exactly, proper-returns in crates/weighting/proofs/Promise.antt. */
 kaunorpi_answer kaunorpi_transition_weighting(KAUNORPI_NET, const int16_t *x, size_t x_len);
 /* What y bounds the tokens of `place` by. Refusals 1 2 3 8 13.
  * 0x81 0: bound: the place never holds more. 0x81 1: no bound, since position: 1 y is not invariant, 2 it has a negative
- * entry, 3 y(place) is not positive. */
+ * entry, 3 y(place) is not positive.
+ * Contract: crates/c_weighting/src/lib.rt. Theorems: bounded-holds in crates/weighting/proofs/Promise.antt;
+ * bound-judged in crates/weighting/proofs/Meaning.antt. */
 kaunorpi_bound kaunorpi_place_bound(KAUNORPI_NET, const uint16_t *initial, size_t initial_len, const int16_t *y,
                                     size_t y_len, size_t place);
 
 /* ---- Sets of places. set: places bytes, 0 for out. Refusals 1 2 8.
- * Siphon: every transition that puts into the set takes from it; empty, it stays empty. Trap: every one that takes from
- * it puts into it; marked, it stays marked. 0x81 0: yes. 0x81 1: no; position: the lowest transition that breaks it. */
+ * 0x81 0: yes. 0x81 1: no; position: the lowest transition that breaks it. */
+
+/* Siphon: every transition that puts into the set takes from it; empty, it stays empty.
+ * Contract: crates/c_weighting/src/lib.rt. Theorems: siphon-yes-exactly, siphon-no-exactly, accepted-stays-empty in
+ * crates/sets/proofs/Promise.antt. */
 kaunorpi_answer kaunorpi_siphon_set(KAUNORPI_NET, const uint8_t *set, size_t set_len);
+/* Trap: every transition that takes from the set puts into it; marked, it stays marked.
+ * Contract: crates/c_weighting/src/lib.rt. Theorems: trap-yes-exactly, trap-no-exactly, accepted-stays-marked in
+ * crates/sets/proofs/Promise.antt. */
 kaunorpi_answer kaunorpi_trap_set(KAUNORPI_NET, const uint8_t *set, size_t set_len);
 
 /* ---- Marking lists. list: the markings one after another, places entries each. Refusals 1 2 3 9.
@@ -195,31 +230,44 @@ kaunorpi_answer kaunorpi_trap_set(KAUNORPI_NET, const uint8_t *set, size_t set_l
  * 0x81 2: the list is not accepted: the result of firing `transition` at listed marking number `position` is missing
  *         from it (or not covered). It is the first such marking, and in it the lowest such transition. */
 
-/* Closed: 0x81 0: accepted: whatever can be reached from the initial marking is listed. */
+/* Closed: 0x81 0: accepted: whatever can be reached from the initial marking is listed.
+ * Contract: crates/c_lists/src/lib.rt. Theorems: accepted-exactly, initial-missing-exactly, result-missing-exactly,
+ * accepted-never-reached in crates/closed/proofs/Promise.antt. */
 kaunorpi_list kaunorpi_closed_list(KAUNORPI_NET, const uint16_t *initial, size_t initial_len, const uint16_t *list,
                                    size_t list_len);
-/* 0x81 0: the target is never reached. 0x81 3: not shown: it is listed, and a list may hold more than can be reached. */
+/* 0x81 0: the target is never reached. 0x81 3: not shown: it is listed, and a list may hold more than can be reached.
+ * Contract: crates/c_lists/src/lib.rt. Theorems: target-shown-exactly, target-open-exactly, shown-never-reached in
+ * crates/closed/proofs/Promise.antt. */
 kaunorpi_list kaunorpi_closed_target(KAUNORPI_NET, const uint16_t *initial, size_t initial_len, const uint16_t *list,
                                      size_t list_len, const uint16_t *target, size_t target_len);
-/* 0x81 0: the line never stalls: every listed marking enables something. 0x81 3: not shown. */
+/* 0x81 0: the line never stalls: every listed marking enables something. 0x81 3: not shown.
+ * Contract: crates/c_lists/src/lib.rt. Theorems: stall-shown-exactly, stall-open-exactly, shown-never-stalls in
+ * crates/closed/proofs/Promise.antt. */
 kaunorpi_list kaunorpi_closed_stall(KAUNORPI_NET, const uint16_t *initial, size_t initial_len, const uint16_t *list,
                                     size_t list_len);
 /* Cover: an entry of 65,535 is "any number". Capacities are not used. 0x81 0: accepted: whatever can be reached is
- * covered by a listed marking. */
+ * covered by a listed marking.
+ * Contract: crates/c_lists/src/lib.rt. Theorems: accepted-exactly, initial-missing-exactly, result-missing-exactly,
+ * accepted-covers in crates/cover/proofs/Promise.antt. */
 kaunorpi_list kaunorpi_cover_list(KAUNORPI_NET, const uint16_t *initial, size_t initial_len, const uint16_t *list,
                                   size_t list_len);
-/* 0x81 0: nothing that can be reached covers the target. 0x81 3: not shown. */
+/* 0x81 0: nothing that can be reached covers the target. 0x81 3: not shown.
+ * Contract: crates/c_lists/src/lib.rt. Theorems: target-shown-exactly, target-open-exactly, shown-never-covered in
+ * crates/cover/proofs/Promise.antt. */
 kaunorpi_list kaunorpi_cover_target(KAUNORPI_NET, const uint16_t *initial, size_t initial_len, const uint16_t *list,
                                     size_t list_len, const uint16_t *target, size_t target_len);
 
 /* ---- The complement net: the same net without capacities, which fires the very same words.
- * 0x81 0: places: how many places it has. Refusals 1 2 10. */
+ * 0x81 0: places: how many places it has. Refusals 1 2 10.
+ * Contract: crates/c_net/src/lib.rt. Theorems: told-places, told-rooms in crates/complement/proofs/Promise.antt. */
 kaunorpi_places kaunorpi_complement_places(KAUNORPI_NET);
 /* 0x81 0: the rooms hold it: transitions * n weights in pre2 and in post2, n capacities and n tokens, where n is what
  * kaunorpi_complement_places answers. The old places come first, with their arcs and tokens; then one place for each
  * place that has a capacity, in order of number: a transition that adds k to the old place takes k from it, one that
  * takes k away puts k there, and it starts with capacity minus tokens. Every capacity is 65,535, none. Where n is over 64,
- * rooms of another length than n says are 2, and rooms of that length 10. Refusals 1 2 3 10. */
+ * rooms of another length than n says are 2, and rooms of that length 10. Refusals 1 2 3 10.
+ * Contract: crates/c_net/src/lib.rt. Theorems: made-net, made-initial, made-fires-same, made-blocked-same in
+ * crates/complement/proofs/Promise.antt. */
 kaunorpi_answer kaunorpi_complement_net(KAUNORPI_NET, const uint16_t *initial, size_t initial_len, uint8_t *pre2,
                                         size_t pre2_len, uint8_t *post2, size_t post2_len, uint16_t *caps2,
                                         size_t caps2_len, uint16_t *initial2, size_t initial2_len);
@@ -227,7 +275,9 @@ kaunorpi_answer kaunorpi_complement_net(KAUNORPI_NET, const uint16_t *initial, s
 /* ---- A case file: its bytes, into a net, a marking and a word. Refusals 2 11 12 1 3 4 5; but for 2 position is the line.
  * The rooms have the largest sizes, exactly: 64, 64, 4,096, 4,096 and 65,535 entries; another length is refusal 2.
  * 0x81 0: places, transitions, letters: the file's. Its capacities, tokens, weights and letters stand at the front of the
- * rooms; what lies behind them is as it was. */
+ * rooms; what lies behind them is as it was.
+ * Contract: crates/c_net/src/lib.rt. Theorems: read-exactly, read-those in crates/file_entry/proofs/Accepted.antt;
+ * refused-file in crates/file_entry/proofs/Meaning.antt. */
 kaunorpi_case kaunorpi_read_case(const uint8_t *file, size_t file_len, uint16_t *caps, size_t caps_len,
                                  uint16_t *initial, size_t initial_len, uint8_t *pre, size_t pre_len, uint8_t *post,
                                  size_t post_len, uint8_t *word, size_t word_len);

@@ -1,5 +1,5 @@
 #!/usr/bin/env python3
-"""Case files and the line that each must answer, from document 01's "Case file lines" and readings R11 and R12.
+"""Case files and the line that each must answer, from document 01's "Case file lines" and DECISIONS 48 and 98.
 
   tests/cases/make.py          writes NAME.case and NAME.line beside itself
   tests/cases/make.py --check  says nothing where the files are those that it would write
@@ -127,12 +127,12 @@ def big(places, transitions, letters, rng):
 
 def cases():
     yield "whole", text(WHOLE)
-    # the readings R12
-    yield "r12-no-feed", b"010303"
-    yield "r12-empty", b""
-    yield "r12-lone-feed", b"\n"
-    yield "r12-last-byte", text(WHOLE)[:-1]
-    yield "r12-five-lines", text(WHOLE[:5])
+    # files that end too early: DECISIONS 98
+    yield "ends-no-feed", b"010303"
+    yield "ends-empty", b""
+    yield "ends-lone-feed", b"\n"
+    yield "ends-last-byte", text(WHOLE)[:-1]
+    yield "ends-five-lines", text(WHOLE[:5])
     # every number of lines, whole and cut
     for n in range(1, 8):
         yield "first-%d" % n, text(WHOLE[:n])

@@ -52,7 +52,7 @@ def read(case, edge, data, sizes={}):
 
 
 def whole():
-    group("01's whole case, and reading R12")
+    group("01's whole case, and files that end too early (DECISIONS 98)")
     read(1, "the whole case", text(WHOLE))
     read(2, "the first line without its line feed", b"010303")
     read(3, "the empty file", b"")

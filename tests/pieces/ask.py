@@ -21,7 +21,7 @@ MOST_PIECES = 2000  # of a file: a larger one comes in larger pieces only
 PATIENCE = 300  # seconds until a piece that is not read is given up
 # whole files, blocked, refused at the first and at later lines, cut off, and some of many pieces
 NAMES = (
-    "whole word-empty chance-00 chance-07 chance-29 word-sample-2 cap-zero r12-no-feed r12-last-byte cut-1 cut-4 line1-long "
+    "whole word-empty chance-00 chance-07 chance-29 word-sample-2 cap-zero ends-no-feed ends-last-byte cut-1 cut-4 line1-long "
     "line4-odd line6-g line7-missing after-the-end-2 carriage-returns digits-260-row digits-262-row places-64 "
     "places-64-whole letters-65535 letters-65536 megabyte-after-whole"
 ).split()

@@ -1,4 +1,4 @@
--- Document 01's case and readings of its end, computed. Assumes nothing.
+-- Document 01's case, and files that end too early (DECISIONS 98), computed. Assumes nothing.
 use mathlib.Core.Path.{_≡_, refl}
 use mathlib.Core.List.{List, [], _∷_, _++_, map}
 use Prim.Native.Nat.{ℕ, _-_}

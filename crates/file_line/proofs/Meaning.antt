@@ -1,4 +1,4 @@
--- What the answer to a line means: the first of document 01's demands that it breaks (R11's order: 11, 12, 1, 3, 4, 5). Assumes nothing.
+-- What the answer to a line means: the first of document 01's demands that it breaks (in the order 11, 12, 1, 3, 4, 5: DECISIONS 48). Assumes nothing.
 use mathlib.Core.Path.{_≡_, refl}
 use mathlib.Core.Bool.{Bool, true, false}
 use mathlib.Core.Logic.{_↔_}
