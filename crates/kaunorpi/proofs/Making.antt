@@ -1,7 +1,7 @@
 -- Laws for the program's walk: what is made of an input that was read. Assumes nothing.
+use Prim.Native.Nat.{ℕ}
 use mathlib.Core.Path.{_≡_}
 use mathlib.Core.List.{List}
-use Prim.Native.Nat.{ℕ}
 use Rattle.file_line.specs.Read.{Rooms}
 use Rattle.file_parts.specs.File.{caseOf}
 use Rattle.file_reads.specs.declared.Input.the-variants.{Failed}
