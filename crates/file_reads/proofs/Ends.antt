@@ -1,14 +1,15 @@
 -- Laws of how reads end. Assumes nothing.
 use Prim.Native.Nat.{ℕ, suc}
 use mathlib.Core.Path.{_≡_, refl, sym, ap, subst, _∙_}
-use mathlib.Core.Bool.{Bool}
+use mathlib.Core.Bool.{Bool, false}
 use mathlib.Core.List.{List, [], _∷_, _++_}
 use native.Mathlib.Omega.{arith}
 use lib.IntN.{ℤ, pos, negsuc}
-use Rattle.file_parts.specs.File.{Both}
+use Rattle.file_line.specs.Read.{Rooms}
+use Rattle.file_parts.specs.File.{Both, readOf}
 use Rattle.file_reads.specs.declared.Input.the-variants.{More, Over, Failed}
-use Rattle.file_reads.specs.Reads.{Read, State, failureOf, partOf, stepBy, stepOf, stepAll, AllMore, InputEnds, byLast, usedUp}
-use Rattle.file_reads.proofs.Inputs.{step-last}
+use Rattle.file_reads.specs.Reads.{Read, State, unread, failureOf, partOf, stepBy, stepOf, stepAll, AllMore, bytesIn, InputEnds, byLast, usedUp, InputRead}
+use Rattle.file_reads.proofs.Inputs.{step-last, reads-fed}
 
 pub more-over : More ≡ Over → ⊥
 more-over e = let y : _≡_ {A = ℕ} 0 1 = cc in omega arith
@@ -29,6 +30,10 @@ pub by-failure : (z : Both) (c : ℤ) (i : Bool) (b : List ℕ) (k : ℕ) → c 
 unfolding stepBy
 by-failure z c i b k e = ap (λ (d : ℤ). stepBy z d i b .input) e
 
+pub by-told : (z : Both) (c : ℤ) (i : Bool) (b : List ℕ) (k : ℕ) → c ≡ negsuc k → i ≡ false → stepBy z c i b .input ≡ Failed
+unfolding failureOf
+by-told z c i b k e t = by-failure z c i b k e ∙ ap failureOf t
+
 -- the last of reads that each leave more leaves more
 pub last-more : (s : State) (before : List Read) (last : Read) → AllMore s (before ++ (last ∷ [])) → stepOf (stepAll s before) last .input ≡ More
 unfolding stepAll AllMore
@@ -47,3 +52,23 @@ one-end s e e′ rs (byLast before last q a f h) (usedUp l a′ f′) =
 one-end s e e′ rs (usedUp l a f) (byLast before last q a′ f′ h) =
     absurd (h (ap (λ (v : State). v .input) (by-last s e′ rs before last q f′) ∙ last-more s before last (subst (AllMore s) q a)))
 one-end s e e′ rs (usedUp l a f) (usedUp l′ a′ f′) = f ∙ sym f′
+
+-- all that reads from the first on brought was fed, in order
+pub ends-fed : (x : Rooms) (e : State) (r : InputRead (unread x) e) → e .fed ≡ readOf x (bytesIn (r .reads))
+ends-fed x e r = go (r .ended)
+  where
+    go : InputEnds (unread x) (r .reads) e → e .fed ≡ readOf x (bytesIn (r .reads))
+    go (byLast before last q a f h) = ap (λ (v : State). v .fed) f ∙ reads-fed (unread x) (r .reads) (r .brought)
+    go (usedUp l a f) = ap (λ (v : State). v .fed) f ∙ reads-fed (unread x) (r .reads) (r .brought)
+
+-- how reads end, by the last of them
+module _ (s e : State) (rs before : List Read) (last : Read) (q : rs ≡ before ++ (last ∷ [])) where
+  -- if it answered 0, the input is over
+  pub zero-over : last .count ≡ pos 0 → InputEnds s rs e → e .input ≡ Over
+  zero-over z (byLast before′ last′ q′ a f h) = ap (λ (v : State). v .input) (by-last s e rs before last q f) ∙ by-zero _ (last .count) _ _ z
+  zero-over z (usedUp l a f) = absurd (more-over (sym (last-more s before last (subst (AllMore s) q a)) ∙ by-zero _ (last .count) _ _ z))
+
+  -- if it failed, and no signal had interrupted it, the input failed
+  pub told-failed : (k : ℕ) → last .count ≡ negsuc k → last .interrupted ≡ false → InputEnds s rs e → e .input ≡ Failed
+  told-failed k c b (byLast before′ last′ q′ a f h) = ap (λ (v : State). v .input) (by-last s e rs before last q f) ∙ by-told _ (last .count) _ _ k c b
+  told-failed k c b (usedUp l a f) = ap (λ (v : State). v .input) f

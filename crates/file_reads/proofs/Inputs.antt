@@ -1,17 +1,21 @@
 -- Laws of reads one after another. Assumes nothing.
 use Prim.Native.Nat.{ℕ, zero, suc, _+_}
-use mathlib.Core.Path.{_≡_, refl, sym, ap, _∙_}
+use mathlib.Core.Path.{_≡_, refl, sym, ap, subst, _∙_}
 use mathlib.Core.Bool.{Bool}
 use mathlib.Core.List.{List, [], _∷_, _++_}
 use native.Mathlib.Omega.{arith}
 use lib.ListN.{length, length-append}
 use lib.IntN.{ℤ, pos, negsuc}
 use Rattle.ground.specs.Parts.{up}
-use Rattle.file_parts.specs.File.{Both, feedAll}
+use Rattle.file_line.specs.declared.Reading.{Reading}
+use Rattle.file_line.specs.Read.{Rooms, fresh}
+use Rattle.file_parts.specs.declared.Held.{Held}
+use Rattle.file_parts.specs.File.{Run, going, Both, both, feedAll}
+use Rattle.file_parts.specs.Held.{abs}
 use Rattle.file_parts.proofs.Line.{all-append}
 use Rattle.file_reads.specs.declared.Input.{Input}
 use Rattle.file_reads.specs.declared.Input.the-variants.{More, Over, Failed}
-use Rattle.file_reads.specs.Reads.{Read, Brings, State, state, stepBy, stepOf, stepAll, AllMore, AllBring, bytesIn, readLimit, InputEnds, byLast, usedUp, InputRead}
+use Rattle.file_reads.specs.Reads.{Read, Brings, State, state, unread, stepBy, stepOf, stepAll, AllMore, AllBring, bytesIn, readLimit, InputEnds, byLast, usedUp, InputRead}
 use Rattle.file_reads.specs.Walk.{OneRead, MoreReads}
 
 -- one read after others
@@ -29,6 +33,10 @@ bring-last : (rs : List Read) (r : Read) → AllBring rs → Brings r → AllBri
 unfolding AllBring
 bring-last [] r m e = (e, tt)
 bring-last (q ∷ rs) r m e = (m .0, bring-last rs r (m .1) e)
+
+-- what was read after a reading was cleared was read from the first on
+pub from-first : (s : Reading) (h : Held) (x : Rooms) (e : State) → s ≡ fresh → abs h ≡ going s [] → InputRead (state (both (abs h) x) More) e → InputRead (unread x) e
+from-first s h x e es a r = subst (λ (z : Run). InputRead (state (both z x) More) e) (a ∙ ap (λ (t : Reading). going t []) es) r
 
 -- no read yet
 pub reads-none : (s : State) (left : ℕ) → left ≡ readLimit → MoreReads s left s

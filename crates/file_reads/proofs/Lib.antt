@@ -1,3 +1,4 @@
 pub mod Steps
 pub mod Inputs
 pub mod Ends
+pub mod Told

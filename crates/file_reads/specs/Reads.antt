@@ -6,7 +6,8 @@ use mathlib.Core.List.{List, [], _∷_, _++_}
 use lib.ListN.{length, take}
 use lib.IntN.{ℤ, pos, negsuc}
 use Rattle.ground.specs.Parts.{up}
-use Rattle.file_parts.specs.File.{Run, going, stopped, Both, feedAll}
+use Rattle.file_line.specs.Read.{Rooms, fresh}
+use Rattle.file_parts.specs.File.{Run, going, stopped, Both, both, feedAll}
 use Rattle.file_reads.specs.declared.Input.{Input}
 use Rattle.file_reads.specs.declared.Input.the-variants.{More, Over, Failed}
 
@@ -31,6 +32,10 @@ pub record State : Type 0 where
 
 abbrev pub state : Both → Input → State
 state z i = record { fed = z; input = i }
+
+-- before the first read
+abbrev pub unread : Rooms → State
+unread x = state (both (going fresh []) x) More
 
 -- a read that a signal interrupted is made again; any other failure is one
 unfoldable pub failureOf : Bool → Input

@@ -9,12 +9,11 @@ use lib.IntN.{ℤ, pos, negsuc}
 use Rattle.file_line.specs.Read.{Rooms}
 use Rattle.file_parts.specs.File.{Run, going, stopped, Both, both, readOf, caseOf}
 use Rattle.file_reads.specs.declared.Input.the-variants.{More, Over, Failed}
-use Rattle.file_reads.specs.Reads.{Read, State, failureOf, partOf, stepOf, stepAll, AllMore, bytesIn, readLimit, InputEnds, byLast, usedUp}
-use Rattle.file_reads.proofs.Inputs.{reads-fed}
-use Rattle.file_reads.proofs.Ends.{more-over, over-failed, by-zero, by-part, by-failure, by-last, last-more, one-end}
+use Rattle.file_reads.specs.Reads.{Read, State, unread, failureOf, partOf, stepOf, stepAll, AllMore, bytesIn, readLimit, InputEnds, byLast, usedUp}
+use Rattle.file_reads.proofs.Ends.{over-failed, by-zero, by-part, by-failure, by-told, by-last, one-end, ends-fed, zero-over, told-failed}
 use Rattle.verdict_line.specs.Answer.{lineAt, fileLine}
 use Rattle.verdict_line.proofs.Meaning.{refusal-decides}
-use Rattle.kaunorpi.specs.Made.{Output, noLine, aLine, unread, Made}
+use Rattle.kaunorpi.specs.Made.{Output, noLine, aLine, Made}
 use Rattle.kaunorpi.proofs.Showing.{line-eight, shows}
 
 one-output : (e : State) (out o o′ : List ℕ) → Output e out o → Output e out o′ → o ≡ o′
@@ -28,10 +27,6 @@ pub unique : (x : Rooms) (out o o′ : List ℕ) (m : Made x out o) (m′ : Made
 unique x out o o′ m m′ e =
     let g = one-end (unread x) (m .end) (m′ .end) (m′ .input .reads) (subst (λ (rs : List Read). InputEnds (unread x) rs (m .end)) e (m .input .ended)) (m′ .input .ended) in
     one-output (m′ .end) out o o′ (subst (λ (v : State). Output v out o) g (m .output)) (m′ .output)
-
-uninterrupted : (i : Bool) → i ≡ false → failureOf i ≡ Failed
-unfolding failureOf
-uninterrupted i e = ap failureOf e
 
 -- how a run of the program ended, and what it made
 pub data Outcome (x : Rooms) (rs : List Read) (out out′ : List ℕ) : Type 0 where
@@ -48,11 +43,7 @@ pub data Outcome (x : Rooms) (rs : List Read) (out out′ : List ℕ) : Type 0 w
 module _ (x : Rooms) (out out′ : List ℕ) (m : Made x out out′) where
   -- all that the reads brought was fed, in order
   pub all-fed : m .end .fed ≡ readOf x (bytesIn (m .input .reads))
-  all-fed = go (m .input .ended)
-    where
-      go : InputEnds (unread x) (m .input .reads) (m .end) → m .end .fed ≡ readOf x (bytesIn (m .input .reads))
-      go (byLast before last q a f h) = ap (λ (e : State). e .fed) f ∙ reads-fed (unread x) (m .input .reads) (m .input .brought)
-      go (usedUp l a f) = ap (λ (e : State). e .fed) f ∙ reads-fed (unread x) (m .input .reads) (m .input .brought)
+  all-fed = ends-fed x (m .end) (m .input)
 
   -- where the input is over, the line is that of what the reads brought
   pub over-line : m .end .input ≡ Over → out′ ≡ sets out 0 (fileLine (bytesIn (m .input .reads)) x)
@@ -96,7 +87,7 @@ module _ (x : Rooms) (out out′ : List ℕ) (m : Made x out out′) where
     by-signal : (k : ℕ) → last .count ≡ negsuc k → (b : Bool) → last .interrupted ≡ b → Outcome x (m .input .reads) out out′
     unfolding failureOf
     by-signal k e true b = absurd (h (ap (λ (v : State). v .input) came ∙ by-failure _ (last .count) _ _ k e ∙ ap failureOf b))
-    by-signal k e false b = atFailure before last q k e b (failed-nothing (ap (λ (v : State). v .input) came ∙ by-failure _ (last .count) _ _ k e ∙ ap failureOf b))
+    by-signal k e false b = atFailure before last q k e b (failed-nothing (ap (λ (v : State). v .input) came ∙ by-told _ (last .count) _ _ k e b))
 
     by-count : (c : ℤ) → last .count ≡ c → Outcome x (m .input .reads) out out′
     by-count (pos zero) e = atEnd before last q e (over-line (ap (λ (v : State). v .input) came ∙ by-zero _ (last .count) _ _ e))
@@ -117,11 +108,7 @@ module _ (x : Rooms) (out out′ : List ℕ) (m : Made x out out′) where
   module _ (before : List Read) (last : Read) (q : m .input .reads ≡ before ++ (last ∷ [])) where
     -- if it answered 0, and the reads' bytes put together are the file f, the line is that of f
     pub whole-file : (f : List ℕ) → last .count ≡ pos 0 → bytesIn (m .input .reads) ≡ f → out′ ≡ sets out 0 (fileLine f x)
-    whole-file f z b = over-line (go (m .input .ended)) ∙ ap (λ (g : List ℕ). sets out 0 (fileLine g x)) b
-      where
-        go : InputEnds (unread x) (m .input .reads) (m .end) → m .end .input ≡ Over
-        go (byLast before′ last′ q′ a e h) = ap (λ (v : State). v .input) (by-last _ (m .end) _ before last q e) ∙ by-zero _ (last .count) _ _ z
-        go (usedUp l a e) = absurd (more-over (sym (last-more (unread x) before last (subst (AllMore (unread x)) q a)) ∙ by-zero _ (last .count) _ _ z))
+    whole-file f z b = over-line (zero-over _ _ _ before last q z (m .input .ended)) ∙ ap (λ (g : List ℕ). sets out 0 (fileLine g x)) b
 
     -- if the input was over at bytes that it brought, the line is that of every file that begins with the reads' bytes
     pub refused-file : (k : ℕ) → last .count ≡ pos (suc k) → m .end .input ≡ Over → (rest : List ℕ) → out′ ≡ sets out 0 (fileLine (bytesIn (m .input .reads) ++ rest) x)
@@ -135,8 +122,4 @@ module _ (x : Rooms) (out out′ : List ℕ) (m : Made x out out′) where
 
     -- if it failed, and no signal had interrupted it, nothing is made
     pub failed-file : (k : ℕ) → last .count ≡ negsuc k → last .interrupted ≡ false → out′ ≡ out
-    failed-file k c b = failed-nothing (go (m .input .ended))
-      where
-        go : InputEnds (unread x) (m .input .reads) (m .end) → m .end .input ≡ Failed
-        go (byLast before′ last′ q′ a e h) = ap (λ (v : State). v .input) (by-last _ (m .end) _ before last q e) ∙ by-failure _ (last .count) _ _ k c ∙ uninterrupted (last .interrupted) b
-        go (usedUp l a e) = ap (λ (v : State). v .input) e
+    failed-file k c b = failed-nothing (told-failed _ _ _ before last q k c b (m .input .ended))

@@ -2,11 +2,11 @@
 -- reads of which all that the program does follows; that they are those of standard input is trusted.
 use Prim.Native.Nat.{ℕ}
 use mathlib.Core.Path.{_≡_}
-use mathlib.Core.List.{List, []}
-use Rattle.file_line.specs.Read.{Rooms, fresh}
-use Rattle.file_parts.specs.File.{both, going, caseOf}
-use Rattle.file_reads.specs.declared.Input.the-variants.{More, Over, Failed}
-use Rattle.file_reads.specs.Reads.{State, state, InputRead}
+use mathlib.Core.List.{List}
+use Rattle.file_line.specs.Read.{Rooms}
+use Rattle.file_parts.specs.File.{caseOf}
+use Rattle.file_reads.specs.declared.Input.the-variants.{Over, Failed}
+use Rattle.file_reads.specs.Reads.{State, unread, InputRead}
 use Rattle.verdict_text.specs.Verdict.{WrittenBytes}
 use Rattle.verdict_line.specs.Answer.{answerFor}
 
@@ -19,10 +19,6 @@ pub record Shown (out bytes out′ : List ℕ) : Type 0 where
 pub data Output (e : State) (out out′ : List ℕ) : Type 0 where
   noLine : e .input ≡ Failed → out′ ≡ out → Output e out out′
   aLine : e .input ≡ Over → Shown out (answerFor (caseOf (e .fed .run)) (e .fed .rooms)) out′ → Output e out out′
-
--- before the first read
-abbrev pub unread : Rooms → State
-unread x = state (both (going fresh []) x) More
 
 -- what the program has made: there are reads from the first on, and what was made of their end
 pub record Made (x : Rooms) (out out′ : List ℕ) : Type 0 where

@@ -1,5 +1,7 @@
 use mathlib.Core.Path.{refl}
-use Rattle.kaunorpi.proofs.Making.{told-no-failure, made-nothing, made-line}
+use Rattle.file_reads.proofs.Inputs.{from-first}
+use Rattle.file_reads.proofs.Told.{told-no-failure}
+use Rattle.kaunorpi.proofs.Making.{made-nothing, made-line}
 use Rattle.file_parts.proofs.Line.{large}
 use borrow.Author.Needs.{needs}
 use Rattle.kaunorpi.proofs.answer.Statement.{statement}
@@ -63,7 +65,7 @@ returns c =
     let k : tie.After-read-all = search needs in
     let n = made k in
     let h = held k in
-    made-nothing (n .new .result) (h .cleared .result) _ (n .new .ensures .0) (h .cleared .ensures .0) _ (k .read-all .ensures .1) _ _ (c .before .before .enum-told .given .1) refl
+    made-nothing _ _ (from-first (n .new .result) (h .cleared .result) _ _ (n .new .ensures .0) (h .cleared .ensures .0) (k .read-all .ensures .1)) _ _ (c .before .before .enum-told .given .1) refl
 
 same-length-6 : tie.Need-same-length-6
 same-length-6 c = search needs
@@ -89,7 +91,7 @@ returns-2 c =
     let k = reads w in
     let n = made k in
     let h = held k in
-    made-line (n .new .result) (h .cleared .result) _ (n .new .ensures .0) (h .cleared .ensures .0) _ (k .read-all .ensures .1) _ _ (told-no-failure _ (w .before .before .before .before .before .before .before .match .keys2)) (w .show .ensures)
+    made-line _ _ (from-first (n .new .result) (h .cleared .result) _ _ (n .new .ensures .0) (h .cleared .ensures .0) (k .read-all .ensures .1)) _ _ (told-no-failure _ (w .before .before .before .before .before .before .before .match .keys2)) (w .show .ensures)
 
 pub answer-spec : {M : Type 1} → statement M
 answer-spec =

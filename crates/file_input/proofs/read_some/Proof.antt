@@ -1,10 +1,10 @@
 use native.Mathlib.Omega.{arith}
 use mir.Syntax.{w64}
 use mir.Facts.{toZ-ofZ}
-use Rattle.kaunorpi.proofs.Making.{moved-fits, read-one}
+use Rattle.file_input.proofs.Asked.{moved-fits, read-one}
 use borrow.Author.Needs.{needs}
-use Rattle.kaunorpi.proofs.read_some.Statement.{statement}
-use Rattle.kaunorpi.proofs.read_some.Tie as tie
+use Rattle.file_input.proofs.read_some.Statement.{statement}
+use Rattle.file_input.proofs.read_some.Tie as tie
 
 large-buffer-requires : tie.Need-large-buffer-requires
 large-buffer-requires c κs = search needs

@@ -7,11 +7,11 @@ use Rattle.file_reads.specs.declared.Input.the-variants.{More}
 use Rattle.file_reads.specs.Reads.{state}
 use Rattle.file_reads.specs.Walk.{MoreReads}
 use Rattle.file_reads.proofs.Inputs.{reads-none, reads-next, reads-last, reads-over}
-use Rattle.kaunorpi.proofs.Making.{told-no-more}
+use Rattle.file_reads.proofs.Told.{told-no-more}
 use Rattle.file_parts.proofs.Line.{Same, large}
 use borrow.Author.Needs.{needs}
-use Rattle.kaunorpi.proofs.read_all.Statement.{statement}
-use Rattle.kaunorpi.proofs.read_all.Tie as tie
+use Rattle.file_input.proofs.read_all.Statement.{statement}
+use Rattle.file_input.proofs.read_all.Tie as tie
 
 abbrev Inv-loop : tie.InvT-loop
 Inv-loop caps₀ initial₀ pre₀ post₀ word₀ r₀ turns₀ caps initial pre post word r turns =
