@@ -10,7 +10,7 @@ use lib.ListN.{length, getD}
 use borrow.Author.Tests.{le-leb, lt-leb, leb-true, leb-false}
 use Rattle.file_digits.specs.Frame.{valueOf, isDigit, allDigits, byteAt, bytesFrom}
 use Rattle.file_digits.proofs.Frames.{low, num, mid, letter, high}
-use Rattle.file_digits.proofs.Bytes.{Below, none, more, byte-shift, bytes-shift, byte-first}
+use Rattle.file_digits.proofs.Bytes.{Below, more, byte-shift, bytes-shift, byte-first}
 use Rattle.file_put.specs.Put.{digitOf, digitsOf}
 
 pub digit-num : (n : ℕ) → n ≤ 9 → digitOf n ≡ n + 48
