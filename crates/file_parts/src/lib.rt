@@ -66,11 +66,12 @@ pub fn cleared(s: Reading) -> Held
     ensures sound { λ r. ⌜ (Sound r) × (r .len ≡ 0) ⌝ }
     ensures empty { λ r. ⌜ (r .refusal ≡ 0) × (r .reading ≡ s) ⌝ }
 {
+    let len = 0;
     Held {
         reading: s,
         refusal: 0,
         at: 0,
-        len: 0,
+        len: len,
         line: [0; LINE_LIMIT],
     }
 }

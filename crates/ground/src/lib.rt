@@ -54,15 +54,15 @@ pub fn less(gained: u32, lost: u32) -> i32
 }
 
 // An entry of a weighting where it is not negative, else 0.
-pub fn up_entry(x: i16) -> u32
-    ensures { λ r. ⌜ (r ≡ up x) × (r ≤ entryLimit) ⌝ }
+pub fn up_entry(y: i16) -> u32
+    ensures { λ r. ⌜ (r ≡ up y) × (r ≤ entryLimit) ⌝ }
 {
-    if x < 0 { 0 } else { x as u32 }
+    if y < 0 { 0 } else { y as u32 }
 }
 
 // Minus an entry of a weighting where it is negative, else 0.
-pub fn down_entry(x: i16) -> u32
-    ensures { λ r. ⌜ (r ≡ dn x) × (r ≤ entryLimit) ⌝ }
+pub fn down_entry(y: i16) -> u32
+    ensures { λ r. ⌜ (r ≡ dn y) × (r ≤ entryLimit) ⌝ }
 {
-    if x < 0 { ((!x) as u32) + 1 } else { 0 }
+    if y < 0 { ((!y) as u32) + 1 } else { 0 }
 }

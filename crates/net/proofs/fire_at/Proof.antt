@@ -37,7 +37,7 @@ part-fire-start : tie.Need-part-fire-start
 part-fire-start c = search needs
 
 part-fire-end : tie.Need-part-fire-end
-part-fire-end c = let s : tie.Start = search needs in omega (arith, pre-ends s)
+part-fire-end c = let s : tie.Start = search needs in omega (arith, pre-ends s, post-ends s)
 
 sub-fire-2 : tie.Need-sub-fire-2
 sub-fire-2 c = search needs
@@ -46,7 +46,7 @@ part-fire-start-2 : tie.Need-part-fire-start-2
 part-fire-start-2 c = search needs
 
 part-fire-end-2 : tie.Need-part-fire-end-2
-part-fire-end-2 c = let s : tie.Start = search needs in omega (arith, post-ends s)
+part-fire-end-2 c = let s : tie.Start = search needs in omega (arith, pre-ends s, post-ends s)
 
 fire-requires : tie.Need-fire-requires
 unfolding at
@@ -54,7 +54,9 @@ fire-requires c κs =
     let s : tie.Start = search needs in
     let t : s .args .t < s .args .transitions = s .pre .1 .1 .1 .0 in
     let r = rows-of (at s) (now (s .args .marking)) (s .args .t) (s .pre .0) t (s .pre .1 .0) (s .pre .1 .1 .0) in
-    simp add-sub-cancel-left (r .taken, (r .put, (s .pre .1 .1 .0, enough-of (arcsAt (at s) (s .args .t)) (now (s .args .marking)) _ (r .taken) refl (s .pre .1 .1 .1 .1))))
+    let taken = r .taken in
+    let put = r .put in
+    simp add-sub-cancel-left (search needs, (search needs, (s .pre .1 .1 .0, enough-of (arcsAt (at s) (s .args .t)) (now (s .args .marking)) _ (r .taken) refl (s .pre .1 .1 .1 .1))))
 
 same-length : tie.Need-same-length
 same-length c = search needs

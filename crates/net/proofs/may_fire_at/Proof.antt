@@ -34,7 +34,7 @@ part-may-fire-start : tie.Need-part-may-fire-start
 part-may-fire-start c = search needs
 
 part-may-fire-end : tie.Need-part-may-fire-end
-part-may-fire-end c = let s : tie.Start = search needs in omega (arith, pre-ends s)
+part-may-fire-end c = let s : tie.Start = search needs in omega (arith, pre-ends s, post-ends s)
 
 sub-may-fire-2 : tie.Need-sub-may-fire-2
 sub-may-fire-2 c = search needs
@@ -43,13 +43,16 @@ part-may-fire-start-2 : tie.Need-part-may-fire-start-2
 part-may-fire-start-2 c = search needs
 
 part-may-fire-end-2 : tie.Need-part-may-fire-end-2
-part-may-fire-end-2 c = let s : tie.Start = search needs in omega (arith, post-ends s)
+part-may-fire-end-2 c = let s : tie.Start = search needs in omega (arith, pre-ends s, post-ends s)
 
 may-fire-requires : tie.Need-may-fire-requires
 unfolding at
 may-fire-requires c κs =
     let s : tie.Start = search needs in
-    simp add-sub-cancel-left (rows-of (at s) (now (s .args .marking)) (s .args .t) (s .pre .0) (s .pre .1 .1 .1) (s .pre .1 .0) (s .pre .1 .1 .0))
+    let r = rows-of (at s) (now (s .args .marking)) (s .args .t) (s .pre .0) (s .pre .1 .1 .1) (s .pre .1 .0) (s .pre .1 .1 .0) in
+    let taken = r .taken in
+    let put = r .put in
+    simp add-sub-cancel-left (record { taken = search needs; put = search needs; capped = r .capped; few = r .few; small = r .small })
 
 returns : tie.Need-returns
 returns c = let m : tie.After-may-fire = search needs in simp add-sub-cancel-left at (m .may-fire .ensures)

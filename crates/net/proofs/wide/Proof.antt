@@ -1,0 +1,9 @@
+use native.Mathlib.Omega.{arith}
+use Rattle.net.proofs.wide.Statement.{statement}
+use Rattle.net.proofs.wide.Tie as tie
+
+returns : tie.Need-returns
+returns c = omega arith
+
+pub wide-spec : {M : Type 1} → statement M
+wide-spec = tie.close (tie.spec returns)
