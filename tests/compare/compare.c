@@ -1,7 +1,7 @@
 /* compare N SEED [QUESTION [INPUT]]: N inputs for each question (or the one named), drawn from SEED; with INPUT that one
- * alone, shown in full. Prints nothing if library and reference agree in all of them and every answer and refusal that
- * can come did come. compare --questions prints the questions' names. Built with -DSELF_CHECK it looks instead whether
- * each broken rule is noticed.
+ * alone, shown in full. Prints nothing if library and reference agree in all of them, every answer and refusal that can
+ * come did come, and each lent thing that can be refused was refused alone. compare --questions prints the questions'
+ * names. Built with -DSELF_CHECK it looks instead whether each broken rule is noticed.
  * Ends with 0, 1 (a difference), 2 (wrong use) or 3 (something never came). */
 #include "compare.h"
 
@@ -17,7 +17,7 @@
 /* How often each class came: by question, refused or not, class, and whether its position is above 0. */
 static unsigned long came[32][2][32][2];
 
-/* How often a refusal was given to an input drawn for a later one as well: by question and the two numbers. */
+/* How often a refusal was given to an input drawn for another as well: by question and the two numbers. */
 static unsigned long before[32][14][14];
 
 /* Prints an answer. */
@@ -37,9 +37,10 @@ static int same_given(const struct given *a, const struct given *b) {
 static void count(size_t q, const struct given *g) {
     int refused = g->kind == KAUNORPI_REFUSED;
     came[q][refused][g->class & 31][g->field[0] > 0]++;
-    for (int later = g->number + 1; refused && later < 14; later++)
-        before[q][g->number][later] += wants(later) != 0;
+    for (int other = 1; refused && other < 14; other++)
+        before[q][g->number][other] += wants(other) != 0;
     count_edges(questions[q].name, g);
+    count_faults(q, g);
 }
 
 /* Puts one input to both sides; true if they agree. With show, prints the input and both answers. */
@@ -48,7 +49,7 @@ int agrees(size_t q, uint64_t seed, size_t input, int show) {
     int same;
     start_random(seed, q, input);
     start_lending();
-    plan_faults(questions[q].refusals | questions[q].refusals_further);
+    plan_faults(questions[q].refusals | questions[q].refusals_further, questions[q].faults);
     questions[q].make();
     hand_out();
     ours = questions[q].ask(LIBRARY);
@@ -76,13 +77,20 @@ static int missing(size_t q, uint32_t classes, int refused, int further) {
     return lacks;
 }
 
+/* Does refusal i come before j? The lower number does, but after those of the whole file come those of its lines. */
+static int comes_before(size_t q, int i, int j) {
+    uint32_t of_lines = questions[q].refusals_further & ~questions[q].refusals;
+    int i_of_line = (of_lines >> i & 1u) != 0, j_of_line = (of_lines >> j & 1u) != 0;
+    return i_of_line == j_of_line ? i < j : j_of_line;
+}
+
 /* Reports two refusals that were never due at once. */
 static int never_both(size_t q) {
     uint32_t refusals = questions[q].refusals | questions[q].refusals_further;
     int lacks = 0;
     for (int i = 1; i < 14; i++)
-        for (int j = i + 1; j < 14; j++)
-            if ((refusals >> i & refusals >> j & 1u) != 0 && before[q][i][j] == 0) {
+        for (int j = 1; j < 14; j++)
+            if ((refusals >> i & refusals >> j & 1u) != 0 && comes_before(q, i, j) && before[q][i][j] == 0) {
                 printf("compare: %s never gave refusal %d to an input drawn for %d too\n", questions[q].name, i, j);
                 lacks = 1;
             }
@@ -95,7 +103,7 @@ static int never_came(size_t q) {
     lacks |= missing(q, questions[q].answers_further, 0, 1);
     lacks |= missing(q, questions[q].refusals, 1, 0);
     lacks |= missing(q, questions[q].refusals_further, 1, 1);
-    return lacks | missed_edges(questions[q].name, COUNTS);
+    return lacks | missed_edges(questions[q].name, COUNTS) | missed_faults(q, COUNTS);
 }
 
 /* The inputs of one question, up to the first difference. */
@@ -117,6 +125,10 @@ static void print_counts(size_t q) {
                 if (came[q][refused][k][further] > 0)
                     printf("%s %s %d %s %lu\n", questions[q].name, refused ? "82" : "81", k, further ? "+" : "0",
                            came[q][refused][k][further]);
+    for (int i = 1; i < 14; i++)
+        for (int j = 1; j < 14; j++)
+            if (comes_before(q, i, j) && before[q][i][j] > 0)
+                printf("%s 82 %d though drawn for %d too: %lu\n", questions[q].name, i, j, before[q][i][j]);
 }
 
 /* Prints the names of all questions, a line each. */

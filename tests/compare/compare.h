@@ -1,8 +1,10 @@
 /* The comparer: the library and the reference are asked the same questions, and must agree in everything.
  *
- * An input is drawn from a seed, its question and its number alone (random.c), into lent memory with guard bytes
- * around each piece (lend.c). What is drawn is up to net.c, summary.c, weighting.c, lists.c and file.c; ask.c puts
- * the question to both sides; compare.c compares, counts what came, and reports; edges.c knows the edges that must come.
+ * An input is drawn from a seed, its question and its number alone (random.c), with the faults that plan.c plans for it,
+ * into lent memory with guard bytes around each piece (lend.c). What is drawn is up to net.c, word.c, complement.c,
+ * summary.c, weighting.c, lists.c, file.c and damage.c; ask.c puts the question to both sides; compare.c compares, counts
+ * what came, and reports; faults.c and lines.c find which lent thing a refusal comes from, and edges.c knows the edges
+ * that must come.
  */
 #ifndef COMPARE_H
 #define COMPARE_H
@@ -16,20 +18,16 @@ size_t below(size_t n);
 int chance(size_t one_in);
 void fill_random(void *at, size_t bytes);
 
-/* Which refusals this input is to be drawn for: it need not get them, and may get others. */
-void plan_faults(uint32_t refusals);
-int wants(int refusal);
-
 /* ---- lend.c */
 
-/* One lent piece: count entries of size bytes, at an offset in each side's memory. */
+/* One lent piece: count entries of size bytes, at an offset in each side's memory; right is the count it should have. */
 struct lent {
-    size_t offset, count, size;
+    size_t offset, count, right, size;
     int is_null, is_room;
 };
 
 /* What an input is made of; a question uses a part of it. Index 0 and 1 of the summaries are the first and the second
- * one lent, 2 is the room. */
+ * one lent, 2 is the room. A whole word is the stretch from 0 to its end. */
 struct input {
     size_t places, transitions;
     struct lent pre, post, caps, initial, word, room, weights, set, list, target;
@@ -51,19 +49,82 @@ void hand_out(void);
 int differing_memory(int quiet);
 void print_input(void);
 
+/* ---- plan.c, faults.c, lines.c */
+
+/* Every fault that a lent thing can have, by the refusal that it gives; the table in faults.c has their names. */
+enum fault {
+    /* 1 */
+    BAD_PLACES, BAD_TRANSITIONS, BAD_FIRST_COUNT, BAD_SECOND_COUNT, FILE_PLACES, FILE_TRANSITIONS,
+    /* 2 */
+    PRE_LENGTH, POST_LENGTH, CAPS_LENGTH, INITIAL_LENGTH, ROOM_LENGTH, WEIGHTS_LENGTH, SET_LENGTH, LIST_LENGTH,
+    TARGET_LENGTH, NEED_LENGTH, NEED_LENGTH_1, NEED_LENGTH_2, CLIMB_LENGTH, CLIMB_LENGTH_1, CLIMB_LENGTH_2,
+    CHANGE_LENGTH, CHANGE_LENGTH_1, CHANGE_LENGTH_2, PRE2_LENGTH, POST2_LENGTH, CAPS2_LENGTH, INITIAL2_LENGTH,
+    BAD_START, BAD_END, NOT_THE_NETS, NOT_THE_OTHERS,
+    /* 3 */
+    INITIAL_FULL, INITIAL_OVER, LIST_FULL, LIST_OVER, TARGET_FULL, FILE_FULL, FILE_OVER,
+    /* 4 to 10, and 13 */
+    LONG_WORD, LONG_FILE, BAD_LETTER, FILE_LETTER, BAD_FIRST, BAD_SECOND, LONG_TOGETHER, ALL_ZERO, NO_MARKING,
+    MANY_MARKINGS, MANY_PLACES, BAD_PLACE,
+    /* 11 */
+    LINE_FEED, LINE_EMPTY, LINE_ODD, LINE_LONG, LINE_DIGIT,
+    /* 12 */
+    FRAME_KIND, FRAME_ORDER, FRAME_LENGTH, FRAME_INDEX, FRAME_SHORT, FRAME_MISSING,
+    FAULTS
+};
+
+/* A fault: its refusal, what it is in words, and how it is found in the input: as the wrong length of a piece, or else. */
+struct fault_kind {
+    int refusal;
+    const char *what;
+    const struct lent *piece;
+    int (*is_there)(void);
+};
+extern const struct fault_kind faults[FAULTS];
+
+void plan_faults(uint32_t refusals, uint64_t can);
+int wants(int refusal);
+int breaks(enum fault fault);
+int is_sound(void);
+int is_alone(void);
+
+int has_wrong_length(const struct lent *piece);
+int is_well_formed(size_t places, uint32_t letters, const uint32_t *need, const uint32_t *climb, const int32_t *change);
+
+void look_at_line(size_t line);
+int line_feed(void), line_empty(void), line_odd(void), line_long(void), line_digit(void);
+int frame_kind(void), frame_order(void), frame_length(void), frame_index(void), frame_short(void), frame_missing(void);
+int file_places(void), file_transitions(void), file_full(void), file_over(void);
+
 /* ---- net.c */
 size_t draw_count(void);
 size_t faulty_count(void);
 void draw_net(void);
 void draw_net_of(size_t places, size_t transitions);
 void draw_marking(void);
+void break_marking(void);
+void fill_up(uint16_t *marking);
+void fill_over(uint16_t *marking);
 int is_whole(void);
-size_t draw_length(void);
-void draw_word(uint8_t *word, size_t length, size_t from);
 int enabled_now(const int64_t *m, size_t t);
 void fire_now(int64_t *m, size_t t);
 int64_t change_now(size_t p, size_t t);
 uint16_t within(size_t p, uint16_t tokens);
+
+/* ---- word.c */
+void draw_word(uint8_t *word, size_t length, size_t from);
+
+/* ---- file.c, damage.c */
+enum { MOST_LINES = 1200, MOST_FRAME = 140, MOST_BYTES = 1 << 18 };
+
+/* The frames of a case file before they become text, and the text. */
+struct case_file {
+    uint8_t frames[MOST_LINES][MOST_FRAME], text[MOST_BYTES];
+    size_t sizes[MOST_LINES], lines, bytes, transitions;
+};
+extern struct case_file drawn_file;
+void add_frame(const uint8_t *bytes, size_t size);
+void damage_frames(void);
+void damage_text(void);
 
 /* ---- Each question's input. */
 void make_replay(void);
@@ -94,13 +155,14 @@ struct given {
     int class;
 };
 
-/* A question: its name, its refusals, its input, how it is put, and the classes that must come, by position 0 and above
- * 0: answers, then refusals. */
+/* A question: its name, its input, how it is put, the classes that must come, by position 0 and above 0: answers, then
+ * refusals; and the faults each of which must decide by itself. */
 struct question {
     const char *name;
     void (*make)(void);
     struct given (*ask)(int side);
     uint32_t answers, answers_further, refusals, refusals_further;
+    uint64_t faults;
 };
 extern const struct question questions[];
 extern const size_t question_count;
@@ -108,6 +170,10 @@ extern const size_t question_count;
 /* ---- compare.c, selfcheck.c */
 int agrees(size_t q, uint64_t seed, size_t input, int show);
 int self_check(size_t inputs, uint64_t seed);
+
+/* ---- decided.c */
+void count_faults(size_t q, const struct given *g);
+int missed_faults(size_t q, int show);
 
 /* ---- edges.c */
 void start_edges(void);

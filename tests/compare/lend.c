@@ -23,8 +23,8 @@ void start_lending(void) {
     guard[REFERENCE] = (uint8_t)~guard[LIBRARY];
 }
 
-/* A length that is wrong, or by accident right: one off, none, the double, another. */
-static size_t wrong_length(size_t count) {
+/* Another length, or by accident the same: one off, none, the double, any. */
+static size_t other_length(size_t count) {
     switch (below(5)) {
     case 0:
         return count + 1;
@@ -39,14 +39,27 @@ static size_t wrong_length(size_t count) {
     }
 }
 
-/* Puts a piece behind the ones before; where refusal 2 is wanted, its length may be wrong. */
+/* Is the piece's length to be another? A piece that may have any gets another only where several things are broken. */
+static int wants_other_length(const struct lent *piece) {
+    if (!wants(2))
+        return 0;
+    for (int f = 0; f < FAULTS; f++)
+        if (faults[f].piece == piece)
+            return breaks((enum fault)f);
+    return !is_alone() && chance(3);
+}
+
+/* Puts a piece behind the ones before, with a wrong length where that is planned. */
 static void *place_piece(struct lent *piece, size_t size, size_t count, int is_room) {
-    if (wants(2) && chance(3))
-        count = wrong_length(count);
+    *piece = (struct lent){0, count, count, size, 0, is_room};
+    if (wants_other_length(piece))
+        for (int tries = 0; tries < 20 && !has_wrong_length(piece); tries++)
+            piece->count = other_length(count);
     used += GUARD;
     used += (size - used % size) % size + size * below(8);
-    *piece = (struct lent){used, count, size, count == 0 && chance(2), is_room};
-    used += count * size;
+    piece->offset = used;
+    piece->is_null = piece->count == 0 && chance(2);
+    used += piece->count * size;
     pieces[piece_count++] = piece;
     return own(piece);
 }

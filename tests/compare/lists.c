@@ -50,14 +50,16 @@ static void add_cover(size_t k, size_t t, size_t limit, int64_t most) {
     add(result, limit);
 }
 
-/* A small net, now and then any; capacities are often small, so that lists are short. */
+/* A small net, now and then any; capacities are often small, so that lists are short. A list of wrong length needs more
+ * than one place. */
 static void draw_list_net(void) {
+    int is_small = !chance(11);
+    size_t places = is_small ? 1 + below(3) : draw_count(), transitions = is_small ? 1 + below(3) : draw_count();
     uint16_t *caps;
     uint8_t *pre, *post;
-    if (wants(1) || chance(12))
-        draw_net();
-    else
-        draw_net_of(1 + below(3), 1 + below(3));
+    if (breaks(LIST_LENGTH) && places == 1)
+        places = 2;
+    draw_net_of(breaks(BAD_PLACES) ? faulty_count() : places, breaks(BAD_TRANSITIONS) ? faulty_count() : transitions);
     caps = own(&in.caps);
     pre = own(&in.pre);
     post = own(&in.post);
@@ -118,40 +120,52 @@ static void shuffle_and_strike(void) {
     }
 }
 
-/* How many markings to lend: those found, with repeats now and then; none or too many where refusal 9 is wanted. */
+/* How many markings to lend: those found, with repeats now and then; none or too many where that is planned. */
 static size_t lent_markings(void) {
-    size_t more = chance(5) ? below(found_count + 3) : 0;
-    if (wants(9) && chance(2))
-        return 0;
-    if (wants(9) && chance(3))
+    size_t count = found_count + (chance(5) ? below(found_count + 3) : 0);
+    if (breaks(MANY_MARKINGS))
         return MOST_MARKINGS + 1 + (chance(2) ? 0 : below(5));
-    if (chance(300))
-        return MOST_MARKINGS;
-    return found_count + more < MOST_MARKINGS ? found_count + more : MOST_MARKINGS;
+    if (breaks(NO_MARKING))
+        return 0;
+    if (count == 0)
+        return 1 + below(3);
+    return count > MOST_MARKINGS || chance(300) ? MOST_MARKINGS : count;
 }
 
-/* Lends the list: the found markings again and again; for a closed list one entry is too large where 3 is wanted, and in a
- * cover list any number may become the most that is a number. */
+/* Breaks a marking of a closed list where that is planned. */
+static void break_list(uint16_t *list) {
+    size_t markings = in.places > 0 ? in.list.count / in.places : 0;
+    if (markings > 0 && breaks(LIST_FULL))
+        fill_up(list + below(markings) * in.places);
+    if (markings > 0 && breaks(LIST_OVER))
+        fill_over(list + below(markings) * in.places);
+}
+
+/* Makes some entries of a cover list others: any number may become the most that is a number. */
+static void bend_cover(uint16_t *list) {
+    if (in.list.count > 0 && chance(4))
+        list[below(in.list.count)] = chance(2) ? (uint16_t)below(4) : chance(2) ? 65534 : ANY;
+    if (chance(2))
+        for (size_t i = 0, one_in = 1 + below(3); i < in.list.count; i++)
+            list[i] = list[i] == ANY && chance(one_in) ? 65534 : list[i];
+}
+
+/* Lends the list: the found markings again and again. */
 static void lend_list(int cover) {
     size_t places = in.places < 80 ? in.places : 80, entries = found_count * places;
     uint16_t *list = lend(&in.list, 2, places * lent_markings());
     for (size_t i = 0; i < in.list.count; i++)
-        list[i] = entries > 0 ? found[i % entries] : (uint16_t)below(3);
-    if (in.list.count > 0 && wants(3) && chance(2)) {
-        size_t at = below(in.list.count);
-        list[at] = chance(2) && places > 0 ? (uint16_t)(within(at % places, 65534) + 1) : ANY;
-    }
-    if (cover && in.list.count > 0 && chance(4))
-        list[below(in.list.count)] = chance(2) ? (uint16_t)below(4) : chance(2) ? 65534 : ANY;
-    if (cover && chance(3))
-        for (size_t i = 0, one_in = 1 + below(3); i < in.list.count; i++)
-            list[i] = list[i] == ANY && chance(one_in) ? 65534 : list[i];
+        list[i] = entries > 0 ? found[i % entries] : within(places > 0 ? i % places : 0, (uint16_t)below(3));
+    if (cover)
+        bend_cover(list);
+    else
+        break_list(list);
 }
 
 /* Net, marking, list. */
 static void make_list(int cover) {
     size_t limit = chance(10) ? 300 : 40;
-    if (!wants(1) && !wants(2) && chance(1200)) {
+    if (is_sound() && chance(1200)) {
         draw_counter(chance(2) ? 4095 : 4096);
         limit = MOST_MARKINGS;
     } else
@@ -165,7 +179,7 @@ static void make_list(int cover) {
     lend_list(cover);
 }
 
-/* A target: a listed marking, one near it, or any; with 65,535 where refusal 3 is wanted. */
+/* A target: a listed marking, one near it, or any; with 65,535 where that is planned. */
 static void lend_target(void) {
     size_t places = in.places < 80 ? in.places : 80, k = found_count > 0 ? below(found_count) : 0, near = below(3);
     uint16_t *target = lend(&in.target, 2, places);
@@ -177,28 +191,32 @@ static void lend_target(void) {
             entry = (uint16_t)(chance(8) ? 65534 : below(6));
         target[p] = entry == ANY ? (uint16_t)(chance(2) ? 65534 : below(9)) : entry;
     }
-    if (in.target.count > 0 && wants(3) && chance(2))
+    if (in.target.count > 0 && breaks(TARGET_FULL))
         target[below(in.target.count)] = ANY;
 }
 
 /* Net, marking, closed list. */
 void make_closed(void) {
     make_list(0);
+    break_marking();
 }
 
 /* Net, marking, closed list, target. */
 void make_closed_target(void) {
     make_list(0);
     lend_target();
+    break_marking();
 }
 
 /* Net, marking, cover list. */
 void make_cover(void) {
     make_list(1);
+    break_marking();
 }
 
 /* Net, marking, cover list, target. */
 void make_cover_target(void) {
     make_list(1);
     lend_target();
+    break_marking();
 }

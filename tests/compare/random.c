@@ -4,7 +4,6 @@
 #include <string.h>
 
 static uint64_t state;
-static uint32_t planned;
 
 /* The next 64 bits (splitmix64). */
 uint64_t draw(void) {
@@ -39,23 +38,4 @@ void fill_random(void *at, size_t bytes) {
         uint64_t eight = draw();
         memcpy(to + i, &eight, bytes - i < 8 ? bytes - i : 8);
     }
-}
-
-/* Half of the inputs get no fault, a third one, the others two or three at once. */
-void plan_faults(uint32_t refusals) {
-    size_t faults = below(12);
-    faults = faults < 6 ? 0 : faults < 10 ? 1 : faults - 8;
-    planned = 0;
-    for (size_t tries = 0; faults > 0 && tries < 1000; tries++) {
-        uint32_t bit = 1u << below(14);
-        if ((refusals & bit) != 0) {
-            planned |= bit;
-            faults--;
-        }
-    }
-}
-
-/* Is a fault of this number planned? */
-int wants(int refusal) {
-    return (planned >> refusal & 1u) != 0;
 }

@@ -90,10 +90,11 @@ static void lend_list(struct lent *piece, const void *entries) {
     memcpy(to, entries, 4 * (piece->count < 64 ? piece->count : 64));
 }
 
-/* Lends the summary as number `which`, damaged where refusal 6 is wanted. */
+/* Lends the summary as number `which`, damaged where that is planned. */
 static void lend_summary(int which, struct drawn *s, size_t places, size_t said) {
-    for (size_t times = wants(6) && !chance(3) ? 1 + below(2) : 0; times > 0; times--)
-        damage(s, places);
+    for (size_t times = 1 + below(2), tries = 0; breaks(which == 0 ? BAD_FIRST : BAD_SECOND) && tries < 20; tries++)
+        if (tries < times || is_well_formed(places, s->letters, s->need, s->climb, s->change))
+            damage(s, places);
     in.summary_places[which] = said;
     in.letters[which] = s->letters;
     lend_list(&in.need[which], s->need);
@@ -107,28 +108,27 @@ static uint32_t draw_letters(void) {
     return (uint32_t)(kind == 0 ? 65535 : kind == 1 ? below(65536) : below(5));
 }
 
-/* Two summaries of one place count, together at the limit now and then, and the rooms. */
+/* A summary of at most so many letters, or of exactly so many where that is asked. */
+static void draw_summary(struct drawn *s, size_t places, uint32_t most, int is_exact) {
+    uint32_t letters = is_exact || chance(3) ? most : draw_letters();
+    memset(s, 0, sizeof *s);
+    if (is_exact || most < 40 || chance(2))
+        draw_by_arithmetic(s, places, letters < most ? letters : most);
+    else
+        draw_from_word(s, places);
+}
+
+/* Two summaries of one place count, together at the limit now and then, over it where that is planned; and the rooms. */
 void make_join(void) {
     struct drawn s[2];
-    size_t places = draw_count();
-    memset(s, 0, sizeof s);
-    for (int k = 0; k < 2; k++) {
-        size_t said = places;
-        uint32_t letters = draw_letters();
-        if (k == 1 && s[0].letters <= 65535 && chance(3))
-            letters = 65535 - s[0].letters;
-        if (wants(7) && k == 1 && s[0].letters > 0 && s[0].letters <= 65535)
-            letters = 65535 - s[0].letters + 1 + (chance(2) ? 0 : (uint32_t)below(s[0].letters));
-        if (wants(7) || chance(2))
-            draw_by_arithmetic(&s[k], places, letters);
-        else
-            draw_from_word(&s[k], places);
-        if (wants(1) && chance(2))
-            said = faulty_count();
-        if (wants(2) && chance(4))
-            said = draw_count();
-        lend_summary(k, &s[k], places, said);
-    }
+    size_t places = draw_count(), other = 1 + (places + below(63)) % 64;
+    int is_long = breaks(LONG_TOGETHER);
+    draw_summary(&s[0], places, chance(3) ? 65535 : 1 + (uint32_t)below(65535), is_long);
+    draw_summary(&s[1], places, 65535 - s[0].letters, 0);
+    if (is_long)
+        draw_summary(&s[1], places, 65536 - s[0].letters + (chance(2) ? 0 : (uint32_t)below(s[0].letters)), 1);
+    lend_summary(0, &s[0], places, breaks(BAD_FIRST_COUNT) ? faulty_count() : places);
+    lend_summary(1, &s[1], places, breaks(BAD_SECOND_COUNT) ? faulty_count() : breaks(NOT_THE_OTHERS) ? other : places);
     lend_room(&in.need[2], 4, 64);
     lend_room(&in.climb[2], 4, 64);
     lend_room(&in.change[2], 4, 64);
@@ -152,16 +152,17 @@ void make_ask(void) {
     memset(&s, 0, sizeof s);
     draw_net();
     draw_marking();
-    places = in.places >= 1 && in.places <= 64 ? in.places : 64;
-    said = in.places;
+    places = in.places >= 1 && in.places <= 64 ? in.places : draw_count();
+    said = places;
     if (chance(5))
         draw_by_arithmetic(&s, places, draw_letters());
     else
         draw_from_net(&s);
-    if (wants(1) && chance(2))
+    if (breaks(NOT_THE_NETS))
+        said = 1 + (places + below(63)) % 64;
+    if (breaks(BAD_FIRST_COUNT))
         said = faulty_count();
-    if (wants(2) && chance(4))
-        said = draw_count();
     lend_summary(0, &s, places, said);
     lend_room(&in.room, 4, in.places < 80 ? in.places : 80);
+    break_marking();
 }

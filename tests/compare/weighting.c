@@ -38,20 +38,21 @@ static void exchange(size_t one, int64_t v, size_t other, int64_t w) {
     }
 }
 
-/* A weighting in one of five styles, all zero where refusal 8 is wanted. */
+/* A weighting in one of five styles, or zero but for its last entry; all zero only where that is planned. */
 static const int16_t *draw_weights(size_t count) {
     static const int16_t edges[] = {-32768, -32767, 32767, 1, 0};
     size_t style = below(5);
     int16_t *weights = lend(&in.weights, 2, count);
+    int is_zero = breaks(ALL_ZERO) || chance(30), members = 0;
     for (size_t i = 0; i < in.weights.count; i++) {
-        weights[i] = style == 0   ? (int16_t)((int)below(6) - 2)
+        weights[i] = is_zero      ? 0
+                     : style == 0 ? (int16_t)((int)below(6) - 2)
                      : style <= 2 ? (int16_t)below(4)
                      : style == 3 ? edges[below(5)]
                                   : (int16_t)(uint16_t)draw();
-        if (wants(8))
-            weights[i] = 0;
+        members += weights[i] != 0;
     }
-    if (wants(8) && in.weights.count > 0 && chance(6))
+    if (members == 0 && in.weights.count > 0 && !breaks(ALL_ZERO))
         weights[in.weights.count - 1] = 1;
     return weights;
 }
@@ -93,11 +94,12 @@ void make_bound(void) {
     draw_marking();
     bend_net(draw_weights(in.places < 80 ? in.places : 80), 1);
     in.place = below(in.places >= 1 && in.places <= 64 ? in.places : 64);
-    if (wants(13))
+    break_marking();
+    if (breaks(BAD_PLACE))
         in.place = chance(3) ? (size_t)-1 : in.places + below(3);
 }
 
-/* Net, set: members are any byte but 0; none where refusal 8 is wanted. */
+/* Net, set: members are any byte but 0; none only where that is planned. */
 void make_set(void) {
     static const uint8_t members[] = {1, 1, 2, 128, 255};
     uint8_t *set;
@@ -105,7 +107,7 @@ void make_set(void) {
     draw_net();
     set = lend(&in.set, 1, in.places < 80 ? in.places : 80);
     for (size_t i = 0; i < in.set.count; i++)
-        set[i] = wants(8) || !chance(one_in) ? 0 : members[below(5)];
-    if (in.set.count > 0 && (!wants(8) || chance(6)))
+        set[i] = breaks(ALL_ZERO) || !chance(one_in) ? 0 : members[below(5)];
+    if (in.set.count > 0 && !breaks(ALL_ZERO))
         set[below(in.set.count)] = members[below(5)];
 }

@@ -60,7 +60,7 @@ static int read_numbers(struct reading *r, const uint8_t *frame, size_t size) {
 
 /* 04 t, P Pre bytes, P Post bytes; one for each t in order from 0. */
 static int read_row(struct reading *r, const uint8_t *frame, size_t size) {
-    if (size != 2 + 2 * r->places || frame[1] != r->next)
+    if (size != 2 + 2 * r->places || RULE(44, frame[1] != r->next, 0))
         return 12;
     for (size_t p = 0; p < r->places; p++) {
         r->pre[r->next * r->places + p] = frame[2 + p];
@@ -120,7 +120,7 @@ static int read_lines(struct reading *r, const uint8_t *file, size_t file_len) {
         r->line++;
         while (end < file_len && file[end] != '\n')
             end++;
-        if (end == file_len)
+        if (RULE(45, end == file_len, 0))
             return 11;
         number = frame_of(file + at, end - at, frame);
         if (number == 0)

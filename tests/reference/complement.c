@@ -17,7 +17,7 @@ kaunorpi_places reference_complement_places(KAUNORPI_NET) {
         return (kaunorpi_places){KAUNORPI_REFUSED, 1, 0, 0};
     if (reference_lengths_fault(&net))
         return (kaunorpi_places){KAUNORPI_REFUSED, 2, 0, 0};
-    if (new_places(&net) > 64)
+    if (RULE(41, new_places(&net) > 64, 0))
         return (kaunorpi_places){KAUNORPI_REFUSED, 10, 0, 0};
     return (kaunorpi_places){KAUNORPI_ANSWERED, 0, 0, new_places(&net)};
 }
@@ -69,7 +69,7 @@ kaunorpi_answer reference_complement_net(KAUNORPI_NET, const uint16_t *initial, 
     at = reference_tokens_fault(&net, initial);
     if (at != NOWHERE)
         return (kaunorpi_answer){KAUNORPI_REFUSED, 3, at};
-    if (count > 64)
+    if (RULE(41, count > 64, 0))
         return (kaunorpi_answer){KAUNORPI_REFUSED, 10, 0};
     for (size_t t = 0; t < transitions; t++)
         write_arcs(&net, t, pre2 + t * count, post2 + t * count);

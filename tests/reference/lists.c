@@ -25,12 +25,12 @@ static kaunorpi_list tokens_refusal(const struct net *net, const struct lists *q
     size_t at = reference_tokens_fault(net, q->initial);
     if (at != NOWHERE)
         return refused(3, at);
-    for (size_t k = 0; !cover && k < q->list_len / net->places; k++) {
+    for (size_t k = 0; RULE(22, RULE(24, !cover, 1), 0) && k < q->list_len / net->places; k++) {
         at = reference_tokens_fault(net, q->list + k * net->places);
         if (at != NOWHERE)
             return refused(3, k * net->places + at);
     }
-    for (size_t p = 0; q->has_target && p < net->places; p++)
+    for (size_t p = 0; RULE(23, q->has_target, 0) && p < net->places; p++)
         if (q->target[p] == 65535 || RULE(18, 0, reference_capped(net, p) && q->target[p] > net->caps[p]))
             return refused(3, p);
     return fine;
@@ -47,7 +47,7 @@ static kaunorpi_list refusal(const struct net *net, const struct lists *q, int c
     tokens = tokens_refusal(net, q, cover);
     if (tokens.kind == KAUNORPI_REFUSED)
         return tokens;
-    if (q->list_len / net->places < 1 || q->list_len / net->places > 4096)
+    if (RULE(34, q->list_len / net->places < 1, 0) || RULE(35, q->list_len / net->places > 4096, 0))
         return refused(9, 0);
     return fine;
 }

@@ -63,7 +63,7 @@ int reference_lengths_fault(const struct net *net) {
 /* Refusal 3 for a marking: the lowest place with 65,535 tokens or tokens above capacity. */
 size_t reference_tokens_fault(const struct net *net, const uint16_t *marking) {
     for (size_t p = 0; p < net->places; p++)
-        if (marking[p] == 65535 || (reference_capped(net, p) && marking[p] > net->caps[p]))
+        if (RULE(32, marking[p] == 65535, 0) || RULE(33, reference_capped(net, p) && marking[p] > net->caps[p], 0))
             return p;
     return NOWHERE;
 }

@@ -32,8 +32,16 @@ kaunorpi_replay reference_replay_stretch(KAUNORPI_NET, const uint16_t *initial, 
     size_t at;
     if (reference_counts_fault(&net))
         return (kaunorpi_replay){KAUNORPI_REFUSED, 1, 0, 0};
+    if (RULE(30, 0, end > word_len))
+        end = word_len;
+    if (RULE(31, 0, start > end))
+        start = end;
     if (reference_lengths_fault(&net) || initial_len != places || start > end || end > word_len || room_len != places)
         return (kaunorpi_replay){KAUNORPI_REFUSED, 2, 0, 0};
+    if (RULE(28, 0, 1))
+        start = 0;
+    if (RULE(29, 0, 1))
+        end = word_len;
     at = reference_tokens_fault(&net, initial);
     if (at != NOWHERE)
         return (kaunorpi_replay){KAUNORPI_REFUSED, 3, at, 0};

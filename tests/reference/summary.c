@@ -48,9 +48,17 @@ kaunorpi_summary reference_summary_stretch(KAUNORPI_NET, const uint8_t *word, si
     size_t at;
     if (reference_counts_fault(&net))
         return refused(1, 0);
+    if (RULE(30, 0, end > word_len))
+        end = word_len;
+    if (RULE(31, 0, start > end))
+        start = end;
     if (reference_lengths_fault(&net) || start > end || end > word_len || need_len != 64 || climb_len != 64 ||
         change_len != 64)
         return refused(2, 0);
+    if (RULE(28, 0, 1))
+        start = 0;
+    if (RULE(29, 0, 1))
+        end = word_len;
     if (end - start > 65535)
         return refused(4, 0);
     at = reference_letters_fault(&net, word, start, end);
@@ -100,23 +108,23 @@ kaunorpi_summary reference_join_summaries(size_t first_places, uint32_t first_le
                                           size_t need_len, uint32_t *climb, size_t climb_len, int32_t *change,
                                           size_t change_len) {
     size_t at;
-    if (first_places < 1 || first_places > 64 || second_places < 1 || second_places > 64)
+    if (RULE(26, first_places < 1 || first_places > 64, 0) || RULE(27, second_places < 1 || second_places > 64, 0))
         return refused(1, 0);
     if (first_need_len != 64 || first_climb_len != 64 || first_change_len != 64 || second_need_len != 64 ||
         second_climb_len != 64 || second_change_len != 64 || need_len != 64 || climb_len != 64 || change_len != 64 ||
-        first_places != second_places)
+        RULE(43, first_places != second_places, 0))
         return refused(2, 0);
-    at = summary_fault(first_places, first_letters, first_need, first_climb, first_change);
-    if (at == NOWHERE)
+    at = RULE(37, summary_fault(first_places, first_letters, first_need, first_climb, first_change), NOWHERE);
+    if (at == NOWHERE && RULE(36, 1, 0))
         at = summary_fault(second_places, second_letters, second_need, second_climb, second_change);
     if (at != NOWHERE)
         return refused(6, at);
-    if ((int64_t)first_letters + second_letters > 65535)
+    if (RULE(38, (int64_t)first_letters + second_letters > 65535, 0))
         return refused(7, 0);
     for (size_t p = 0; p < 64; p++) {
         need[p] = (uint32_t)larger(first_need[p], (int64_t)second_need[p] - first_change[p]);
         climb[p] = (uint32_t)larger(first_climb[p], RULE(12, (int64_t)first_change[p], 0) + second_climb[p]);
-        change[p] = first_change[p] + second_change[p];
+        change[p] = (int32_t)((int64_t)first_change[p] + second_change[p]);
     }
     return (kaunorpi_summary){KAUNORPI_ANSWERED, 0, 0, first_places, first_letters + second_letters};
 }
@@ -139,15 +147,15 @@ kaunorpi_answer reference_ask_summary(KAUNORPI_NET, const uint16_t *marking, siz
                                       uint32_t *room, size_t room_len) {
     struct net net = LENT_NET;
     size_t at;
-    if (reference_counts_fault(&net) || summary_places < 1 || summary_places > 64)
+    if (reference_counts_fault(&net) || RULE(25, summary_places < 1 || summary_places > 64, 0))
         return (kaunorpi_answer){KAUNORPI_REFUSED, 1, 0};
-    if (reference_lengths_fault(&net) || marking_len != places || summary_places != places || need_len != 64 ||
+    if (reference_lengths_fault(&net) || marking_len != places || RULE(42, summary_places != places, 0) || need_len != 64 ||
         climb_len != 64 || change_len != 64 || room_len != places)
         return (kaunorpi_answer){KAUNORPI_REFUSED, 2, 0};
     at = reference_tokens_fault(&net, marking);
     if (at != NOWHERE)
         return (kaunorpi_answer){KAUNORPI_REFUSED, 3, at};
-    at = summary_fault(summary_places, summary_letters, need, climb, change);
+    at = RULE(39, summary_fault(summary_places, summary_letters, need, climb, change), NOWHERE);
     if (at != NOWHERE)
         return (kaunorpi_answer){KAUNORPI_REFUSED, 6, at};
     if (!fires_from(&net, marking, need, climb)) {
@@ -156,6 +164,6 @@ kaunorpi_answer reference_ask_summary(KAUNORPI_NET, const uint16_t *marking, siz
         return (kaunorpi_answer){KAUNORPI_ANSWERED, 1, 0};
     }
     for (size_t p = 0; p < places; p++)
-        room[p] = (uint32_t)(marking[p] + change[p]);
+        room[p] = (uint32_t)((int64_t)marking[p] + change[p]);
     return (kaunorpi_answer){KAUNORPI_ANSWERED, 0, 0};
 }

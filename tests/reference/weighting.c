@@ -49,7 +49,7 @@ kaunorpi_answer reference_place_weighting(KAUNORPI_NET, const int16_t *y, size_t
         return (kaunorpi_answer){KAUNORPI_REFUSED, 1, 0};
     if (reference_lengths_fault(&net) || y_len != places)
         return (kaunorpi_answer){KAUNORPI_REFUSED, 2, 0};
-    if (all_zero(y, places))
+    if (RULE(40, all_zero(y, places), 0))
         return (kaunorpi_answer){KAUNORPI_REFUSED, 8, 0};
     t = failing_transition(&net, y);
     if (RULE(11, 0, 1))
@@ -67,7 +67,7 @@ kaunorpi_answer reference_transition_weighting(KAUNORPI_NET, const int16_t *x, s
         return (kaunorpi_answer){KAUNORPI_REFUSED, 1, 0};
     if (reference_lengths_fault(&net) || x_len != transitions)
         return (kaunorpi_answer){KAUNORPI_REFUSED, 2, 0};
-    if (all_zero(x, transitions))
+    if (RULE(40, all_zero(x, transitions), 0))
         return (kaunorpi_answer){KAUNORPI_REFUSED, 8, 0};
     p = failing_place(&net, x);
     if (p != NOWHERE)
@@ -88,7 +88,7 @@ kaunorpi_bound reference_place_bound(KAUNORPI_NET, const uint16_t *initial, size
     at = reference_tokens_fault(&net, initial);
     if (at != NOWHERE)
         return (kaunorpi_bound){KAUNORPI_REFUSED, 3, at, 0};
-    if (all_zero(y, places))
+    if (RULE(40, all_zero(y, places), 0))
         return (kaunorpi_bound){KAUNORPI_REFUSED, 8, 0, 0};
     if (place >= places)
         return (kaunorpi_bound){KAUNORPI_REFUSED, 13, 0, 0};
@@ -129,7 +129,7 @@ static kaunorpi_answer set_answer(const struct net *net, const uint8_t *set, siz
     for (size_t p = 0; p < net->places; p++)
         if (set[p] != 0)
             members++;
-    if (members == 0)
+    if (RULE(40, members == 0, 0))
         return (kaunorpi_answer){KAUNORPI_REFUSED, 8, 0};
     for (size_t t = 0; t < net->transitions; t++) {
         int takes = takes_from(net, set, RULE(16, t, 0)), puts = puts_into(net, set, t);

@@ -1,0 +1,172 @@
+/* Case files damaged: by one fault, so that it decides, or in any way. */
+#include "compare.h"
+
+#include <string.h>
+
+static struct case_file *const f = &drawn_file;
+
+/* A line by chance, often one of the last three: in a file of too many letters also one after the line that decides. */
+static size_t any_line(void) {
+    return chance(breaks(LONG_FILE) ? 1 : 2) ? f->lines - 1 - below(f->lines < 3 ? f->lines : 3) : below(f->lines);
+}
+
+/* Puts the frames of two lines in each other's place. */
+static void swap_frames(size_t k, size_t other) {
+    uint8_t bytes[MOST_FRAME];
+    size_t size = f->sizes[k];
+    memcpy(bytes, f->frames[k], MOST_FRAME);
+    memcpy(f->frames[k], f->frames[other], MOST_FRAME);
+    memcpy(f->frames[other], bytes, MOST_FRAME);
+    f->sizes[k] = f->sizes[other];
+    f->sizes[other] = size;
+}
+
+/* Strikes a frame out. */
+static void strike_frame(size_t k) {
+    memmove(f->frames[k], f->frames[k + 1], (f->lines - k - 1) * sizeof f->frames[0]);
+    memmove(f->sizes + k, f->sizes + k + 1, (f->lines - k - 1) * sizeof f->sizes[0]);
+    f->lines--;
+}
+
+/* Is the last frame one of fewer letters than 64? */
+static int ends_short(void) {
+    return f->frames[f->lines - 1][0] == 5 && f->sizes[f->lines - 1] < 65;
+}
+
+/* Adds so many letters at the end. */
+static void add_letters(size_t count) {
+    uint8_t frame[MOST_FRAME] = {5};
+    for (size_t i = 0; i < count; i++)
+        frame[1 + i] = (uint8_t)below(f->transitions);
+    add_frame(frame, 1 + count);
+}
+
+/* Breaks the order, a length, an index or a kind in any way. */
+static void damage_any_frame(void) {
+    size_t k = any_line();
+    switch (below(7)) {
+    case 0:
+        swap_frames(k, below(f->lines));
+        break;
+    case 1: /* doubled, or one more at the end */
+        add_frame(f->frames[k], f->sizes[k]);
+        break;
+    case 2:
+        strike_frame(k);
+        break;
+    case 3: /* of another length */
+        f->sizes[k] = chance(2) ? f->sizes[k] + 1 : chance(2) ? f->sizes[k] - 1 : 1 + below(132);
+        break;
+    case 4: /* of another kind */
+        f->frames[k][0] = (uint8_t)(chance(2) ? below(8) : draw());
+        break;
+    case 5: /* followed by letters though it is short */
+        if (ends_short())
+            add_frame(f->frames[f->lines - 1], f->sizes[f->lines - 1]);
+        break;
+    default: /* of another index, or letter */
+        f->frames[k][1] = (uint8_t)(chance(2) ? below(5) : draw());
+    }
+}
+
+/* A frame of a known kind where another is due: renamed, exchanged, or one more at the end. */
+static void break_order(size_t k) {
+    size_t other = below(f->lines);
+    if (chance(3))
+        add_frame(f->frames[below(3)], f->sizes[0]);
+    else if (chance(2) && f->frames[k][0] != f->frames[other][0])
+        swap_frames(k, other);
+    else
+        f->frames[k][0] = (uint8_t)(1 + (f->frames[k][0] + below(4)) % 5);
+}
+
+/* Another length for frame k, of 130 bytes at most. */
+static void break_size(size_t k) {
+    size_t old = f->sizes[k];
+    if (f->frames[k][0] == 5)
+        f->sizes[k] = chance(2) ? 1 : 66 + below(65);
+    else
+        do
+            f->sizes[k] = chance(2) ? old + 1 : chance(2) ? old - 1 : 1 + below(130);
+        while (f->sizes[k] == old || f->sizes[k] > 130);
+}
+
+/* Breaks frames as planned: each of these alone is one fault of refusal 12. */
+void damage_frames(void) {
+    size_t k = any_line(), row = 3 + below(f->transitions);
+    if (breaks(FRAME_KIND))
+        f->frames[k][0] = (uint8_t)(chance(3) ? 0 : chance(2) ? 6 : 6 + below(250));
+    if (breaks(FRAME_ORDER))
+        break_order(k);
+    if (breaks(FRAME_LENGTH))
+        break_size(k);
+    if (breaks(FRAME_INDEX))
+        f->frames[row][1] = (uint8_t)(f->frames[row][1] + (chance(2) ? 1 : 1 + below(255)));
+    if (breaks(FRAME_SHORT)) {
+        if (!ends_short())
+            add_letters(1 + below(63));
+        add_letters(1 + below(64));
+    }
+    for (size_t times = wants(12) && !is_alone() && chance(2) ? 1 + below(2) : 0; times > 0 && f->lines > 1; times--)
+        damage_any_frame();
+    if (breaks(LINE_LONG))
+        f->sizes[any_line()] = 131 + below(MOST_FRAME - 131);
+    if (breaks(FRAME_MISSING))
+        f->lines = below(3 + f->transitions);
+}
+
+/* Puts a byte in. */
+static void put_byte(size_t at, uint8_t byte) {
+    memmove(f->text + at + 1, f->text + at, f->bytes - at);
+    f->text[at] = byte;
+    f->bytes++;
+}
+
+/* Takes a byte out. */
+static void take_byte(size_t at) {
+    memmove(f->text + at, f->text + at + 1, f->bytes - at - 1);
+    f->bytes--;
+}
+
+/* Puts a byte in, takes one out, changes one, or cuts the text. */
+static void damage_any_byte(void) {
+    static const uint8_t bytes[] = "\n\r 09AFG:@/af\n\0\377x0A";
+    size_t at = f->bytes == 0 ? 0 : chance(4) ? f->bytes - 1 : below(f->bytes);
+    switch (f->bytes == 0 ? 0 : below(5)) {
+    case 0:
+        put_byte(at, bytes[below(sizeof bytes - 1)]);
+        break;
+    case 1:
+        take_byte(at);
+        break;
+    case 2:
+    case 3:
+        f->text[at] = chance(8) ? (uint8_t)draw() : bytes[below(sizeof bytes - 1)];
+        break;
+    default:
+        f->bytes = at;
+    }
+}
+
+/* A digit by chance: where it stands in the text, and with at_start, where its line begins. */
+static size_t find_digit(int at_start) {
+    size_t at = 0, k = any_line();
+    for (size_t i = 0; i < k; i++)
+        at += 2 * f->sizes[i] + 1;
+    return at_start || f->sizes[k] == 0 ? at : at + below(2 * f->sizes[k]);
+}
+
+/* Breaks the text as planned: each of these alone is one fault of refusal 11. */
+void damage_text(void) {
+    static const uint8_t no_digits[] = "/:@G`agz \r\0\377";
+    if (f->lines > 0 && breaks(LINE_DIGIT))
+        f->text[find_digit(0)] = no_digits[below(sizeof no_digits - 1)];
+    if (f->lines > 0 && breaks(LINE_ODD))
+        take_byte(find_digit(0));
+    else if (breaks(LINE_EMPTY))
+        put_byte(f->lines == 0 || chance(4) ? f->bytes : find_digit(1), '\n');
+    if (f->lines > 0 && breaks(LINE_FEED))
+        f->bytes -= 1 + (chance(2) || f->sizes[f->lines - 1] == 0 ? 0 : 2 * below(f->sizes[f->lines - 1]));
+    for (size_t times = wants(11) && !is_alone() && chance(2) ? 1 + below(2) : 0; times > 0; times--)
+        damage_any_byte();
+}

@@ -1,0 +1,124 @@
+/* The faults of a case file, looked for on the line that it was refused for: the lines before it are right. */
+#include "compare.h"
+
+/* A line of the file: its bytes without the line feed; at is NULL if the file has no such line. */
+struct line {
+    const uint8_t *at;
+    size_t size;
+    int has_feed;
+};
+
+static size_t number;
+static struct line here;
+
+/* The line of this number, from 1. */
+static struct line line_of(size_t which) {
+    const uint8_t *file = own(&in.file);
+    size_t at = 0, end = 0;
+    for (size_t k = 1; at < in.file.count; k++) {
+        for (end = at; end < in.file.count && file[end] != '\n'; end++)
+            ;
+        if (k == which)
+            return (struct line){file + at, end - at, end < in.file.count};
+        at = end + 1;
+    }
+    return (struct line){0, 0, 0};
+}
+
+/* Is it a digit? */
+static int is_digit(uint8_t byte) {
+    return (byte >= '0' && byte <= '9') || (byte >= 'A' && byte <= 'F');
+}
+
+/* Byte i of the frame on this line; 0 where there is none. */
+static size_t byte_of(const struct line *line, size_t i) {
+    size_t value = 0;
+    for (size_t k = 2 * i; k < 2 * i + 2 && k < line->size; k++)
+        value = value * 16 + (size_t)(line->at[k] <= '9' ? line->at[k] - '0' : line->at[k] - 'A' + 10);
+    return value;
+}
+
+/* Byte i of the frame on the first line: place count at 1, transition count at 2. */
+static size_t count_of(size_t i) {
+    struct line first = line_of(1);
+    return byte_of(&first, i);
+}
+
+/* Number p of the frame on this line, of two bytes. */
+static size_t number_of(const struct line *line, size_t p) {
+    return byte_of(line, 1 + 2 * p) * 256 + byte_of(line, 2 + 2 * p);
+}
+
+/* The kind that the line must have. */
+static size_t due(void) {
+    return number <= 3 ? number : number - 3 <= count_of(2) ? 4 : 5;
+}
+
+/* Takes the line that was refused. */
+void look_at_line(size_t line) {
+    number = line;
+    here = line_of(line);
+}
+
+int line_feed(void) { return here.at != NULL && !here.has_feed; }
+int line_empty(void) { return here.at != NULL && here.size == 0; }
+int line_odd(void) { return here.size % 2 == 1; }
+int line_long(void) { return here.size > 260; }
+
+/* Is there a byte that is no digit? */
+int line_digit(void) {
+    for (size_t i = 0; i < here.size; i++)
+        if (!is_digit(here.at[i]))
+            return 1;
+    return 0;
+}
+
+/* Is the frame's kind none of the five? */
+int frame_kind(void) {
+    return here.at != NULL && (byte_of(&here, 0) < 1 || byte_of(&here, 0) > 5);
+}
+
+int frame_order(void) { return here.at != NULL && !frame_kind() && byte_of(&here, 0) != due(); }
+
+/* Is the frame of the kind that is due, but of another length? */
+int frame_length(void) {
+    size_t size = here.size / 2, places = number > 1 ? count_of(1) : 0, kind = due();
+    if (here.at == NULL || byte_of(&here, 0) != kind)
+        return 0;
+    if (kind == 5)
+        return size < 2 || size > 65;
+    return size != (kind == 1 ? 3 : kind == 4 ? 2 + 2 * places : 1 + 2 * places);
+}
+
+/* Has the row of a transition another number than is due? */
+int frame_index(void) {
+    return here.at != NULL && due() == 4 && byte_of(&here, 0) == 4 && byte_of(&here, 1) != number - 4;
+}
+
+/* Do letters follow a frame that is not full? */
+int frame_short(void) {
+    struct line before = line_of(number - 1);
+    return here.at != NULL && byte_of(&here, 0) == 5 && byte_of(&before, 0) == 5 && before.size < 130;
+}
+
+int frame_missing(void) { return here.at == NULL; }
+
+int file_places(void) { return byte_of(&here, 1) < 1 || byte_of(&here, 1) > 64; }
+int file_transitions(void) { return byte_of(&here, 2) < 1 || byte_of(&here, 2) > 64; }
+
+/* Has a place 65,535 tokens? */
+int file_full(void) {
+    for (size_t p = 0; p < count_of(1); p++)
+        if (number_of(&here, p) == 65535)
+            return 1;
+    return 0;
+}
+
+/* Has a place more tokens than its capacity? */
+int file_over(void) {
+    struct line caps = line_of(2);
+    for (size_t p = 0; p < count_of(1); p++)
+        if (number_of(&caps, p) != 65535 && number_of(&here, p) > number_of(&caps, p))
+            return 1;
+    return 0;
+}
