@@ -172,7 +172,7 @@ int agrees(size_t q, uint64_t seed, size_t input, int show);
 int self_check(size_t inputs, uint64_t seed);
 
 /* ---- decided.c */
-void count_faults(size_t q, const struct given *g);
+void count_faults(size_t q, size_t input, const struct given *g);
 int missed_faults(size_t q, int show);
 
 /* ---- edges.c */
