@@ -34,13 +34,13 @@ static int same_given(const struct given *a, const struct given *b) {
 }
 
 /* Counts what came of one input. */
-static void count(size_t q, const struct given *g) {
+static void count(size_t q, size_t input, const struct given *g) {
     int refused = g->kind == KAUNORPI_REFUSED;
     came[q][refused][g->class & 31][g->field[0] > 0]++;
     for (int other = 1; refused && other < 14; other++)
         before[q][g->number][other] += wants(other) != 0;
     count_edges(questions[q].name, g);
-    count_faults(q, g);
+    count_faults(q, input, g);
 }
 
 /* Puts one input to both sides; true if they agree. With show, prints the input and both answers. */
@@ -55,7 +55,7 @@ int agrees(size_t q, uint64_t seed, size_t input, int show) {
     ours = questions[q].ask(LIBRARY);
     theirs = questions[q].ask(REFERENCE);
     same = same_given(&ours, &theirs) && !differing_memory(1);
-    count(q, &theirs);
+    count(q, input, &theirs);
     if (show) {
         print_input();
         print_given("library  ", &ours);

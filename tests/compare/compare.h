@@ -3,8 +3,8 @@
  * An input is drawn from a seed, its question and its number alone (random.c), with the faults that plan.c plans for it,
  * into lent memory with guard bytes around each piece (lend.c). What is drawn is up to net.c, word.c, complement.c,
  * summary.c, weighting.c, lists.c, file.c and damage.c; ask.c puts the question to both sides; compare.c compares, counts
- * what came, and reports; faults.c and lines.c find which lent thing a refusal comes from, and edges.c knows the edges
- * that must come.
+ * what came, and reports; faults.c and lines.c find which lent thing a refusal comes from, decided.c counts those, and
+ * edges.c knows the edges that must come.
  */
 #ifndef COMPARE_H
 #define COMPARE_H
@@ -172,7 +172,7 @@ int agrees(size_t q, uint64_t seed, size_t input, int show);
 int self_check(size_t inputs, uint64_t seed);
 
 /* ---- decided.c */
-void count_faults(size_t q, const struct given *g);
+void count_faults(size_t q, size_t input, const struct given *g);
 int missed_faults(size_t q, int show);
 
 /* ---- edges.c */

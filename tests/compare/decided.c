@@ -3,8 +3,9 @@
 
 #include <stdio.h>
 
-/* By question and fault; and by question, inputs whose answer is another than their plan says. */
+/* By question and fault; and by question how many inputs have another answer than their plan says, and the last of them. */
 static unsigned long decided[32][FAULTS], astray[32];
+static size_t last_astray[32];
 
 /* Does the fault of this question stand in the input? */
 static int is_there(size_t q, int f, int refusal) {
@@ -15,7 +16,7 @@ static int is_there(size_t q, int f, int refusal) {
 
 /* Counts the one fault that the refusal comes from. An input that was drawn with one fault must be refused for that one
  * alone, one that was drawn with none must be answered, and no refusal comes from nowhere. */
-void count_faults(size_t q, const struct given *g) {
+void count_faults(size_t q, size_t input, const struct given *g) {
     int refused = g->kind == KAUNORPI_REFUSED, found = 0, decider = FAULTS;
     if (refused)
         look_at_line(g->field[0]);
@@ -26,8 +27,10 @@ void count_faults(size_t q, const struct given *g) {
         }
     if (found == 1)
         decided[q][decider]++;
-    if (is_alone() ? found != 1 || !breaks((enum fault)decider) : refused && (is_sound() || found == 0))
+    if (is_alone() ? found != 1 || !breaks((enum fault)decider) : refused && (is_sound() || found == 0)) {
         astray[q]++;
+        last_astray[q] = input;
+    }
 }
 
 /* Reports the faults of a question that never decided by themselves, and inputs that went astray; with show, how often
@@ -35,7 +38,8 @@ void count_faults(size_t q, const struct given *g) {
 int missed_faults(size_t q, int show) {
     int lacks = astray[q] > 0;
     if (astray[q] > 0)
-        printf("compare: %s was not refused as planned, or not answered, %lu times\n", questions[q].name, astray[q]);
+        printf("compare: %s was not refused or answered as planned %lu times, at last for input %zu\n", questions[q].name,
+               astray[q], last_astray[q]);
     for (int f = 0; f < FAULTS; f++) {
         if ((questions[q].faults >> f & 1u) == 0)
             continue;
