@@ -136,7 +136,8 @@ def check_functions(tree, page, text):
         having = [p.parent.parent.name for p in tree.sources if p.parent.name == "src" and tree.has(tree.named(p), one[2])]
         if one[1] not in having:
             tree.tell(page, text, one.start(), f"crates/{one[1]} has no function {one[2]}")
-            pieces += [(one.start(1), one.end(1), having[0])] * (len(having) == 1)
+            if len(having) == 1:
+                pieces.append((one.start(1), one.end(1), having[0]))
     return rewritten(text, pieces)
 
 
