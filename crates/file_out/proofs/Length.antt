@@ -1,0 +1,116 @@
+-- How long a case file is: each line, the lines written so far, the whole file, and the longest one. Assumes nothing.
+use Prim.Native.Nat.{ℕ, zero, suc, _+_, _-_, _*_, _≤_, _<_, min}
+use mathlib.Core.Path.{_≡_, refl, _∙_, ap}
+use mathlib.Core.List.{List, [], _∷_, _++_}
+use native.Mathlib.Omega.{arith}
+use native.Mathlib.Nat.{suc-mul, mul-le-mul}
+use lib.ListN.{length, drop, length-append, length-take, length-drop}
+use Rattle.ground.specs.Limits.{countLimit, wordLimit}
+use Rattle.file_digits.specs.Frame.{block, lineFeed}
+use Rattle.file_put.specs.Put.{digitsOf, lineText, twos}
+use Rattle.file_put.proofs.Round.{digits-long}
+use Rattle.file_put.proofs.Twos.{twos-long}
+use Rattle.net.specs.Net.{Net, Sized}
+use Rattle.net.specs.Letter.{row}
+use Rattle.net.proofs.Rows.{row-end, row-length}
+use Rattle.file_text.specs.Text.{countsLine, capsLine, tokensLine, rowLine, lettersLine, lettersLines, joined, fileOf}
+use Rattle.file_out.specs.Length.{lineLength, numbersLength, rowLength, wordLength, fileLength, fileLimit}
+
+-- ---- a line
+-- two digits a byte, and a line feed
+pub line-long : (bytes : List ℕ) → length (lineText bytes) ≡ lineLength (length bytes)
+line-long bytes = let a = length-append (digitsOf bytes) (lineFeed ∷ []) in omega (arith, digits-long bytes)
+
+pub counts-long : (P T : ℕ) → length (countsLine P T) ≡ lineLength 3
+counts-long P T = line-long (1 ∷ P ∷ T ∷ [])
+
+-- a kind and numbers of two bytes
+pub numbers-long : (kind : ℕ) (l : List ℕ) → length (lineText (kind ∷ twos l)) ≡ numbersLength (length l)
+numbers-long kind l = let a = line-long (kind ∷ twos l) in omega (arith, twos-long l)
+
+pub caps-long : (caps : List ℕ) → length (capsLine caps) ≡ numbersLength (length caps)
+caps-long caps = numbers-long 2 caps
+
+pub tokens-long : (initial : List ℕ) → length (tokensLine initial) ≡ numbersLength (length initial)
+tokens-long initial = numbers-long 3 initial
+
+-- a 04 of a net whose lists have their lengths
+module _ (net : Net) (pres : length (net .pre) ≡ net .transitions * net .places) (posts : length (net .post) ≡ net .transitions * net .places) where
+  pub row-long : (t : ℕ) → t < net .transitions → length (rowLine net t) ≡ rowLength (net .places)
+  row-long t h =
+      let takes = row (net .places) t (net .pre) in
+      let puts = row (net .places) t (net .post) in
+      let a = row-length (net .places) t (net .pre) (rw pres (row-end t (net .transitions) (net .places) h)) in
+      let b = row-length (net .places) t (net .post) (rw posts (row-end t (net .transitions) (net .places) h)) in
+      let l = line-long (4 ∷ t ∷ (takes ++ puts)) in
+      omega (arith, length-append takes puts)
+
+  -- as many 04 as were written so far
+  pub rows-long : (t : ℕ) → t ≤ net .transitions → length (joined (rowLine net) t) ≡ t * rowLength (net .places)
+  unfolding joined
+  rows-long zero h = omega arith
+  rows-long (suc t) h =
+      length-append (joined (rowLine net) t) (rowLine net t)
+      ∙ omega (arith, rows-long t (omega arith), row-long t h, suc-mul t (rowLength (net .places)))
+
+-- ---- the 05
+-- line k has the letters of row k
+pub letters-long : (w : List ℕ) (k : ℕ) → length (lettersLine w k) ≡ lineLength (1 + min block (length w - k * block))
+letters-long w k =
+    let a = line-long (5 ∷ row block k w) in
+    omega (arith, length-take block (drop (k * block) w), length-drop (k * block) w)
+
+-- the 05 written so far hold as many letters as there are, at most a block each
+pub letters-so-far : (w : List ℕ) (k : ℕ) → length (joined (lettersLine w) k) ≡ 2 * min (k * block) (length w) + lineLength 1 * k
+unfolding joined
+letters-so-far w zero = omega arith
+letters-so-far w (suc k) =
+    length-append (joined (lettersLine w) k) (lettersLine w k)
+    ∙ omega (arith, letters-so-far w k, letters-long w k)
+
+-- all of them full
+pub letters-full : (w : List ℕ) (k : ℕ) → k * block ≤ length w → length (joined (lettersLine w) k) ≡ 2 * (k * block) + lineLength 1 * k
+letters-full w k h = omega (arith, letters-so-far w k)
+
+-- and with the last, short one
+pub letters-all : (w : List ℕ) (k : ℕ) → length w ≤ k * block → length (joined (lettersLine w) k) ≡ 2 * length w + lineLength 1 * k
+letters-all w k h = omega (arith, letters-so-far w k)
+
+-- how many 05 there are: a further one exactly while letters are left
+pub lines-more : (n k : ℕ) → k * block < n → k < lettersLines n
+lines-more n k h = omega arith
+
+pub lines-left : (n k : ℕ) → k < lettersLines n → k * block < n
+lines-left n k h = omega arith
+
+pub lines-end : (n : ℕ) → n ≤ lettersLines n * block
+lines-end n = omega arith
+
+pub word-long : (w : List ℕ) → length (joined (lettersLine w) (lettersLines (length w))) ≡ wordLength (length w)
+word-long w = letters-all w (lettersLines (length w)) (lines-end (length w))
+
+-- ---- the file
+module _ (net : Net) (initial w : List ℕ) (sized : Sized net) (marked : length initial ≡ net .places) where
+  pub file-length : length (fileOf net initial w) ≡ fileLength (net .places) (net .transitions) (length w)
+  unfolding fileOf
+  file-length =
+      let a = countsLine (net .places) (net .transitions) in
+      let b = capsLine (net .caps) in
+      let c = tokensLine initial in
+      let d = joined (rowLine net) (net .transitions) in
+      let e = joined (lettersLine w) (lettersLines (length w)) in
+      let la = counts-long (net .places) (net .transitions) in
+      let lb : length b ≡ numbersLength (net .places) = caps-long (net .caps) ∙ ap numbersLength (sized .capped) in
+      let lc : length c ≡ numbersLength (net .places) = tokens-long initial ∙ ap numbersLength marked in
+      let ld = rows-long net (sized .pres) (sized .posts) (net .transitions) (omega arith) in
+      let le = word-long w in
+      omega (arith, length-append (a ++ b ++ c ++ d) e, length-append (a ++ b ++ c) d, length-append (a ++ b) c, length-append a b)
+
+-- within the limits no file is longer than the longest
+pub longest-file : (P T n : ℕ) → P ≤ countLimit → T ≤ countLimit → n ≤ wordLimit → fileLength P T n ≤ fileLimit
+longest-file P T n p t h =
+    let a : rowLength P ≤ rowLength countLimit = omega arith in
+    omega (arith, mul-le-mul t a)
+
+pub largest : fileLimit ≡ 151371
+largest = refl

@@ -1,0 +1,4 @@
+pub mod Length
+pub mod Listed
+pub mod Reckoned
+pub mod Joined

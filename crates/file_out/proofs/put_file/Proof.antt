@@ -1,0 +1,81 @@
+use Prim.Native.Nat.{_*_}
+use mathlib.Core.Path.{_≡_}
+use native.Mathlib.Omega.{arith}
+use lib.ListN.{length}
+use denote.Ref.{now}
+use Rattle.net.specs.Net.{Net, netOf}
+use Rattle.file_put.proofs.Appends.{append-then}
+use Rattle.file_text.specs.Text.{rowLine, joined, fileOf}
+use Rattle.file_out.specs.Length.{rowLength}
+use Rattle.file_out.proofs.Length.{counts-long, numbers-long, rows-long}
+use Rattle.file_out.proofs.Joined.{append-moved}
+use borrow.Author.Needs.{needs}
+use Rattle.file_out.proofs.put_file.Statement.{statement}
+use Rattle.file_out.proofs.put_file.Tie as tie
+
+-- the net at the function's entry, and how long its 04 are
+abbrev net : tie.Start → Net
+net s = netOf (s .args .places) (s .args .transitions) (now (s .args .pre)) (now (s .args .post)) (now (s .args .caps))
+
+rows-all : (s : tie.Start) → length (joined (rowLine (net s)) (s .args .transitions)) ≡ s .args .transitions * rowLength (s .args .places)
+rows-all s = rows-long (net s) (s .pre .0 .0 .pres) (s .pre .0 .0 .posts) (s .args .transitions) (omega arith)
+
+put-counts-requires : tie.Need-put-counts-requires
+put-counts-requires c κs =
+    let s : tie.Start = search needs in
+    (omega (arith, s .pre .1), s .pre .0 .0 .few-places, s .pre .0 .0 .few-transitions)
+
+put-numbers-requires : tie.Need-put-numbers-requires
+put-numbers-requires c κs =
+    let s : tie.Start = search needs in
+    let a : tie.After-put-counts = search needs in
+    omega (arith, s .pre .0 .0 .capped, s .pre .0 .1, s .pre .1, append-moved (a .put-counts .ensures) (counts-long _ _))
+
+put-numbers-requires-2 : tie.Need-put-numbers-requires-2
+put-numbers-requires-2 c κs =
+    let s : tie.Start = search needs in
+    let a : tie.After-put-counts = search needs in
+    let b : tie.After-put-numbers = search needs in
+    omega (arith, s .pre .0 .0 .capped, s .pre .0 .1, s .pre .1, append-moved (a .put-counts .ensures) (counts-long _ _), append-moved (b .put-numbers .ensures) (numbers-long _ _))
+
+put-rows-requires : tie.Need-put-rows-requires
+put-rows-requires c κs =
+    let s : tie.Start = search needs in
+    let a : tie.After-put-counts = search needs in
+    let b : tie.After-put-numbers = search needs in
+    let d : tie.After-put-numbers2 = search needs in
+    (s .pre .0 .0, omega (arith, s .pre .0 .0 .capped, s .pre .0 .1, s .pre .1, append-moved (a .put-counts .ensures) (counts-long _ _), append-moved (b .put-numbers .ensures) (numbers-long _ _), append-moved (d .put-numbers2 .ensures) (numbers-long _ _)))
+
+put-word-requires : tie.Need-put-word-requires
+put-word-requires c κs =
+    let s : tie.Start = search needs in
+    let a : tie.After-put-counts = search needs in
+    let b : tie.After-put-numbers = search needs in
+    let d : tie.After-put-numbers2 = search needs in
+    let f : tie.After-put-rows = search needs in
+    (omega (arith, s .pre .0 .0 .capped, s .pre .0 .1, s .pre .1, append-moved (a .put-counts .ensures) (counts-long _ _), append-moved (b .put-numbers .ensures) (numbers-long _ _), append-moved (d .put-numbers2 .ensures) (numbers-long _ _), append-moved (f .put-rows .ensures) (rows-all s)), s .pre .0 .2)
+
+same-length : tie.Need-same-length
+same-length c = search needs
+
+returns : tie.Need-returns
+unfolding fileOf
+returns c =
+    let a : tie.After-put-counts = search needs in
+    let b : tie.After-put-numbers = search needs in
+    let d : tie.After-put-numbers2 = search needs in
+    let f : tie.After-put-rows = search needs in
+    let g : tie.After-put-word = search needs in
+    append-then (append-then (append-then (append-then (a .put-counts .ensures) (b .put-numbers .ensures)) (d .put-numbers2 .ensures)) (f .put-rows .ensures)) (g .put-word .ensures)
+
+pub put-file-spec : {M : Type 1} → statement M
+put-file-spec =
+    tie.close
+    (tie.spec
+    put-counts-requires
+    put-numbers-requires
+    put-numbers-requires-2
+    put-rows-requires
+    put-word-requires
+    same-length
+    returns)

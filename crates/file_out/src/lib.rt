@@ -1,0 +1,208 @@
+// Inner: a case file put into a room, frame by frame, and how long it is. Each function puts its text at a
+// number of the room and answers the number after it; what stands before and after is as found.
+use file_digits::BLOCK;
+use ground::COUNT_LIMIT;
+use ground::WORD_LIMIT;
+use ground::Weight;
+ghost use mathlib.Core.Path.{_≡_};
+ghost use mathlib.Core.List.{[], _∷_, _++_};
+ghost use Prim.Native.Nat.{_+_, _*_, _≤_, min};
+ghost use lib.ListN.{length};
+ghost use Rattle.ground.specs.Limits.{countLimit, wordLimit};
+ghost use Rattle.net.specs.Net.{netOf, Sized};
+ghost use Rattle.file_digits.specs.Frame.{block, lineLimit};
+ghost use Rattle.file_put.specs.Append.{Appended};
+ghost use Rattle.file_put.specs.Put.{twos, Put, PutLine};
+ghost use Rattle.file_text.specs.Text.{lettersLines, lettersLine, rowLine, joined, fileOf};
+ghost use Rattle.file_out.specs.Length.{lineLength, numbersLength, rowLength, wordLength, fileLength};
+
+// The longest file, of the most places, transitions and letters: 01, twice the capacities or tokens, a row
+// for each transition, two digits a letter, and a kind and a line feed for each 05.
+pub const FILE_LIMIT: usize = 7
+    + 2 * (4 * COUNT_LIMIT + 3)
+    + COUNT_LIMIT * (4 * COUNT_LIMIT + 5)
+    + 2 * WORD_LIMIT
+    + 3 * ((WORD_LIMIT + (BLOCK - 1)) / BLOCK);
+
+// Numbers of two bytes each.
+fn put_words(out: &mut [u8], at: usize, list: &[u16]) -> usize
+    requires { ⌜ at + 4 * length (now list) ≤ length (now out) ⌝ }
+    ensures { λ r. ⌜ Put (now (out .entry)) at (twos (now (list .entry))) r (now (out .exit)) ⌝ }
+{
+    let mut r = at;
+    let mut k = 0;
+    while k < list.len() {
+        r = file_put::put_two(out, r, list[k]);
+        k += 1;
+    }
+    r
+}
+
+// Bytes, two digits each.
+fn put_bytes(out: &mut [u8], at: usize, list: &[u8]) -> usize
+    requires { ⌜ at + 2 * length (now list) ≤ length (now out) ⌝ }
+    ensures { λ r. ⌜ Put (now (out .entry)) at (now (list .entry)) r (now (out .exit)) ⌝ }
+{
+    let mut r = at;
+    let mut k = 0;
+    while k < list.len() {
+        r = file_put::put_byte(out, r, list[k]);
+        k += 1;
+    }
+    r
+}
+
+// 01: the counts.
+pub fn put_counts(out: &mut [u8], at: usize, places: usize, transitions: usize) -> usize
+    requires { ⌜ (at + lineLength 3 ≤ length (now out)) × (places ≤ countLimit) × (transitions ≤ countLimit) ⌝ }
+    ensures { λ r. ⌜ PutLine (now (out .entry)) at (1 ∷ places ∷ transitions ∷ []) r (now (out .exit)) ⌝ }
+{
+    let a = file_put::put_byte(out, at, 1);
+    let b = file_put::put_byte(out, a, places as u8);
+    let c = file_put::put_byte(out, b, transitions as u8);
+    file_put::put_feed(out, c)
+}
+
+// 02, the capacities, or 03, the tokens: a number of two bytes for each place.
+pub fn put_numbers(out: &mut [u8], at: usize, kind: u8, list: &[u16]) -> usize
+    requires { ⌜ at + numbersLength (length (now list)) ≤ length (now out) ⌝ }
+    ensures { λ r. ⌜ PutLine (now (out .entry)) at (kind ∷ twos (now (list .entry))) r (now (out .exit)) ⌝ }
+{
+    let a = file_put::put_byte(out, at, kind);
+    let b = put_words(out, a, list);
+    file_put::put_feed(out, b)
+}
+
+// 04: a transition, what it takes from each place, and what it puts there.
+pub fn put_row(out: &mut [u8], at: usize, t: u8, takes: &[Weight], puts: &[Weight]) -> usize
+    requires { ⌜ (at + rowLength (length (now takes)) ≤ length (now out)) × (length (now puts) ≡ length (now takes)) ⌝ }
+    ensures { λ r. ⌜ PutLine (now (out .entry)) at (4 ∷ t ∷ (now (takes .entry) ++ now (puts .entry))) r (now (out .exit)) ⌝ }
+{
+    let a = file_put::put_byte(out, at, 4);
+    let b = file_put::put_byte(out, a, t);
+    let c = put_bytes(out, b, takes);
+    let d = put_bytes(out, c, puts);
+    file_put::put_feed(out, d)
+}
+
+// 05: some letters of the word.
+pub fn put_letters(out: &mut [u8], at: usize, letters: &[u8]) -> usize
+    requires { ⌜ at + lineLength (1 + length (now letters)) ≤ length (now out) ⌝ }
+    ensures { λ r. ⌜ PutLine (now (out .entry)) at (5 ∷ now (letters .entry)) r (now (out .exit)) ⌝ }
+{
+    let a = file_put::put_byte(out, at, 5);
+    let b = put_bytes(out, a, letters);
+    file_put::put_feed(out, b)
+}
+
+// A 04 for each transition, in order from 0.
+pub fn put_rows(
+    places: usize,
+    transitions: usize,
+    pre: &[Weight],
+    post: &[Weight],
+    caps: &[u16],
+    out: &mut [u8],
+    at: usize,
+) -> usize
+    requires { ⌜ Sized (netOf places transitions (now pre) (now post) (now caps)) ⌝ }
+    requires { ⌜ at + transitions * rowLength places ≤ length (now out) ⌝ }
+    ensures { λ r. ⌜ Appended (now (out .entry)) at (joined (rowLine (netOf places transitions (now (pre .entry)) (now (post .entry)) (now (caps .entry)))) transitions) r (now (out .exit)) ⌝ }
+{
+    let mut r = at;
+    let mut t: usize = 0;
+    while t < transitions {
+        let a = t * places;
+        let e = a + places;
+        r = put_row(out, r, t as u8, &pre[a..e], &post[a..e]);
+        t += 1;
+    }
+    r
+}
+
+// Where the frame that starts at letter a ends: 64 letters on, or with the word.
+fn block_end(letters: usize, a: usize) -> usize
+    requires { ⌜ a ≤ letters ⌝ }
+    ensures { λ r. ⌜ r ≡ min (a + block) letters ⌝ }
+{
+    if letters - a < BLOCK {
+        letters
+    } else {
+        a + BLOCK
+    }
+}
+
+// The frames 05 of n letters: each but the last has 64.
+fn letters_lines(n: usize) -> usize
+    requires { ⌜ n ≤ wordLimit ⌝ }
+    ensures { λ r. ⌜ r ≡ lettersLines n ⌝ }
+{
+    (n + (BLOCK - 1)) / BLOCK
+}
+
+// The whole word, 64 letters a frame; none for the empty word.
+pub fn put_word(out: &mut [u8], at: usize, word: &[u8]) -> usize
+    requires { ⌜ (at + wordLength (length (now word)) ≤ length (now out)) × (length (now word) ≤ wordLimit) ⌝ }
+    ensures { λ r. ⌜ Appended (now (out .entry)) at (joined (lettersLine (now (word .entry))) (lettersLines (length (now (word .entry))))) r (now (out .exit)) ⌝ }
+{
+    let lines = letters_lines(word.len());
+    let mut r = at;
+    let mut k: usize = 0;
+    while k < lines {
+        let a = k * BLOCK;
+        let e = block_end(word.len(), a);
+        r = put_letters(out, r, &word[a..e]);
+        k += 1;
+    }
+    r
+}
+
+// A frame of so many bytes as a line: two digits each, and a line feed.
+fn line_length(bytes: usize) -> usize
+    requires { ⌜ 2 * bytes ≤ lineLimit ⌝ }
+    ensures { λ r. ⌜ r ≡ lineLength bytes ⌝ }
+{
+    2 * bytes + 1
+}
+
+// The word's frames: two digits a letter, and for each frame its kind and its line feed.
+fn word_length(n: usize) -> usize
+    requires { ⌜ n ≤ wordLimit ⌝ }
+    ensures { λ r. ⌜ r ≡ wordLength n ⌝ }
+{
+    2 * n + line_length(1) * letters_lines(n)
+}
+
+// How long the file is.
+pub fn file_length(places: usize, transitions: usize, letters: usize) -> usize
+    requires { ⌜ (places ≤ countLimit) × (transitions ≤ countLimit) × (letters ≤ wordLimit) ⌝ }
+    ensures { λ r. ⌜ r ≡ fileLength places transitions letters ⌝ }
+{
+    let counts = line_length(3);
+    let numbers = line_length(1 + 2 * places);
+    let row = line_length(2 + 2 * places);
+    let word = word_length(letters);
+    counts + 2 * numbers + transitions * row + word
+}
+
+// The whole file at the front of the room: 01, 02, 03, the 04 and the 05.
+pub fn put_file(
+    places: usize,
+    transitions: usize,
+    pre: &[Weight],
+    post: &[Weight],
+    caps: &[u16],
+    initial: &[u16],
+    word: &[u8],
+    out: &mut [u8],
+) -> usize
+    requires { ⌜ (Sized (netOf places transitions (now pre) (now post) (now caps))) × (length (now initial) ≡ places) × (length (now word) ≤ wordLimit) ⌝ }
+    requires { ⌜ fileLength places transitions (length (now word)) ≤ length (now out) ⌝ }
+    ensures { λ r. ⌜ Appended (now (out .entry)) 0 (fileOf (netOf places transitions (now (pre .entry)) (now (post .entry)) (now (caps .entry))) (now (initial .entry)) (now (word .entry))) r (now (out .exit)) ⌝ }
+{
+    let a = put_counts(out, 0, places, transitions);
+    let b = put_numbers(out, a, 2, caps);
+    let c = put_numbers(out, b, 3, initial);
+    let d = put_rows(places, transitions, pre, post, caps, out, c);
+    put_word(out, d, word)
+}
