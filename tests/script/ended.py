@@ -1,6 +1,6 @@
 #!/usr/bin/env python3
 """A script that is ended leaves nothing behind: no process, no file. TERM, INT and HUP come while it reads standard input
-or a pipe, while it copies for --words, while nobody takes what it writes, and while the program is made; Ctrl-C and Ctrl-D
+or a pipe, while it copies for --words, while nobody takes what it writes back, and while the program is made; Ctrl-C and Ctrl-D
 come from a terminal. Prints nothing unless something is wrong."""
 import fcntl
 import glob
@@ -16,6 +16,7 @@ import time
 ROOT = os.path.dirname(os.path.dirname(os.path.dirname(os.path.realpath(__file__))))
 PLAIN = os.path.join(ROOT, "kaunorpi")
 SAW = os.path.join(ROOT, "examples", "saw.case")
+LONG = os.path.join(ROOT, "tests", "cases", "letters-65535.case")
 LINE = b"81000000000900000001000000010000000000000003"
 failed = 0
 
@@ -92,7 +93,8 @@ def signals(room, env):
     os.symlink(SAW, os.path.join(room, "saw.case"))
     reader = "qemu-x86_64" if os.uname().machine != "x86_64" else "ld-linux-x86-64"
     ways = (("standard input", [], reader), ("standard input among files", [SAW, "-", SAW], reader), ("a pipe", [pipe, SAW, pipe], "bash"),
-            ("--words", ["--words"], "head"), ("output that nobody takes", [long_name] * 40, "bash"))
+            ("--words", ["--words"], "head"), ("output that nobody takes", [long_name] * 40, "bash"),
+            ("--rewrite", ["--rewrite"], reader), ("a long file that nobody takes", ["--rewrite", LONG], "cat"))
     for sent, status in ((signal.SIGTERM, 143), (signal.SIGINT, 130), (signal.SIGHUP, 129)):
         for what, arguments, busy in ways:
             if sent == signal.SIGTERM or what == "standard input":

@@ -22,6 +22,9 @@ case $what in
     nothing) ;;
     else) echo 9900 ;;
     dies) kill -9 $$ ;;
+    refuses) echo 820B00000002 >&2 ;;
+    both) echo 8100; echo 820B00000002 >&2 ;;
+    late) echo 820B00000002 >&2; exit 1 ;;
 esac
 READER
     cat > "$1/bin/rt" <<'RT'
@@ -34,9 +37,9 @@ for turn in $(seq 50); do
     sleep 0.2 & wait
 done
 [ -e "$here/go" ] || { echo "rt: nobody has seen that net is proved"; exit 1; }
-[ ! -e "$here/bad" ] || { echo "rt: kaunorpi NOT PROVED (exit 1, 2 s)"; exit 1; }
-[ -e target/bin/kaunorpi ] || { mkdir -p target/bin && : > target/bin/kaunorpi && chmod +x target/bin/kaunorpi; }
-echo "rt: kaunorpi proved (1 s)"
+[ ! -e "$here/bad" ] || { echo "rt: $2 NOT PROVED (exit 1, 2 s)"; exit 1; }
+[ -e "target/bin/$2" ] || { mkdir -p target/bin && : > "target/bin/$2" && chmod +x "target/bin/$2"; }
+echo "rt: $2 proved (1 s)"
 RT
     chmod +x "$1/bin/rt" "$kit/bin/clang" "$kit/lib/ld-linux-x86-64.so.2"
 }

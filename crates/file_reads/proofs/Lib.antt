@@ -1,4 +1,5 @@
 pub mod Steps
 pub mod Inputs
 pub mod Ends
+pub mod Endings
 pub mod Told

@@ -1,16 +1,17 @@
 -- What the program's promise means: its line is that of the file that its reads bring, however they cut it. Assumes nothing.
-use Prim.Native.Nat.{ℕ, zero, suc}
-use mathlib.Core.Path.{_≡_, refl, sym, ap, subst, _∙_}
-use mathlib.Core.Bool.{Bool, true, false}
+use Prim.Native.Nat.{ℕ, suc}
+use mathlib.Core.Path.{_≡_, sym, ap, subst, _∙_}
+use mathlib.Core.Bool.{false}
 use mathlib.Core.List.{List, [], _∷_, _++_}
 use lib.ListN.{length}
 use lib.Seq.{sets}
-use lib.IntN.{ℤ, pos, negsuc}
+use lib.IntN.{pos, negsuc}
 use Rattle.file_line.specs.Read.{Rooms}
-use Rattle.file_parts.specs.File.{Run, going, stopped, Both, both, readOf, caseOf}
-use Rattle.file_reads.specs.declared.Input.the-variants.{More, Over, Failed}
-use Rattle.file_reads.specs.Reads.{Read, State, unread, failureOf, partOf, stepOf, stepAll, AllMore, bytesIn, readLimit, InputEnds, byLast, usedUp}
-use Rattle.file_reads.proofs.Ends.{over-failed, by-zero, by-part, by-failure, by-told, by-last, one-end, ends-fed, zero-over, told-failed}
+use Rattle.file_parts.specs.File.{Run, stopped, Both, both, readOf, caseOf}
+use Rattle.file_reads.specs.declared.Input.the-variants.{Over, Failed}
+use Rattle.file_reads.specs.Reads.{Read, State, unread, AllMore, bytesIn, readLimit, InputEnds}
+use Rattle.file_reads.proofs.Ends.{over-failed, one-end, ends-fed, zero-over, told-failed}
+use Rattle.file_reads.proofs.Endings.{Ending, at-end, at-refusal, at-failure, too-many, bytes-stopped, ending}
 use Rattle.verdict_line.specs.Answer.{lineAt, fileLine}
 use Rattle.verdict_line.proofs.Meaning.{refusal-decides}
 use Rattle.kaunorpi.specs.Made.{Output, noLine, aLine, Made}
@@ -73,36 +74,15 @@ module _ (x : Rooms) (out out′ : List ℕ) (m : Made x out out′) where
   refused-line : (n l : ℕ) → m .end .fed .run ≡ stopped n l → (rest : List ℕ) → fileLine (bytesIn (m .input .reads) ++ rest) x ≡ fileLine (bytesIn (m .input .reads)) x
   refused-line n l e rest = refusal-decides (bytesIn (m .input .reads)) rest x (m .end .fed .rooms) n l (sym all-fed ∙ ap (λ (r : Run). both r (m .end .fed .rooms)) e)
 
-  part-line : (r : Run) → m .end .fed .run ≡ r → m .end .input ≡ partOf r → (m .end .input ≡ More → ⊥) → (rest : List ℕ) → out′ ≡ sets out 0 (fileLine (bytesIn (m .input .reads) ++ rest) x)
-  unfolding partOf
-  part-line (going s d) e i h rest = absurd (h i)
-  part-line (stopped n l) e i h rest = over-line i ∙ ap (sets out 0) (sym (refused-line n l e rest))
-
-  -- where the last read leaves no more
-  module _ (before : List Read) (last : Read) (q : m .input .reads ≡ before ++ (last ∷ [])) (f : m .end ≡ stepAll (unread x) (m .input .reads)) (h : m .end .input ≡ More → ⊥) where
-    came : m .end ≡ stepOf (stepAll (unread x) before) last
-    came = by-last (unread x) (m .end) (m .input .reads) before last q f
-
-    -- by whether a signal interrupted a read that failed
-    by-signal : (k : ℕ) → last .count ≡ negsuc k → (b : Bool) → last .interrupted ≡ b → Outcome x (m .input .reads) out out′
-    unfolding failureOf
-    by-signal k e true b = absurd (h (ap (λ (v : State). v .input) came ∙ by-failure _ (last .count) _ _ k e ∙ ap failureOf b))
-    by-signal k e false b = atFailure before last q k e b (failed-nothing (ap (λ (v : State). v .input) came ∙ by-told _ (last .count) _ _ k e b))
-
-    by-count : (c : ℤ) → last .count ≡ c → Outcome x (m .input .reads) out out′
-    by-count (pos zero) e = atEnd before last q e (over-line (ap (λ (v : State). v .input) came ∙ by-zero _ (last .count) _ _ e))
-    by-count (pos (suc k)) e =
-        let i = ap (λ (v : State). v .input) came ∙ by-part _ (last .count) _ _ k e ∙ ap (λ (v : State). partOf (v .fed .run)) (sym came) in
-        atRefusal before last q k e (part-line (m .end .fed .run) refl i h)
-    by-count (negsuc k) e = by-signal k e (last .interrupted) refl
-
   -- how any run ends
   pub outcome : Outcome x (m .input .reads) out out′
-  outcome = go (m .input .ended)
+  outcome = go (ending x (m .end) (m .input .reads) (m .input .ended))
     where
-      go : InputEnds (unread x) (m .input .reads) (m .end) → Outcome x (m .input .reads) out out′
-      go (byLast before last q a f h) = by-count before last q f h (last .count) refl
-      go (usedUp l a f) = tooMany l a (failed-nothing (ap (λ (e : State). e .input) f))
+      go : Ending x (m .input .reads) (m .end) → Outcome x (m .input .reads) out out′
+      go (at-end before last q c o) = atEnd before last q c (over-line o)
+      go (at-refusal before last q k c n l e o) = atRefusal before last q k c (λ rest. over-line o ∙ ap (sets out 0) (sym (refused-line n l e rest)))
+      go (at-failure before last q k c b f) = atFailure before last q k c b (failed-nothing f)
+      go (too-many l a f) = tooMany l a (failed-nothing f)
 
   -- whichever way the last read went
   module _ (before : List Read) (last : Read) (q : m .input .reads ≡ before ++ (last ∷ [])) where
@@ -112,13 +92,9 @@ module _ (x : Rooms) (out out′ : List ℕ) (m : Made x out out′) where
 
     -- if the input was over at bytes that it brought, the line is that of every file that begins with the reads' bytes
     pub refused-file : (k : ℕ) → last .count ≡ pos (suc k) → m .end .input ≡ Over → (rest : List ℕ) → out′ ≡ sets out 0 (fileLine (bytesIn (m .input .reads) ++ rest) x)
-    refused-file k c o = go (m .input .ended)
-      where
-        go : InputEnds (unread x) (m .input .reads) (m .end) → (rest : List ℕ) → out′ ≡ sets out 0 (fileLine (bytesIn (m .input .reads) ++ rest) x)
-        go (byLast before′ last′ q′ a e h) =
-            let f = by-last _ (m .end) _ before last q e in
-            part-line (m .end .fed .run) refl (ap (λ (v : State). v .input) f ∙ by-part _ (last .count) _ _ k c ∙ ap (λ (v : State). partOf (v .fed .run)) (sym f)) h
-        go (usedUp l a e) = absurd (over-failed (sym o ∙ ap (λ (v : State). v .input) e))
+    refused-file k c o rest =
+        let e = bytes-stopped x (m .end) _ before last q k c o (m .input .ended) in
+        over-line o ∙ ap (sets out 0) (sym (refused-line (e .number) (e .line) (e .run) rest))
 
     -- if it failed, and no signal had interrupted it, nothing is made
     pub failed-file : (k : ℕ) → last .count ≡ negsuc k → last .interrupted ≡ false → out′ ≡ out
