@@ -20,10 +20,11 @@ SIDE(closed_list)
 SIDE(cover_list)
 SIDE(complement_net)
 SIDE(read_case)
+SIDE(write_case)
 
 /* What is lent. */
 static volatile size_t P, T, cells, letters, entries, file_size, wide;
-static uint8_t pre[4096], post[4096], word[65535], file[200000];
+static uint8_t pre[4096], post[4096], word[65535], file[KAUNORPI_FILE_LIMIT];
 static uint16_t caps[64], initial[64], list[4096 * 64];
 static int16_t weights[64];
 static uint32_t need[2][64], climb[2][64];
@@ -36,7 +37,7 @@ static struct written {
     uint32_t room[64], need[64], climb[64];
     int32_t change[64];
     uint16_t caps[64], initial[64];
-    uint8_t pre[4096], post[4096], word[65535];
+    uint8_t pre[4096], post[4096], word[65535], file[KAUNORPI_FILE_LIMIT];
 } out[2];
 
 #define NET P, T, pre, cells, post, cells, caps, P
@@ -99,6 +100,12 @@ static void ask_case(int side) {
     keep(o, a.kind, a.number, a.position, a.letters);
 }
 
+static void ask_write(int side) {
+    struct written *o = &out[side];
+    kaunorpi_length a = side_write_case[side](NET, initial, P, word, letters, o->file, sizeof o->file);
+    keep(o, a.kind, a.number, a.position, a.length);
+}
+
 /* A number by chance, always the same ones. */
 static size_t below(size_t n) {
     static uint64_t state = 1;
@@ -130,6 +137,16 @@ static void make_word(void) {
     letters = 65535;
     for (size_t i = 0; i < 65535; i++)
         word[i] = (uint8_t)below(64);
+}
+
+/* A small net and a short word: what a clerk's case file says. */
+static void make_small(void) {
+    make_ring(4);
+    T = 4;
+    cells = 16;
+    letters = 100;
+    for (size_t i = 0; i < 100; i++)
+        word[i] = (uint8_t)below(4);
 }
 
 /* The summaries of the word's two halves. */
@@ -180,43 +197,10 @@ static void make_1024(void) { make_switches(10, 1); }
 static void make_1024_first(void) { make_switches(10, 0); }
 static void make_4096(void) { make_switches(12, 1); }
 
-/* Writes one frame as a line of the file. */
-static void write_line(const uint8_t *frame, size_t size) {
-    static const char digits[] = "0123456789ABCDEF";
-    for (size_t i = 0; i < size; i++) {
-        file[file_size++] = (uint8_t)digits[frame[i] >> 4];
-        file[file_size++] = (uint8_t)digits[frame[i] & 15];
-    }
-    file[file_size++] = '\n';
-}
-
 /* The largest case file: 64 places, 64 transitions, 65,535 letters. */
 static void make_file(void) {
-    uint8_t frame[130] = {1, 64, 64};
     make_word();
-    file_size = 0;
-    write_line(frame, 3);
-    for (uint8_t kind = 2; kind <= 3; kind++) {
-        frame[0] = kind;
-        for (size_t p = 0; p < 64; p++) {
-            uint16_t number = kind == 2 ? caps[p] : initial[p];
-            frame[1 + 2 * p] = (uint8_t)(number >> 8);
-            frame[2 + 2 * p] = (uint8_t)number;
-        }
-        write_line(frame, 129);
-    }
-    for (size_t t = 0; t < 64; t++) {
-        frame[0] = 4;
-        frame[1] = (uint8_t)t;
-        memcpy(frame + 2, pre + t * 64, 64);
-        memcpy(frame + 66, post + t * 64, 64);
-        write_line(frame, 130);
-    }
-    for (size_t at = 0; at < 65535; at += 64) {
-        frame[0] = 5;
-        memcpy(frame + 1, word + at, at + 64 <= 65535 ? 64 : 63);
-        write_line(frame, at + 64 <= 65535 ? 65 : 64);
-    }
+    file_size = same_write_case(NET, initial, P, word, letters, file, sizeof file).length;
 }
 
 /* A row: the question, its size, its input, how it is asked, in how many rounds of how many calls. */
@@ -232,6 +216,8 @@ static const struct row {
     {"place_weighting", "64 places, 64 transitions, invariant", make_word, ask_weighting, 300, 20},
     {"complement_net", "32 capped places, 64 transitions", make_capped, ask_complement, 300, 20},
     {"read_case", "the largest file, 151 KB", make_file, ask_case, 100, 1},
+    {"write_case", "the largest file, 151 KB", make_word, ask_write, 100, 1},
+    {"write_case", "4 places, 4 transitions, 100 letters", make_small, ask_write, 300, 200},
     {"closed_list", "1,024 markings, unlike in the first places", make_1024_first, ask_closed, 10, 1},
     {"closed_list", "256 markings, unlike in the last places", make_256, ask_closed, 15, 1},
     {"closed_list", "1,024 markings, unlike in the last places", make_1024, ask_closed, 5, 1},

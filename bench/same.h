@@ -13,6 +13,7 @@ __typeof__(kaunorpi_closed_list) same_closed_list;
 __typeof__(kaunorpi_cover_list) same_cover_list;
 __typeof__(kaunorpi_complement_net) same_complement_net;
 __typeof__(kaunorpi_read_case) same_read_case;
+__typeof__(kaunorpi_write_case) same_write_case;
 
 /* A refusal; number 0 is none. */
 struct fault {

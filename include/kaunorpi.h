@@ -50,6 +50,7 @@
  *   11  a line of a case file breaks the digit rules or lacks its line feed. position: the line, from 1
  *   12  a frame of unknown kind, in the wrong order, of wrong length or index, or missing. position: the line
  *   13  a place number that is not below the place count
+ *   14  a room that is shorter than what is to be written there
  * position is 0 where nothing else is said. Of several refusals the lowest number is given, and of one number
  * the lowest position, the initial marking before a list before a target. A case file (kaunorpi_read_case) is
  * different: the first faulty line decides, on it 11 and 12 come before 1, 3, 4 and 5, and position is that line.
@@ -65,7 +66,7 @@ extern "C" {
 #endif
 
 /* Another number with every change of a function, a struct, an answer or a refusal. */
-#define KAUNORPI_VERSION 1
+#define KAUNORPI_VERSION 2
 
 #define KAUNORPI_ANSWERED 0x81
 #define KAUNORPI_REFUSED 0x82
@@ -134,6 +135,13 @@ typedef struct kaunorpi_case {
     size_t transitions;
     size_t letters;
 } kaunorpi_case;
+
+typedef struct kaunorpi_length {
+    uint8_t kind;
+    uint8_t number;
+    size_t position;
+    size_t length;
+} kaunorpi_length;
 
 /* ---- Replay: can the letters of the word happen in this order? Refusals 1 2 3 4 5.
  * 0x81 0: all of them. position: how many. room: the tokens of each place afterwards.
@@ -281,6 +289,29 @@ kaunorpi_answer kaunorpi_complement_net(KAUNORPI_NET, const uint16_t *initial, s
 kaunorpi_case kaunorpi_read_case(const uint8_t *file, size_t file_len, uint16_t *caps, size_t caps_len,
                                  uint16_t *initial, size_t initial_len, uint8_t *pre, size_t pre_len, uint8_t *post,
                                  size_t post_len, uint8_t *word, size_t word_len);
+
+/* ---- A case file written back: a net, its initial marking and a word, into the bytes of a file. Each net, marking and
+ * word has one file: kaunorpi_read_case reads from those bytes what was written, and of a file that it accepts the same
+ * bytes are written again. Whether the word fires is not looked at. */
+
+/* the longest file there is: 64 places, 64 transitions and 65,535 letters, line feeds included */
+#define KAUNORPI_FILE_LIMIT 151371
+
+/* How many bytes the file has, so that a room of that length can be lent. Refusals 1 2 3 4 5.
+ * 0x81 0: length.
+ * Contract: crates/c_write/src/lib.rt. Theorems: told-length, told-few, told-is-written, short-refused in
+ * crates/file_write/proofs/Meaning.antt. */
+kaunorpi_length kaunorpi_case_length(KAUNORPI_NET, const uint16_t *initial, size_t initial_len, const uint8_t *word,
+                                     size_t word_len);
+/* Writes the file to the front of room. A room of as many bytes as kaunorpi_case_length tells is long enough, one of
+ * KAUNORPI_FILE_LIMIT for every file; a shorter one is refusal 14, given last. Refusals 1 2 3 4 5 14.
+ * 0x81 0: length: the file is the first `length` bytes of room; what lies behind them is as it was. No zero byte is put at
+ * its end.
+ * Contract: crates/c_write/src/lib.rt. Theorems: written-length, written-file, written-rest in
+ * crates/file_write/proofs/Meaning.antt; read-written, write-read, written-apart in
+ * crates/file_round/proofs/Meaning.antt. */
+kaunorpi_length kaunorpi_write_case(KAUNORPI_NET, const uint16_t *initial, size_t initial_len, const uint8_t *word,
+                                    size_t word_len, uint8_t *room, size_t room_len);
 
 #ifdef __cplusplus
 }

@@ -24,6 +24,8 @@ SIDE(cover_target)
 SIDE(complement_places)
 SIDE(complement_net)
 SIDE(read_case)
+SIDE(case_length)
+SIDE(write_case)
 
 /* A lent piece as a pointer and a length; the net; the three lists of a summary. */
 #define LENT(piece) on_side(side, &in.piece), in.piece.count
@@ -95,6 +97,15 @@ static struct given ask_read_case(int side) {
     return (struct given){a.kind, a.number, {a.position, a.places, a.transitions, a.letters}, a.number};
 }
 
+/* A question whose answer has a file's length. */
+#define WRITES(question, ...) \
+    static struct given ask_##question(int side) { \
+        kaunorpi_length a = side_##question[side](NET, LENT(initial), __VA_ARGS__); \
+        return (struct given){a.kind, a.number, {a.position, a.length}, a.number}; \
+    }
+WRITES(case_length, LENT(word))
+WRITES(write_case, LENT(word), LENT(room))
+
 /* The faults of what is lent. */
 #define F(fault) ((uint64_t)1 << (fault))
 #define OF_NET (F(BAD_PLACES) | F(BAD_TRANSITIONS) | F(PRE_LENGTH) | F(POST_LENGTH) | F(CAPS_LENGTH))
@@ -156,5 +167,9 @@ const struct question questions[] = {
      OF_NET | OF_MARKING | OF_NET_ROOMS | F(MANY_PLACES)},
     {"read_case", make_case, ask_read_case, B(0), 0, B(2), B(1) | B(3) | B(4) | B(5) | B(11) | B(12),
      OF_NET_ROOMS | OF_ROOM | OF_FILE_NUMBERS | OF_LINES | OF_FRAMES},
+    {"case_length", make_case_length, ask_case_length, B(0), 0, B(1) | B(2) | B(3) | B(4) | B(5), B(3) | B(5),
+     OF_NET | OF_MARKING | OF_WORD},
+    {"write_case", make_write_case, ask_write_case, B(0), 0, B(1) | B(2) | B(3) | B(4) | B(5) | B(14), B(3) | B(5),
+     OF_NET | OF_MARKING | OF_WORD | F(SHORT_ROOM)},
 };
 const size_t question_count = sizeof questions / sizeof questions[0];

@@ -18,7 +18,7 @@
 static unsigned long came[32][2][32][2];
 
 /* How often a refusal was given to an input drawn for another as well: by question and the two numbers. */
-static unsigned long before[32][14][14];
+static unsigned long before[32][REFUSALS][REFUSALS];
 
 /* Prints an answer. */
 static void print_given(const char *side, const struct given *g) {
@@ -37,7 +37,7 @@ static int same_given(const struct given *a, const struct given *b) {
 static void count(size_t q, size_t input, const struct given *g) {
     int refused = g->kind == KAUNORPI_REFUSED;
     came[q][refused][g->class & 31][g->field[0] > 0]++;
-    for (int other = 1; refused && other < 14; other++)
+    for (int other = 1; refused && other < REFUSALS; other++)
         before[q][g->number][other] += wants(other) != 0;
     count_edges(questions[q].name, g);
     count_faults(q, input, g);
@@ -88,8 +88,8 @@ static int comes_before(size_t q, int i, int j) {
 static int never_both(size_t q) {
     uint32_t refusals = questions[q].refusals | questions[q].refusals_further;
     int lacks = 0;
-    for (int i = 1; i < 14; i++)
-        for (int j = 1; j < 14; j++)
+    for (int i = 1; i < REFUSALS; i++)
+        for (int j = 1; j < REFUSALS; j++)
             if ((refusals >> i & refusals >> j & 1u) != 0 && comes_before(q, i, j) && before[q][i][j] == 0) {
                 printf("compare: %s never gave refusal %d to an input drawn for %d too\n", questions[q].name, i, j);
                 lacks = 1;
@@ -125,8 +125,8 @@ static void print_counts(size_t q) {
                 if (came[q][refused][k][further] > 0)
                     printf("%s %s %d %s %lu\n", questions[q].name, refused ? "82" : "81", k, further ? "+" : "0",
                            came[q][refused][k][further]);
-    for (int i = 1; i < 14; i++)
-        for (int j = 1; j < 14; j++)
+    for (int i = 1; i < REFUSALS; i++)
+        for (int j = 1; j < REFUSALS; j++)
             if (comes_before(q, i, j) && before[q][i][j] > 0)
                 printf("%s 82 %d though drawn for %d too: %lu\n", questions[q].name, i, j, before[q][i][j]);
 }

@@ -2,9 +2,9 @@
  *
  * An input is drawn from a seed, its question and its number alone (random.c), with the faults that plan.c plans for it,
  * into lent memory with guard bytes around each piece (lend.c). What is drawn is up to net.c, word.c, complement.c,
- * summary.c, weighting.c, lists.c, file.c and damage.c; ask.c puts the question to both sides; compare.c compares, counts
- * what came, and reports; faults.c and lines.c find which lent thing a refusal comes from, decided.c counts those, and
- * edges.c knows the edges that must come.
+ * summary.c, weighting.c, lists.c, file.c, damage.c and write.c; ask.c puts the question to both sides; compare.c compares,
+ * counts what came, and reports; faults.c and lines.c find which lent thing a refusal comes from, decided.c counts those,
+ * and edges.c knows the edges that must come.
  */
 #ifndef COMPARE_H
 #define COMPARE_H
@@ -51,6 +51,9 @@ void print_input(void);
 
 /* ---- plan.c, faults.c, lines.c */
 
+/* Refusals are numbered from 1 up to, and without, this. */
+enum { REFUSALS = 15 };
+
 /* Every fault that a lent thing can have, by the refusal that it gives; the table in faults.c has their names. */
 enum fault {
     /* 1 */
@@ -62,9 +65,9 @@ enum fault {
     BAD_START, BAD_END, NOT_THE_NETS, NOT_THE_OTHERS,
     /* 3 */
     INITIAL_FULL, INITIAL_OVER, LIST_FULL, LIST_OVER, TARGET_FULL, FILE_FULL, FILE_OVER,
-    /* 4 to 10, and 13 */
+    /* 4 to 10, 13 and 14 */
     LONG_WORD, LONG_FILE, BAD_LETTER, FILE_LETTER, BAD_FIRST, BAD_SECOND, LONG_TOGETHER, ALL_ZERO, NO_MARKING,
-    MANY_MARKINGS, MANY_PLACES, BAD_PLACE,
+    MANY_MARKINGS, MANY_PLACES, BAD_PLACE, SHORT_ROOM,
     /* 11 */
     LINE_FEED, LINE_EMPTY, LINE_ODD, LINE_LONG, LINE_DIGIT,
     /* 12 */
@@ -112,6 +115,10 @@ uint16_t within(size_t p, uint16_t tokens);
 
 /* ---- word.c */
 void draw_word(uint8_t *word, size_t length, size_t from);
+void lend_word(size_t length);
+
+/* ---- write.c */
+size_t file_bytes(void);
 
 /* ---- file.c, damage.c */
 enum { MOST_LINES = 1200, MOST_FRAME = 140, MOST_BYTES = 1 << 18 };
@@ -145,6 +152,8 @@ void make_cover_target(void);
 void make_complement_places(void);
 void make_complement(void);
 void make_case(void);
+void make_case_length(void);
+void make_write_case(void);
 
 /* ---- ask.c */
 

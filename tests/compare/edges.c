@@ -48,6 +48,14 @@ static int full_complement(const struct given *g) { return answered(g, 0) && g->
 static int complement_one_more(const struct given *g) { return refused(g, 10) && in.initial2.count == 65; }
 static int letter_after_limit(const struct given *g) { return refused(g, 4) && wants(5); }
 static int longest_file(const struct given *g) { return answered(g, 0) && g->field[3] == 65535; }
+static int all_letters(const struct given *g) { return answered(g, 0) && in.word.count == 65535; }
+static int no_letter(const struct given *g) { return answered(g, 0) && in.word.count == 0; }
+static int full_line(const struct given *g) { return answered(g, 0) && in.word.count > 0 && in.word.count % 64 == 0; }
+static int one_past_line(const struct given *g) { return answered(g, 0) && in.word.count > 64 && in.word.count % 64 == 1; }
+static int exact_room(const struct given *g) { return answered(g, 0) && in.room.count == file_bytes(); }
+static int longer_room(const struct given *g) { return answered(g, 0) && in.room.count == file_bytes() + 1; }
+static int shorter_room(const struct given *g) { return refused(g, 14) && in.room.count + 1 == file_bytes(); }
+static int no_room(const struct given *g) { return refused(g, 14) && in.room.count == 0; }
 
 /* A question's edge, and how often it came. */
 static struct edge {
@@ -80,6 +88,17 @@ static struct edge {
     {"complement_net", "65 places with the complement's", complement_one_more, 0},
     {"read_case", "65,535 letters", longest_file, 0},
     {"read_case", "a wrong letter on the line of letter 65,536", letter_after_limit, 0},
+    {"case_length", "65,535 letters", all_letters, 0},
+    {"write_case", "64 places", all_places, 0},
+    {"write_case", "64 transitions", all_transitions, 0},
+    {"write_case", "65,535 letters", all_letters, 0},
+    {"write_case", "no letter", no_letter, 0},
+    {"write_case", "a last line of 64 letters", full_line, 0},
+    {"write_case", "a last line of one letter", one_past_line, 0},
+    {"write_case", "a room exactly long enough", exact_room, 0},
+    {"write_case", "a room one longer", longer_room, 0},
+    {"write_case", "a room one short", shorter_room, 0},
+    {"write_case", "no room", no_room, 0},
 };
 
 /* Counts the edges that this input and answer meet. */

@@ -81,6 +81,7 @@ static int bad_second(void) { return bad_summary(1); }
 static int long_together(void) { return (uint64_t)in.letters[0] + in.letters[1] > 65535; }
 static int no_marking(void) { return in.list.count == 0; }
 static int many_markings(void) { return in.list.count > 4096 * in.places; }
+static int short_room(void) { return in.room.count < file_bytes(); }
 static int bad_place(void) { return in.place >= in.places; }
 
 /* Refusals that have one source only: the refusal itself says that it is there. */
@@ -138,6 +139,7 @@ const struct fault_kind faults[FAULTS] = {
     [MANY_MARKINGS] = {9, "a list of too many markings", 0, many_markings},
     [MANY_PLACES] = {10, "the complement's places", 0, is_the_only},
     [BAD_PLACE] = {13, "the place number", 0, bad_place},
+    [SHORT_ROOM] = {14, "a room shorter than the file", 0, short_room},
     [LINE_FEED] = {11, "a line without its line feed", 0, line_feed},
     [LINE_EMPTY] = {11, "a line without digits", 0, line_empty},
     [LINE_ODD] = {11, "an odd number of digits", 0, line_odd},

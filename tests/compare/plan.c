@@ -18,7 +18,7 @@ static enum fault draw_fault(uint64_t can, int refusal) {
 /* Plans a fault of one of these refusals, each as likely; long words, files and lists are rarer, since they are slow. */
 static void plan_one(uint32_t refusals, uint64_t can) {
     for (;;) {
-        int refusal = 1 + (int)below(13), is_slow;
+        int refusal = 1 + (int)below(REFUSALS - 1), is_slow;
         enum fault fault = draw_fault(can, refusal);
         if ((refusals >> refusal & 1u) == 0)
             continue;
@@ -35,7 +35,7 @@ static void plan_one(uint32_t refusals, uint64_t can) {
 static void plan_several(uint32_t refusals, uint64_t can, size_t count) {
     for (; count > 0; count--)
         plan_one(refusals, can);
-    for (int refusal = 1; refusal < 14; refusal++)
+    for (int refusal = 1; refusal < REFUSALS; refusal++)
         if (wants(refusal) && chance(2))
             broken |= (uint64_t)1 << draw_fault(can, refusal);
 }

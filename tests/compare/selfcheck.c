@@ -5,10 +5,12 @@
 #include <stdio.h>
 #include <string.h>
 
+enum { NAMED = 8 };
+
 /* The rules by number, what is broken, and where it must show. */
 static const struct {
     int number;
-    const char *what, *questions[6];
+    const char *what, *questions[NAMED];
 } rules[] = {
     {1, "002's capacity rule: tokens plus Post", {"replay_word"}},
     {2, "over is named before short", {"replay_word"}},
@@ -42,9 +44,11 @@ static const struct {
     {30, "a stretch past its word ends with it", {"replay_stretch", "summary_stretch"}},
     {31, "a stretch that ends before its start is empty", {"replay_stretch", "summary_stretch"}},
     {32, "65,535 tokens are allowed where there is no capacity",
-     {"replay_word", "ask_summary", "place_bound", "closed_list", "cover_list", "complement_net"}},
+     {"replay_word", "ask_summary", "place_bound", "closed_list", "cover_list", "complement_net", "case_length",
+      "write_case"}},
     {33, "tokens above capacity are allowed",
-     {"replay_word", "ask_summary", "place_bound", "closed_list", "cover_list", "complement_net"}},
+     {"replay_word", "ask_summary", "place_bound", "closed_list", "cover_list", "complement_net", "case_length",
+      "write_case"}},
     {34, "a list of no marking is allowed", {"closed_list", "cover_list"}},
     {35, "a list of 4,097 markings is allowed", {"closed_list", "cover_list"}},
     {36, "the second summary is not looked at", {"join_summaries"}},
@@ -58,11 +62,19 @@ static const struct {
     {43, "two summaries of different counts are joined", {"join_summaries"}},
     {44, "the index of a frame 04 is not looked at", {"read_case"}},
     {45, "the last line may lack its line feed", {"read_case"}},
+    {46, "the length forgets the line feeds", {"case_length"}},
+    {47, "numbers have the low byte first", {"write_case"}},
+    {48, "the last, short line of letters is left out", {"case_length", "write_case"}},
+    {49, "the empty word has a line of letters", {"case_length", "write_case"}},
+    {50, "Pre and Post are exchanged", {"write_case"}},
+    {51, "14 for a room of exactly the length", {"write_case"}},
+    {52, "a byte past the file's end is written", {"write_case"}},
+    {53, "14 writes the room", {"write_case"}},
 };
 
 /* Must the rule show in this question? */
 static int is_named(size_t k, const char *question) {
-    for (size_t i = 0; i < 6 && rules[k].questions[i] != NULL; i++)
+    for (size_t i = 0; i < NAMED && rules[k].questions[i] != NULL; i++)
         if (strcmp(rules[k].questions[i], question) == 0)
             return 1;
     return 0;

@@ -70,7 +70,7 @@ static void bend_for_long_words(void) {
 }
 
 /* Lends a word and draws its letters; the stretch is all of it. */
-static void lend_word(size_t length) {
+void lend_word(size_t length) {
     uint8_t *word = lend(&in.word, 1, length);
     in.end = in.word.count;
     draw_word(word, in.word.count, 0);

@@ -9,26 +9,14 @@ transitions letters; 130 refusal line. Rooms hold 7s at entry.
 """
 
 import sys
-from itertools import groupby
 from pathlib import Path
 
 sys.path.insert(0, str(Path(__file__).resolve().parents[1] / "cases"))
 from make import WHOLE, Refused, big, judge, text
 
-from shared.calls import call, group, heading
+from shared.calls import call, group, heading, quoted
 
 SIZES = {"caps": 64, "initial": 64, "pre": 4096, "post": 4096, "word": 65535}
-
-
-def quoted(data):
-    """The bytes of a file as a table has them: in quotes, and lines that repeat once, with their number."""
-    runs = [(line, len(list(same))) for line, same in groupby(data.decode("ascii").splitlines(keepends=True))]
-    parts = []
-    for once, some in groupby(runs, key=lambda run: run[1] == 1):
-        parts += [("".join(line for line, _ in some), 1)] if once else list(some)
-    assert not set(b' "\\\r') & set(data), "a table's text has no such byte"
-    form = lambda part: '"' + part.replace("\n", "\\n") + '"'
-    return ",".join(form(part) + (f"*{times}" if times > 1 else "") for part, times in parts)
 
 
 def flat(rows):

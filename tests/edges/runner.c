@@ -35,6 +35,7 @@ static void keep_summary(kaunorpi_summary a) { KEEP(a.kind, a.number, a.position
 static void keep_bound(kaunorpi_bound a) { KEEP(a.kind, a.number, a.position, a.bound); }
 static void keep_list(kaunorpi_list a) { KEEP(a.kind, a.number, a.position, a.transition); }
 static void keep_places(kaunorpi_places a) { KEEP(a.kind, a.number, a.position, a.places); }
+static void keep_length(kaunorpi_length a) { KEEP(a.kind, a.number, a.position, a.length); }
 static void keep_case(kaunorpi_case a) { KEEP(a.kind, a.number, a.position, a.places, a.transitions, a.letters); }
 
 typedef uint8_t u8;
@@ -88,6 +89,8 @@ static void ask(void) {
              ROOM(u16, initial2))
     QUESTION(read_case, case, LENT(u8, file), ROOM(u16, caps), ROOM(u16, initial), ROOM(u8, pre), ROOM(u8, post),
              ROOM(u8, word))
+    QUESTION(case_length, length, NET, LENT(u16, initial), LENT(u8, word))
+    QUESTION(write_case, length, NET, LENT(u16, initial), LENT(u8, word), ROOM(u8, room))
     malformed("no such question", call.question);
 }
 

@@ -10,5 +10,6 @@ typedef struct _IO_FILE FILE;
 extern FILE *stdin;
 FILE *fopen(const char *name, const char *mode);
 char *fgets(char *line, int most, FILE *file);
+size_t fread(void *to, size_t size, size_t count, FILE *file);
 int fclose(FILE *file);
 #endif

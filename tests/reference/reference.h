@@ -37,6 +37,8 @@ __typeof__(kaunorpi_cover_target) reference_cover_target;
 __typeof__(kaunorpi_complement_places) reference_complement_places;
 __typeof__(kaunorpi_complement_net) reference_complement_net;
 __typeof__(kaunorpi_read_case) reference_read_case;
+__typeof__(kaunorpi_case_length) reference_case_length;
+__typeof__(kaunorpi_write_case) reference_write_case;
 
 /* ---- What the files of the reference share (net.c). */
 

@@ -1,6 +1,7 @@
-/* The library from C, with kaunorpi.h alone: a case file is read and replayed, a word is summed up, two summaries are
- * joined and one is asked, a list of markings is judged. What is expected is document 01's case and its samples, worked
- * out by hand there. Prints nothing and ends with 0 where every answer is right, else prints the lines that are not. */
+/* The library from C, with kaunorpi.h alone: a case file is read, written back and replayed, a word is summed up, two
+ * summaries are joined and one is asked, a list of markings is judged. What is expected is document 01's case and its
+ * samples, worked out by hand there. Prints nothing and ends with 0 where every answer is right, else prints the lines that
+ * are not. */
 #include <stdio.h>
 #include <string.h>
 
@@ -54,6 +55,20 @@ static void read_the_case(void) {
     EXPECT(caps[0] == KAUNORPI_NONE && caps[2] == 5 && caps[3] == 0 && initial[0] == 1 && initial[1] == 0);
     EXPECT(pre[0] == 1 && post[1] == 1 && pre[4] == 1 && post[5] == 2 && pre[8] == 3 && pre[9] == 0);
     EXPECT(word[0] == 0 && word[1] == 1 && word[4] == 2 && word[5] == 7);
+}
+
+/* The net and the word that were read, as a file again. */
+static void write_it_back(void) {
+    uint8_t room[sizeof case_file];
+    size_t bytes = sizeof case_file - 1;
+    memset(room, 7, sizeof room);
+    kaunorpi_length r = kaunorpi_case_length(NET, initial, 3, word, 5);
+    EXPECT(r.kind == KAUNORPI_ANSWERED && r.number == 0 && r.position == 0 && r.length == bytes);
+    r = kaunorpi_write_case(NET, initial, 3, word, 5, room, bytes - 1);
+    EXPECT(r.kind == KAUNORPI_REFUSED && r.number == 14 && r.position == 0 && r.length == 0 && room[0] == 7);
+    r = kaunorpi_write_case(NET, initial, 3, word, 5, room, sizeof room);
+    EXPECT(r.kind == KAUNORPI_ANSWERED && r.number == 0 && r.position == 0 && r.length == bytes);
+    EXPECT(memcmp(room, case_file, bytes) == 0 && room[bytes] == 7);
 }
 
 static void replay(void) {
@@ -170,6 +185,7 @@ static void lists_and_weightings(void) {
 
 int main(void) {
     read_the_case();
+    write_it_back();
     replay();
     summaries();
     lists_and_weightings();

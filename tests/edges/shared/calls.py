@@ -1,6 +1,7 @@
 """What the scripts of tests/edges share: how a call and what must come of it stand in a table. call.c has the form."""
 
 import sys
+from itertools import groupby
 from pathlib import Path
 
 NONE = 65535  # "65,535 means none"
@@ -10,7 +11,7 @@ HUGE = 2**64 - 1  # the largest count, position or place number that can be lent
 FIELDS = {
     **dict.fromkeys(["ask_summary", "complement_net"], 3),
     **dict.fromkeys(["place_weighting", "transition_weighting", "siphon_set", "trap_set"], 3),
-    **dict.fromkeys(["replay_word", "replay_stretch", "place_bound", "complement_places"], 4),
+    **dict.fromkeys(["replay_word", "replay_stretch", "place_bound", "complement_places", "case_length", "write_case"], 4),
     **dict.fromkeys(["closed_list", "closed_target", "closed_stall", "cover_list", "cover_target"], 4),
     **dict.fromkeys(["empty_summary", "summary_word", "summary_stretch", "join_summaries"], 5),
     "read_case": 6,
@@ -67,6 +68,17 @@ def written(entries):
         parts.append(form)
         k += n
     return ",".join(parts)
+
+
+def quoted(data):
+    """The bytes of a file as a table has them: in quotes, and lines that repeat once, with their number."""
+    runs = [(line, len(list(same))) for line, same in groupby(data.decode("ascii").splitlines(keepends=True))]
+    parts = []
+    for once, some in groupby(runs, key=lambda run: run[1] == 1):
+        parts += [("".join(line for line, _ in some), 1)] if once else list(some)
+    assert not set(b' "\\\r') & set(data), "a table's text has no such byte"
+    form = lambda part: '"' + part.replace("\n", "\\n") + '"'
+    return ",".join(form(part) + (f"*{times}" if times > 1 else "") for part, times in parts)
 
 
 def value(lent):

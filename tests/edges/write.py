@@ -1,0 +1,138 @@
+#!/usr/bin/env python3
+"""The edges of writing a case file from C: the table write.calls is this script's output.
+
+    python3 tests/edges/write.py > tests/edges/write.calls
+
+The lines of a file are written by tests/cases/make.py, from document 01 alone; the refusals are spelled out here. Of each case
+.1 asks how long the file is, the others write it into rooms of several lengths, which hold 7s at entry. Answers: 129 0 0 length;
+130 refusal position. tests/round writes every accepted file of tests/cases and examples back.
+"""
+
+import sys
+from pathlib import Path
+
+sys.path.insert(0, str(Path(__file__).resolve().parents[1] / "cases"))
+from make import lines_of, text
+
+from shared.calls import HUGE, NONE, call, group, heading, net as lent_net, quoted
+
+
+def refusal(P, T, pre, post, caps, initial, word):
+    if P not in range(1, 65) or T not in range(1, 65):
+        return 1, 0
+    if len(pre) != P * T or len(post) != P * T or len(caps) != P or len(initial) != P:
+        return 2, 0
+    bad = [p for p in range(P) if initial[p] == 65535 or (caps[p] != NONE and initial[p] > caps[p])]
+    if bad:
+        return 3, min(bad)
+    if len(word) > 65535:
+        return 4, 0
+    wrong = [k for k, letter in enumerate(word) if letter >= T]
+    return (5, min(wrong)) if wrong else None
+
+
+def file_of(P, T, pre, post, caps, initial, word):
+    rows = lambda flat: [flat[t * P : (t + 1) * P] for t in range(T)]
+    return text(lines_of(P, T, caps, initial, rows(pre), rows(post), word))
+
+
+def left(file, room):
+    """The file at the front of a room of 7s, as a table has it."""
+    return quoted(file) + (f",7*{room - len(file)}" if room > len(file) else "")
+
+
+def ask(case, edge, P, T, pre, post, caps, initial, word, rooms):
+    """How long the file is, and the file into rooms of these lengths."""
+    heading(edge)
+    asked = P, T, pre, post, caps, initial, word
+    lent = {**lent_net(P, T, pre, post, caps), "initial": initial, "word": word}
+    refused = refusal(*asked)
+    file = b"" if refused else file_of(*asked)
+    call(f"{case}.1", "case_length", lent, [130, *refused] if refused else [129, 0, 0, len(file)])
+    for k, room in enumerate(rooms, 2):
+        short = refused or ((14, 0) if room < len(file) else None)
+        answer = [130, *short] if short else [129, 0, 0, len(file)]
+        found = [7] * room
+        call(f"{case}.{k}", "write_case", {**lent, "room": found}, answer, {"room": found if short else left(file, room)})
+
+
+def write(case, edge, *asked):
+    """A file, into rooms exactly long enough, one longer, one short, and empty."""
+    exact = len(file_of(*asked))
+    ask(case, edge, *asked, [exact, exact + 1, exact - 1, 0])
+
+
+def refuse(case, edge, *asked, room=200):
+    """A refusal, with a room that would do, and with one that would not."""
+    assert refusal(*asked), edge
+    ask(case, edge, *asked, [room, 0])
+
+
+# 01's case without its word
+SAMPLE = 3, 3, [1, 0, 0, 0, 1, 0, 0, 0, 3], [0, 1, 0, 1, 0, 2, 0, 0, 0], [NONE, NONE, 5], [1, 0, 0]
+ONE = 1, 1, [0], [1], [NONE], [0]
+
+
+def words():
+    group("01's whole case; then words of the lengths at which lines begin and end")
+    write(1, "the whole case", *SAMPLE, [0, 1, 0, 1, 2])
+    ask(2, "a room far longer, and one for the longest file", *SAMPLE, [0, 1, 0, 1, 2], [300, 151371])
+    write(3, "the empty word: no line of letters", *SAMPLE, [])
+    for case, n in [(4, 1), (5, 63), (6, 64), (7, 65), (8, 127), (9, 128), (10, 129)]:
+        write(case, f"letters: {n}", *SAMPLE, ([2, 0, 1, 0, 1] * 26)[:n])
+    write(11, "65,535 letters: the last line has 63", *ONE, [0] * 65535)
+    write(12, "65,472 letters: the last line has 64", *ONE, [0] * 65472)
+
+
+def counts():
+    group("counts")
+    write(21, "one place, one transition, no letter: the shortest file", *ONE, [])
+    write(22, "64 places: rows of 260 digits", 64, 1, [0] * 63 + [9], [8] + [0] * 63, [NONE] * 64, [3] * 64, [0])
+    write(23, "64 transitions", 1, 64, [0] * 63 + [9], [8] + [0] * 63, [NONE], [3], [63, 0, 62])
+    write(24, "the longest file: 64 places, 64 transitions, 65,535 letters", 64, 64, [1] * 4096, [255] * 4096, [NONE] * 64, [65534] * 64, [63] * 65535)
+
+
+def numbers():
+    group("digits: capacities and tokens, the high byte first; weights; letters")
+    caps, tokens = [0, 9, 10, 255, 256, 4660, 43981, 65280, 65534, NONE], [0, 9, 10, 160, 256, 4660, 43981, 255, 65534, 65534]
+    weights = [0, 1, 9, 10, 15, 16, 159, 160, 171, 255]
+    write(31, "each digit, in both halves of a byte", 10, 1, weights, weights[::-1], caps, tokens, [0])
+    write(32, "Pre before Post", 2, 2, [1, 2, 3, 4], [5, 6, 7, 8], [NONE, 9], [0, 9], [1, 0])
+    write(33, "tokens exactly at capacity 0", 1, 1, [0], [0], [0], [0], [])
+
+
+def one_refusal():
+    group("each refusal alone, and with 14")
+    for k, (edge, P, T) in enumerate([("no place", 0, 3), ("65 places", 65, 3), ("as many places as can be told", HUGE, 3),
+                                      ("no transition", 3, 0), ("65 transitions", 3, 65), ("as many transitions", 3, HUGE)]):
+        refuse(41 + k, f"1: {edge}", P, T, *SAMPLE[2:], [0])
+    for k, name in enumerate(["Pre", "Post", "capacities", "initial marking"]):
+        lent = list(SAMPLE)
+        lent[2 + k] = SAMPLE[2 + k][:-1]
+        refuse(51 + 2 * k, f"2: {name} one too short", *lent, [0])
+        lent[2 + k] = SAMPLE[2 + k] + [0]
+        refuse(52 + 2 * k, f"2: {name} one too long", *lent, [0])
+    for k, (edge, tokens) in enumerate([("65,535 tokens", [65535, 0, 0]), ("above capacity", [1, 0, 6]), ("both, the lower place", [1, 65535, 6])]):
+        refuse(61 + k, f"3: {edge}", *SAMPLE[:5], tokens, [0])
+    refuse(64, "4: 65,536 letters", *ONE, [0] * 65536, room=151371)
+    for k, (edge, word) in enumerate([("the first letter", [3, 0]), ("the last letter", [0, 1, 255]), ("two of them", [0, 3, 4])]):
+        refuse(65 + k, f"5: {edge}", *SAMPLE, word)
+    refuse(68, "5: letter 65,534", *ONE, [0] * 65534 + [1], room=151371)
+
+
+def two_refusals():
+    group("two refusals at once, and with 14: the lower number")
+    refuse(71, "1 and 2", 0, 3, *SAMPLE[2:5], [1, 0], [0])
+    refuse(72, "1 and 5", 3, 65, *SAMPLE[2:], [70])
+    refuse(73, "2 and 3", *SAMPLE[:5], [65535, 0, 0, 0], [0])
+    refuse(74, "2 and 5", *SAMPLE[:2], SAMPLE[2][1:], *SAMPLE[3:], [3])
+    refuse(75, "3 and 4", *ONE[:5], [65535], [0] * 65536, room=151371)
+    refuse(76, "3 and 5", *SAMPLE[:5], [1, 0, 6], [0, 3])
+    refuse(77, "4 and 5", *ONE, [0] * 65535 + [1], room=151371)
+
+
+words()
+counts()
+numbers()
+one_refusal()
+two_refusals()

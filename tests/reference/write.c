@@ -1,0 +1,130 @@
+/* A case file written back: the frames as document 01's "Case file lines" gives them, one after another, first into bytes of
+ * its own that hold the longest file, from which the room is filled once the length is known to fit. */
+#include "reference.h"
+
+/* The file so far. */
+struct writing {
+    uint8_t text[151371];
+    size_t length, lines;
+};
+
+/* A byte as two digits. */
+static void write_byte(struct writing *w, size_t byte) {
+    w->text[w->length++] = (uint8_t)"0123456789ABCDEF"[byte / 16];
+    w->text[w->length++] = (uint8_t)"0123456789ABCDEF"[byte % 16];
+}
+
+/* "numbers of two .. bytes have the high byte first" */
+static void write_number(struct writing *w, size_t number) {
+    write_byte(w, RULE(47, number / 256, number % 256));
+    write_byte(w, RULE(47, number % 256, number / 256));
+}
+
+/* "then a line feed" */
+static void end_line(struct writing *w) {
+    w->text[w->length++] = '\n';
+    w->lines++;
+}
+
+/* "02 with P capacities of two bytes, 03 with P tokens of two bytes" */
+static void write_numbers(struct writing *w, int kind, const uint16_t *numbers, size_t places) {
+    write_byte(w, (size_t)kind);
+    for (size_t p = 0; p < places; p++)
+        write_number(w, numbers[p]);
+    end_line(w);
+}
+
+/* "04 t, P Pre bytes, P Post bytes" */
+static void write_transition(struct writing *w, const struct net *net, size_t t) {
+    write_byte(w, 4);
+    write_byte(w, t);
+    for (size_t p = 0; p < net->places; p++)
+        write_byte(w, (size_t)RULE(50, reference_pre(net, p, t), reference_post(net, p, t)));
+    for (size_t p = 0; p < net->places; p++)
+        write_byte(w, (size_t)RULE(50, reference_post(net, p, t), reference_pre(net, p, t)));
+    end_line(w);
+}
+
+/* "05 with 1 to 64 letters of a byte; none or more; all but the last hold 64": a letter at a time; a frame begins before each
+ * 64th, and ends after 64 or with the word. */
+static void write_letters(struct writing *w, const uint8_t *word, size_t letters) {
+    size_t written = RULE(48, letters, letters / 64 * 64);
+    for (size_t i = 0; i < written; i++) {
+        if (i % 64 == 0)
+            write_byte(w, 5);
+        write_byte(w, word[i]);
+        if (i % 64 == 63 || i + 1 == written)
+            end_line(w);
+    }
+    if (letters == 0 && RULE(49, 0, 1)) {
+        write_byte(w, 5);
+        end_line(w);
+    }
+}
+
+/* The whole file, in the order of the document. */
+static void write_file(struct writing *w, const struct net *net, const uint16_t *initial, const uint8_t *word,
+                       size_t letters) {
+    write_byte(w, 1);
+    write_byte(w, net->places);
+    write_byte(w, net->transitions);
+    end_line(w);
+    write_numbers(w, 2, net->caps, net->places);
+    write_numbers(w, 3, initial, net->places);
+    for (size_t t = 0; t < net->transitions; t++)
+        write_transition(w, net, t);
+    write_letters(w, word, letters);
+}
+
+/* Refusals 1 2 3 4 5, else the file. */
+static kaunorpi_length judge(struct writing *w, const struct net *net, const uint16_t *initial, size_t initial_len,
+                             const uint8_t *word, size_t word_len) {
+    size_t at;
+    if (reference_counts_fault(net))
+        return (kaunorpi_length){KAUNORPI_REFUSED, 1, 0, 0};
+    if (reference_lengths_fault(net) || initial_len != net->places)
+        return (kaunorpi_length){KAUNORPI_REFUSED, 2, 0, 0};
+    at = reference_tokens_fault(net, initial);
+    if (at != NOWHERE)
+        return (kaunorpi_length){KAUNORPI_REFUSED, 3, at, 0};
+    if (word_len > 65535)
+        return (kaunorpi_length){KAUNORPI_REFUSED, 4, 0, 0};
+    at = reference_letters_fault(net, word, 0, word_len);
+    if (at != NOWHERE)
+        return (kaunorpi_length){KAUNORPI_REFUSED, 5, at, 0};
+    write_file(w, net, initial, word, word_len);
+    return (kaunorpi_length){KAUNORPI_ANSWERED, 0, 0, w->length};
+}
+
+/* How long the file is. */
+kaunorpi_length reference_case_length(KAUNORPI_NET, const uint16_t *initial, size_t initial_len, const uint8_t *word,
+                                      size_t word_len) {
+    static struct writing w;
+    struct net net = LENT_NET;
+    kaunorpi_length answer;
+    w.length = w.lines = 0;
+    answer = judge(&w, &net, initial, initial_len, word, word_len);
+    answer.length -= RULE(46, 0, w.lines);
+    return answer;
+}
+
+/* "Refusals: 14, room shorter than the exact length, checked last." "Room past the end isn't touched". */
+kaunorpi_length reference_write_case(KAUNORPI_NET, const uint16_t *initial, size_t initial_len, const uint8_t *word,
+                                     size_t word_len, uint8_t *room, size_t room_len) {
+    static struct writing w;
+    struct net net = LENT_NET;
+    kaunorpi_length answer;
+    size_t written;
+    w.length = w.lines = 0;
+    answer = judge(&w, &net, initial, initial_len, word, word_len);
+    if (answer.kind == KAUNORPI_REFUSED)
+        return answer;
+    if (RULE(51, room_len < w.length, room_len <= w.length))
+        answer = (kaunorpi_length){KAUNORPI_REFUSED, 14, 0, 0};
+    written = answer.kind == KAUNORPI_ANSWERED ? w.length : RULE(53, 0, room_len);
+    for (size_t i = 0; i < written; i++)
+        room[i] = w.text[i];
+    if (RULE(52, 0, written < room_len))
+        room[written] = '\n';
+    return answer;
+}
