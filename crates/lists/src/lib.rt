@@ -170,17 +170,18 @@ fn is_unlike(listed: u16, tokens: u32) -> bool
     listed as u32 != tokens
 }
 
-// Whether two markings are the same, compared from the first place up.
+// Whether two markings are the same, compared from the last place down: neighbours in a list differ
+// mostly in their last places.
 fn same_marking(listed: &[u16], marking: &[u32]) -> bool
     requires { ⌜ length (now listed) ≡ length (now marking) ⌝ }
     ensures { λ r. ⌜ r ≡ alike (now (listed .entry)) (now (marking .entry)) ⌝ }
 {
-    let mut p = 0;
-    while p < marking.len() {
+    let mut p = marking.len();
+    while 0 < p {
+        p -= 1;
         if is_unlike(listed[p], marking[p]) {
             return false;
         }
-        p += 1;
     }
     true
 }
