@@ -1,4 +1,5 @@
 pub mod Fires
+pub mod Lookups
 pub mod Refusals
 pub mod Targets
 pub mod Exactly

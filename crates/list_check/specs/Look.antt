@@ -12,12 +12,17 @@ use Rattle.lists.specs.Pairs.{resultsOf, lookedOf}
 use Rattle.lists.specs.declared.Kind.{Kind}
 use Rattle.lists.specs.declared.Kind.the-variants.{Closed, Cover}
 use Rattle.lists.specs.declared.ListAnswer.{ListAnswer}
+use Rattle.list_index.specs.Index.{Indexed}
 use Rattle.list_check.specs.Fire.{passesAny, firedAny}
 
 -- what is lent: a net, and a list of n whole markings
 pub record Ready (net : Net) (n : ℕ) (list : List ℕ) : Type 0 where
   pub sized : Sized net
   pub long : length list ≡ n * net .places
+
+-- what a lookup needs: the index of a closed list, and nothing for a cover list
+pub record Found (kind : Kind) (P n : ℕ) (list heads links : List ℕ) : Type 0 where
+  pub index : kind ≡ Closed → Indexed P n list heads links
 
 -- t is enabled at the marking l of a closed list, and the list does not hold its result
 abbrev pub unlisted : Net → ℕ → List ℕ → ℕ → List ℕ → Bool

@@ -10,11 +10,13 @@ use refusals::Fault;
 ghost use mathlib.Core.Path.{_≡_};
 ghost use mathlib.Core.Bool.{true, false};
 ghost use Prim.Native.Nat.{_+_, _*_, _<_, _≤_};
-ghost use lib.ListN.{length};
+ghost use lib.ListN.{length, replicate};
+ghost use Rattle.ground.specs.Limits.{listLimit};
 ghost use Rattle.net.specs.Net.{netOf};
 ghost use Rattle.lists.specs.Whole.{count};
+ghost use Rattle.list_index.specs.Index.{bucketCount, Indexed};
 ghost use Rattle.list_check.specs.Fire.{lacks, passesAny, afterAny, firedAny};
-ghost use Rattle.list_check.specs.Look.{Ready, unlisted, uncovered, absent, missing, results, looked};
+ghost use Rattle.list_check.specs.Look.{Ready, Found, unlisted, uncovered, absent, missing, results, looked};
 ghost use Rattle.list_check.specs.Given.{givenFault, listOf, targetOf};
 
 // One place is a number, and less than is taken.
@@ -78,7 +80,7 @@ fn fire_any(
 }
 
 // Whether a transition is enabled at a marking of a closed list with a result that the list does not
-// hold. The result is made once, in the room.
+// hold. The result is made once, in the room, and looked for by the list's index.
 fn is_unlisted(
     places: usize,
     transitions: usize,
@@ -87,6 +89,8 @@ fn is_unlisted(
     caps: &[u16],
     list: &[u16],
     count: usize,
+    heads: &[u16],
+    links: &[u16],
     t: usize,
     listed: &[u16],
     room: &mut [u32],
@@ -94,12 +98,13 @@ fn is_unlisted(
     requires { ⌜ Ready (netOf places transitions (now pre) (now post) (now caps)) count (now list) ⌝ }
     requires { ⌜ (length (now listed) ≡ places) × (length (now room) ≡ places) ⌝ }
     requires { ⌜ t < transitions ⌝ }
+    requires { ⌜ Indexed places count (now list) (now heads) (now links) ⌝ }
     ensures { λ r. ⌜ r ≡ unlisted (netOf places transitions (now (pre .entry)) (now (post .entry)) (now (caps .entry))) count (now (list .entry)) t (now (listed .entry)) ⌝ }
 {
     net::load(listed, room);
     if net::may_fire_at(places, transitions, pre, post, caps, t, room) {
         net::fire_at(places, transitions, pre, post, caps, t, room);
-        return !lists::is_held(Kind::Closed, places, count, list, room);
+        return !list_index::find(places, count, list, heads, links, room);
     }
     false
 }
@@ -138,6 +143,8 @@ fn is_absent(
     caps: &[u16],
     list: &[u16],
     count: usize,
+    heads: &[u16],
+    links: &[u16],
     t: usize,
     listed: &[u16],
     room: &mut [u32],
@@ -145,6 +152,7 @@ fn is_absent(
     requires { ⌜ Ready (netOf places transitions (now pre) (now post) (now caps)) count (now list) ⌝ }
     requires { ⌜ (length (now listed) ≡ places) × (length (now room) ≡ places) ⌝ }
     requires { ⌜ t < transitions ⌝ }
+    requires { ⌜ Found kind places count (now list) (now heads) (now links) ⌝ }
     ensures { λ r. ⌜ r ≡ absent kind (netOf places transitions (now (pre .entry)) (now (post .entry)) (now (caps .entry))) count (now (list .entry)) t (now (listed .entry)) ⌝ }
 {
     match kind {
@@ -156,6 +164,8 @@ fn is_absent(
             caps,
             list,
             count,
+            heads,
+            links,
             t,
             listed,
             room,
@@ -174,11 +184,14 @@ fn is_missing(
     caps: &[u16],
     list: &[u16],
     count: usize,
+    heads: &[u16],
+    links: &[u16],
     k: usize,
     t: usize,
 ) -> bool
     requires { ⌜ Ready (netOf places transitions (now pre) (now post) (now caps)) count (now list) ⌝ }
     requires { ⌜ (k < count) × (t < transitions) ⌝ }
+    requires { ⌜ Found kind places count (now list) (now heads) (now links) ⌝ }
     ensures { λ r. ⌜ r ≡ missing kind (netOf places transitions (now (pre .entry)) (now (post .entry)) (now (caps .entry))) count (now (list .entry)) k t ⌝ }
 {
     let mut room = lists::no_tokens();
@@ -193,6 +206,8 @@ fn is_missing(
         caps,
         list,
         count,
+        heads,
+        links,
         t,
         &list[a..e],
         &mut room[..places],
@@ -209,8 +224,11 @@ fn first_missing(
     caps: &[u16],
     list: &[u16],
     count: usize,
+    heads: &[u16],
+    links: &[u16],
 ) -> ListAnswer
     requires { ⌜ Ready (netOf places transitions (now pre) (now post) (now caps)) count (now list) ⌝ }
+    requires { ⌜ Found kind places count (now list) (now heads) (now links) ⌝ }
     ensures { λ r. ⌜ r ≡ results kind (netOf places transitions (now (pre .entry)) (now (post .entry)) (now (caps .entry))) count (now (list .entry)) ⌝ }
 {
     let mut k = 0;
@@ -227,6 +245,8 @@ fn first_missing(
                 caps,
                 list,
                 count,
+                heads,
+                links,
                 k,
                 t,
             ) {
@@ -243,6 +263,58 @@ fn first_missing(
     }
 }
 
+// The index of a closed list; a cover list is compared by order and has none.
+fn fill_index(
+    kind: Kind,
+    places: usize,
+    count: usize,
+    list: &[u16],
+    heads: &mut [u16],
+    links: &mut [u16],
+)
+    requires { ⌜ (length (now list) ≡ count * places) × (count ≤ listLimit) ⌝ }
+    requires { ⌜ now heads ≡ replicate bucketCount 0 ⌝ }
+    requires { ⌜ length (now links) ≡ listLimit ⌝ }
+    ensures { λ r. ⌜ Found kind places count (now (list .entry)) (now (heads .exit)) (now (links .exit)) ⌝ }
+{
+    match kind {
+        Kind::Closed => list_index::make_index(places, count, list, heads, links),
+        Kind::Cover => {}
+    }
+}
+
+// The same, with an index of its own.
+fn look_up(
+    kind: Kind,
+    places: usize,
+    transitions: usize,
+    pre: &[Weight],
+    post: &[Weight],
+    caps: &[u16],
+    list: &[u16],
+    count: usize,
+) -> ListAnswer
+    requires { ⌜ Ready (netOf places transitions (now pre) (now post) (now caps)) count (now list) ⌝ }
+    requires { ⌜ count ≤ listLimit ⌝ }
+    ensures { λ r. ⌜ r ≡ results kind (netOf places transitions (now (pre .entry)) (now (post .entry)) (now (caps .entry))) count (now (list .entry)) ⌝ }
+{
+    let mut heads = list_index::no_heads();
+    let mut links = list_index::no_links();
+    fill_index(kind, places, count, list, &mut heads, &mut links);
+    first_missing(
+        kind,
+        places,
+        transitions,
+        pre,
+        post,
+        caps,
+        list,
+        count,
+        &heads,
+        &links,
+    )
+}
+
 // A list that is not refused: whether it has the initial marking and every result.
 fn look_through(
     kind: Kind,
@@ -256,11 +328,12 @@ fn look_through(
 ) -> ListAnswer
     requires { ⌜ Ready (netOf places transitions (now pre) (now post) (now caps)) (count places (now list)) (now list) ⌝ }
     requires { ⌜ length (now initial) ≡ places ⌝ }
+    requires { ⌜ count places (now list) ≤ listLimit ⌝ }
     ensures { λ r. ⌜ r ≡ looked kind (netOf places transitions (now (pre .entry)) (now (post .entry)) (now (caps .entry))) (now (initial .entry)) (now (list .entry)) ⌝ }
 {
     let n = list.len() / places;
     if lists::holds(kind, places, n, list, initial) {
-        return first_missing(kind, places, transitions, pre, post, caps, list, n);
+        return look_up(kind, places, transitions, pre, post, caps, list, n);
     }
     ListAnswer::Failed(Failure::InitialMissing)
 }

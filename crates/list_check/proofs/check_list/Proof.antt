@@ -20,7 +20,7 @@ look-through-requires c κs =
     let f : tie.After-find-fault = search needs in
     let a = s .args in
     let l = check-lent (a .kind) (netOf (a .places) (a .transitions) (now (a .pre)) (now (a .post)) (now (a .caps))) (now (a .initial)) (now (a .list)) (a .fits) (a .next) _ (f .find-fault .ensures) (search needs) in
-    (l .ready, l .start)
+    (l .ready, (l .start, l .some .many))
 
 returns : tie.Need-returns
 returns c = search (checks, needs)

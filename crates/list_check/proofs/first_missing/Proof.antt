@@ -12,16 +12,16 @@ use Rattle.list_check.proofs.first_missing.Statement.{statement}
 use Rattle.list_check.proofs.first_missing.Tie as tie
 
 abbrev Inv-loop : tie.InvT-loop
-Inv-loop kind places transitions pre post caps list count k t₀ t = (t ≤ transitions) × Below (missing kind (netOf places transitions pre post caps) count list k) t
+Inv-loop kind places transitions pre post caps list count heads links k t₀ t = (t ≤ transitions) × Below (missing kind (netOf places transitions pre post caps) count list k) t
 
 abbrev μ-loop : tie.MeasureT-loop
-μ-loop kind places transitions pre post caps list count k t₀ t = transitions - t
+μ-loop kind places transitions pre post caps list count heads links k t₀ t = transitions - t
 
 abbrev Inv-markings : tie.InvT-markings
-Inv-markings kind places transitions pre post caps list count k₀ t₀ k t = (k ≤ count) × Below (fails (missing kind (netOf places transitions pre post caps) count list) transitions) k
+Inv-markings kind places transitions pre post caps list count heads links k₀ t₀ k t = (k ≤ count) × Below (fails (missing kind (netOf places transitions pre post caps) count list) transitions) k
 
 abbrev μ-markings : tie.MeasureT-markings
-μ-markings kind places transitions pre post caps list count k₀ t₀ k t = count - k
+μ-markings kind places transitions pre post caps list count heads links k₀ t₀ k t = count - k
 
 -- the net at the function's entry
 at : tie.Start Inv-loop μ-loop Inv-markings μ-markings → Net

@@ -14,7 +14,9 @@ enum-told : tie.Need-enum-told
 enum-told c = search needs
 
 is-unlisted-requires : tie.Need-is-unlisted-requires
-is-unlisted-requires c κs = search needs
+is-unlisted-requires c κs =
+    let s : tie.Start = search needs in
+    (s .pre .0, (s .pre .1 .0, (s .pre .1 .1 .0, s .pre .1 .1 .1 .index (search needs))))
 
 enum-told-2 : tie.Need-enum-told-2
 enum-told-2 c = search needs
@@ -23,7 +25,7 @@ is-uncovered-requires : tie.Need-is-uncovered-requires
 unfolding at
 is-uncovered-requires c κs =
     let s : tie.Start = search needs in (
-      (pre-end (at s) (now (s .args .listed)) (s .args .t) (s .pre .0 .sized) (s .pre .1 .1), post-end (at s) (now (s .args .listed)) (s .args .t) (s .pre .0 .sized) (s .pre .1 .1)),
+      (pre-end (at s) (now (s .args .listed)) (s .args .t) (s .pre .0 .sized) (s .pre .1 .1 .0), post-end (at s) (now (s .args .listed)) (s .args .t) (s .pre .0 .sized) (s .pre .1 .1 .0)),
       (search needs, search needs),
     )
 

@@ -11,14 +11,14 @@ use Rattle.list_check.proofs.is_missing.Tie as tie
 
 -- the end of the listed marking
 list-ends : (s : tie.Start) → s .args .k * s .args .places + s .args .places ≤ length (now (s .args .list))
-list-ends s = marking-end (s .args .places) (s .args .count) (now (s .args .list)) (s .args .k) (s .pre .0 .long) (s .pre .1 .0)
+list-ends s = marking-end (s .args .places) (s .args .count) (now (s .args .list)) (s .args .k) (s .pre .0 .long) (s .pre .1 .0 .0)
 
 -- the room's making and the function's entry, before the room is lent
 abbrev made : tie.After-room → tie.After-no-tokens
 made c = c .before .before
 
 abbrev start : tie.After-room → tie.Start
-start c = made c .before .before .before .before .before
+start c = made c .before .before .before .before .before .before .before
 
 few : (c : tie.After-room) → start c .args .places ≤ countLimit
 few c = start c .pre .0 .sized .few-places
@@ -53,8 +53,8 @@ slice-aggregate-is-absent c = long-front _ _ (made c .no-tokens .ensures) (few c
 is-absent-requires : tie.Need-is-absent-requires
 is-absent-requires c κs =
     let s = start c in
-    let l = marking-long (s .args .places) (s .args .count) (now (s .args .list)) (s .args .k) (s .pre .0 .long) (s .pre .1 .0) in
-    rw (add-sub-cancel-left (s .args .k * s .args .places) (s .args .places)) (s .pre .0, ((l, front-long _ _ (made c .no-tokens .ensures) (few c)), s .pre .1 .1))
+    let l = marking-long (s .args .places) (s .args .count) (now (s .args .list)) (s .args .k) (s .pre .0 .long) (s .pre .1 .0 .0) in
+    rw (add-sub-cancel-left (s .args .k * s .args .places) (s .args .places)) (s .pre .0, ((l, front-long _ _ (made c .no-tokens .ensures) (few c)), (s .pre .1 .0 .1, s .pre .1 .1)))
 
 returns : tie.Need-returns
 returns c =

@@ -13,19 +13,21 @@ may-fire-at-requires : tie.Need-may-fire-at-requires
 may-fire-at-requires c κs =
     let l = c .before .before .before in
     let k = l .before .before .before in
-    let s = k .before .before .before .before .before in
-    (s .pre .0 .sized, (search needs, (small-as _ (now (s .args .listed)) (l .load .ensures) (λ p. omega (arith, k .shared-slice-known5 .given p)), s .pre .1 .1)))
+    let s = k .before .before .before .before .before .before .before in
+    (s .pre .0 .sized, (search needs, (small-as _ (now (s .args .listed)) (l .load .ensures) (λ p. omega (arith, k .shared-slice-known7 .given p)), s .pre .1 .1 .0)))
 
 fire-at-requires : tie.Need-fire-at-requires
 fire-at-requires c κs =
     let l = c .before .before .before .before .before .before in
     let k = l .before .before .before in
-    let s = k .before .before .before .before .before in
+    let s = k .before .before .before .before .before .before .before in
     let m : tie.After-may-fire-at = search needs in
-    (s .pre .0 .sized, (search needs, (small-as _ (now (s .args .listed)) (l .load .ensures) (λ p. omega (arith, k .shared-slice-known5 .given p)), (s .pre .1 .1, sym (m .may-fire-at .ensures) ∙ search needs))))
+    (s .pre .0 .sized, (search needs, (small-as _ (now (s .args .listed)) (l .load .ensures) (λ p. omega (arith, k .shared-slice-known7 .given p)), (s .pre .1 .1 .0, sym (m .may-fire-at .ensures) ∙ search needs))))
 
-is-held-requires : tie.Need-is-held-requires
-is-held-requires c κs = search needs
+find-requires : tie.Need-find-requires
+find-requires c κs =
+    let s : tie.Start = search needs in
+    (s .pre .0 .long, (search needs, s .pre .1 .1 .1))
 
 same-length : tie.Need-same-length
 same-length c = search needs
@@ -46,7 +48,7 @@ is-unlisted-spec =
     load-requires
     may-fire-at-requires
     fire-at-requires
-    is-held-requires
+    find-requires
     same-length
     returns
     same-length-2

@@ -9,8 +9,8 @@ div-n c = search needs
 holds-requires : tie.Need-holds-requires
 holds-requires c κs = search needs
 
-first-missing-requires : tie.Need-first-missing-requires
-first-missing-requires c κs = search needs
+look-up-requires : tie.Need-look-up-requires
+look-up-requires c κs = search needs
 
 returns : tie.Need-returns
 returns c = search (looks, needs)
@@ -20,4 +20,4 @@ returns-2 c = search (looks, needs)
 
 pub look-through-spec : {M : Type 1} → statement M
 look-through-spec =
-    tie.close (tie.spec div-n holds-requires first-missing-requires returns returns-2)
+    tie.close (tie.spec div-n holds-requires look-up-requires returns returns-2)

@@ -1,0 +1,5 @@
+pub mod Hashes
+pub mod Latest
+pub mod Linked
+pub mod Walks
+pub mod Finds

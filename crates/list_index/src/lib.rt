@@ -1,0 +1,146 @@
+// Inner: an index over a closed list, so that a marking is looked for among few listed ones. A hash
+// of a marking's numbers gives its bucket; `heads` has the latest listed marking of each bucket, and
+// `links` for each listed marking the one before it in its bucket. 0 is none, k + 1 marking number k.
+use ground::LIST_LIMIT;
+ghost use mathlib.Core.Path.{_≡_};
+ghost use Prim.Native.Nat.{_+_, _*_, _/_, _≤_, _<_};
+ghost use lib.ListN.{length, replicate};
+ghost use Rattle.ground.specs.Limits.{listLimit};
+ghost use Rattle.lists.specs.Match.{held};
+ghost use Rattle.lists.specs.declared.Kind.the-variants.{Closed};
+ghost use Rattle.list_index.specs.Index.{bucketCount, hashLimit, bucketSize, mixOf, bucketOf, Indexed};
+
+// How many buckets there are.
+pub const BUCKET_COUNT: usize = 4096;
+
+// A hash is below this, so that it and a number, times the factor, stay below 2^64.
+const HASH_LIMIT: u64 = 4294967296;
+
+// How many hashes a bucket has.
+const BUCKET_SIZE: u64 = 1048576;
+
+// 2^32 less its part by the golden ratio, and odd: numbers that differ by one come to lie far apart.
+const FACTOR: u64 = 1640531527;
+
+// An empty table of buckets.
+pub fn no_heads() -> [u16; BUCKET_COUNT]
+    ensures { λ r. ⌜ r ≡ replicate bucketCount 0 ⌝ }
+{
+    [0; BUCKET_COUNT]
+}
+
+// Room for the links of the longest list.
+pub fn no_links() -> [u16; LIST_LIMIT]
+    ensures { λ r. ⌜ r ≡ replicate listLimit 0 ⌝ }
+{
+    [0; LIST_LIMIT]
+}
+
+// A listed number as a result has it.
+fn wide(number: u16) -> u32
+    ensures { λ r. ⌜ r ≡ number ⌝ }
+{
+    number as u32
+}
+
+// An entry of the index as a number of markings.
+fn counted(entry: u16) -> usize
+    ensures { λ r. ⌜ r ≡ entry ⌝ }
+{
+    entry as usize
+}
+
+// The entry that stands for marking number k.
+fn entry_of(k: usize) -> u16
+    requires { ⌜ k < listLimit ⌝ }
+    ensures { λ r. ⌜ r ≡ k + 1 ⌝ }
+{
+    (k + 1) as u16
+}
+
+// A hash with one more number in it.
+fn mix(hash: u64, number: u32) -> u64
+    requires { ⌜ hash < hashLimit ⌝ }
+    ensures { λ r. ⌜ r ≡ mixOf hash number ⌝ }
+{
+    (hash + number as u64) * FACTOR % HASH_LIMIT
+}
+
+// The bucket of a hash: its highest bits.
+fn bucket_at(hash: u64) -> usize
+    ensures { λ r. ⌜ r ≡ hash / bucketSize ⌝ }
+{
+    (hash / BUCKET_SIZE) as usize
+}
+
+// The bucket of a listed marking.
+fn listed_bucket(listed: &[u16]) -> usize
+    ensures { λ r. ⌜ r ≡ bucketOf (now (listed .entry)) ⌝ }
+{
+    let mut h = 0;
+    let mut p = 0;
+    while p < listed.len() {
+        h = mix(h, wide(listed[p]));
+        p += 1;
+    }
+    bucket_at(h)
+}
+
+// The bucket of a marking that is looked for.
+fn sought_bucket(marking: &[u32]) -> usize
+    ensures { λ r. ⌜ r ≡ bucketOf (now (marking .entry)) ⌝ }
+{
+    let mut h = 0;
+    let mut p = 0;
+    while p < marking.len() {
+        h = mix(h, marking[p]);
+        p += 1;
+    }
+    bucket_at(h)
+}
+
+// The index of a list, into tables of which that of the buckets is empty.
+pub fn make_index(places: usize, count: usize, list: &[u16], heads: &mut [u16], links: &mut [u16])
+    requires { ⌜ (length (now list) ≡ count * places) × (count ≤ listLimit) ⌝ }
+    requires { ⌜ now heads ≡ replicate bucketCount 0 ⌝ }
+    requires { ⌜ length (now links) ≡ listLimit ⌝ }
+    ensures { λ r. ⌜ Indexed places count (now (list .entry)) (now (heads .exit)) (now (links .exit)) ⌝ }
+{
+    let mut k = 0;
+    while k < count {
+        let from = k * places;
+        let to = from + places;
+        let b = listed_bucket(&list[from..to]);
+        links[k] = heads[b];
+        heads[b] = entry_of(k);
+        k += 1;
+    }
+}
+
+// Whether the list holds a marking: only those in its bucket are compared with it, the latest first.
+pub fn find(
+    places: usize,
+    count: usize,
+    list: &[u16],
+    heads: &[u16],
+    links: &[u16],
+    marking: &[u32],
+) -> bool
+    requires { ⌜ length (now list) ≡ count * places ⌝ }
+    requires { ⌜ length (now marking) ≡ places ⌝ }
+    requires { ⌜ Indexed places count (now list) (now heads) (now links) ⌝ }
+    ensures { λ r. ⌜ r ≡ held Closed places count (now (list .entry)) (now (marking .entry)) ⌝ }
+{
+    let b = sought_bucket(marking);
+    let mut at = counted(heads[b]);
+    while 0 < at {
+        let k = at - 1;
+        let a = k * places;
+        let e = a + places;
+        if lists::same_marking(&list[a..e], marking) {
+            return true;
+        }
+        at = counted(links[k]);
+    }
+    false
+}
