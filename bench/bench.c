@@ -17,6 +17,7 @@ SIDE(summary_word)
 SIDE(join_summaries)
 SIDE(place_weighting)
 SIDE(closed_list)
+static __typeof__(kaunorpi_closed_list) *volatile side_plain_list[2] = {kaunorpi_closed_list, plain_closed_list};
 SIDE(cover_list)
 SIDE(complement_net)
 SIDE(read_case)
@@ -78,6 +79,11 @@ static void ask_weighting(int side) {
 
 static void ask_closed(int side) {
     kaunorpi_list a = side_closed_list[side](NET, initial, P, list, entries);
+    keep(&out[side], a.kind, a.number, a.position, a.transition);
+}
+
+static void ask_plain(int side) {
+    kaunorpi_list a = side_plain_list[side](NET, initial, P, list, entries);
     keep(&out[side], a.kind, a.number, a.position, a.transition);
 }
 
@@ -166,10 +172,28 @@ static void make_capped(void) {
     wide = 64;
 }
 
-/* All 2^bits settings of so many switches, each a pair of places and two transitions; the switches are the last places, or
- * the first. The other places never change, and the other transitions are never enabled. */
-static void make_switches(size_t bits, int last) {
-    size_t first = last ? 64 - 2 * bits : 0, still = last ? 0 : 63;
+/* Where the markings of a list differ from their neighbours. */
+enum order { LAST, FIRST, CHANCE };
+
+/* Puts the markings in an order by chance. */
+static void shuffle(void) {
+    for (size_t k = entries / P - 1; k > 0; k--)
+        for (size_t j = below(k + 1), p = 0; p < P; p++) {
+            uint16_t kept = list[k * P + p];
+            list[k * P + p] = list[j * P + p];
+            list[j * P + p] = kept;
+        }
+}
+
+/* The place of one side of a switch: among the last places, among the first, or anywhere. */
+static size_t switch_place(size_t bits, enum order order, size_t side) {
+    return order == LAST ? (64 - 2 * bits + side) % 64 : order == FIRST ? side : (5 * side + 3) % 64;
+}
+
+/* All 2^bits settings of so many switches, each a pair of the 64 places and two transitions. The other places never
+ * change, and the other transitions are never enabled. */
+static void make_switches(size_t bits, enum order order) {
+    size_t still = switch_place(bits, order, 63);
     P = 64;
     T = 64;
     cells = 4096;
@@ -177,25 +201,48 @@ static void make_switches(size_t bits, int last) {
     memset(pre, 0, sizeof pre);
     memset(post, 0, sizeof post);
     for (size_t t = 0; t < 64; t++)
-        if (t < 2 * bits)
-            pre[t * 64 + first + t] = 1, post[t * 64 + first + (t ^ 1)] = 1;
-        else
+        if (t < 2 * bits) {
+            pre[t * 64 + switch_place(bits, order, t)] = 1;
+            post[t * 64 + switch_place(bits, order, t ^ 1)] = 1;
+        } else
             pre[t * 64 + still] = 255;
-    for (size_t i = 0; i < entries; i++) {
-        size_t p = i % 64, on = p - first;
-        list[i] = p < first || on >= 2 * bits ? 3 : (i / 64 >> (bits - 1 - on / 2) & 1) == (on & 1);
-    }
+    for (size_t k = 0; k < entries / 64; k++)
+        for (size_t side = 0; side < 64; side++)
+            list[k * 64 + switch_place(bits, order, side)] =
+                side >= 2 * bits ? 3 : (k >> (bits - 1 - side / 2) & 1) == (side & 1);
+    if (order == CHANCE)
+        shuffle();
     for (size_t p = 0; p < 64; p++) {
         initial[p] = list[p];
         caps[p] = p % 2 ? 65535 : 7;
     }
 }
 
-/* The lists of the table. */
-static void make_256(void) { make_switches(8, 1); }
-static void make_1024(void) { make_switches(10, 1); }
-static void make_1024_first(void) { make_switches(10, 0); }
-static void make_4096(void) { make_switches(12, 1); }
+/* All 2^bits markings of three places up to their capacities, with a transition that takes one token and one that puts one
+ * for each. */
+static void make_counters(size_t bits, enum order order) {
+    size_t share[3] = {bits / 3, (bits + 1) / 3, (bits + 2) / 3};
+    P = 3;
+    T = 6;
+    cells = 18;
+    entries = ((size_t)1 << bits) * 3;
+    memset(pre, 0, sizeof pre);
+    memset(post, 0, sizeof post);
+    for (size_t p = 0; p < 3; p++) {
+        caps[p] = (uint16_t)((1 << share[p]) - 1);
+        initial[p] = 0;
+        pre[2 * p * 3 + p] = 1;
+        post[(2 * p + 1) * 3 + p] = 1;
+    }
+    for (size_t k = 0; k < entries / 3; k++)
+        for (size_t left = k, turn = 0; turn < 3; turn++) {
+            size_t p = order == FIRST ? turn : 2 - turn;
+            list[k * 3 + p] = (uint16_t)(left & caps[p]);
+            left >>= share[p];
+        }
+    if (order == CHANCE)
+        shuffle();
+}
 
 /* The largest case file: 64 places, 64 transitions, 65,535 letters. */
 static void make_file(void) {
@@ -204,12 +251,14 @@ static void make_file(void) {
 }
 
 /* A row: the question, its size, its input, how it is asked, in how many rounds of how many calls. */
-static const struct row {
+struct row {
     const char *question, *size;
     void (*make)(void);
     void (*ask)(int side);
     size_t rounds, calls;
-} rows[] = {
+};
+
+static const struct row rows[] = {
     {"replay_word", "65,535 letters, 64 places", make_word, ask_replay, 60, 1},
     {"summary_word", "65,535 letters, 64 places", make_word, ask_summary, 12, 1},
     {"join_summaries", "64 places", make_halves, ask_join, 300, 200},
@@ -218,12 +267,6 @@ static const struct row {
     {"read_case", "the largest file, 151 KB", make_file, ask_case, 100, 1},
     {"write_case", "the largest file, 151 KB", make_word, ask_write, 100, 1},
     {"write_case", "4 places, 4 transitions, 100 letters", make_small, ask_write, 300, 200},
-    {"closed_list", "1,024 markings, unlike in the first places", make_1024_first, ask_closed, 10, 1},
-    {"closed_list", "256 markings, unlike in the last places", make_256, ask_closed, 15, 1},
-    {"closed_list", "1,024 markings, unlike in the last places", make_1024, ask_closed, 5, 1},
-    {"closed_list", "4,096 markings, unlike in the last places", make_4096, ask_closed, 1, 1},
-    {"cover_list", "256 markings, unlike in the last places", make_256, ask_cover, 15, 1},
-    {"cover_list", "1,024 markings, unlike in the last places", make_1024, ask_cover, 5, 1},
 };
 
 /* Nanoseconds that this process has run: what others do on the machine in between is not counted. */
@@ -254,10 +297,41 @@ static void run(const struct row *row) {
     printf("%s|%s|%.0f|%.0f\n", row->question, row->size, best[0], best[1]);
 }
 
-/* bench [QUESTION]: every row, or those of one question. */
+/* The list that the next row is of. */
+static size_t list_bits;
+static enum order list_order;
+static void make_narrow(void) { make_counters(list_bits, list_order); }
+static void make_wide(void) { make_switches(list_bits, list_order); }
+
+/* Rows of one question, asked in this way, about lists of 2^from to 2^to markings, every step-th power, of as many places as
+ * make gives them, for each order. */
+static void run_lists(const char *question, void (*ask)(int side), const char *places, void (*make)(void), size_t from,
+                      size_t to, size_t step, size_t rounds) {
+    static const char *const orders[] = {"unlike in the last places", "unlike in the first places", "unlike by chance"};
+    for (list_order = LAST; list_order <= CHANCE; list_order++)
+        for (list_bits = from; list_bits <= to; list_bits += step) {
+            char size[80];
+            struct row row = {question, size, make, ask, rounds, 1};
+            snprintf(size, sizeof size, "%u markings of %s places, %s", 1u << list_bits, places, orders[list_order]);
+            run(&row);
+        }
+}
+
+/* bench [QUESTION]: every row, or those of one question. plain_list is closed_list against C without an index. */
 int main(int count, char **words) {
+    const char *only = count < 2 ? 0 : words[1];
     for (size_t k = 0; k < sizeof rows / sizeof rows[0]; k++)
-        if (count < 2 || strcmp(words[1], rows[k].question) == 0)
+        if (!only || strcmp(only, rows[k].question) == 0)
             run(&rows[k]);
+    if (!only || strcmp(only, "closed_list") == 0) {
+        run_lists("closed_list", ask_closed, "3", make_narrow, 8, 12, 1, 20);
+        run_lists("closed_list", ask_closed, "64", make_wide, 8, 12, 1, 5);
+    }
+    if (!only || strcmp(only, "plain_list") == 0) {
+        run_lists("plain_list", ask_plain, "3", make_narrow, 8, 12, 2, 1);
+        run_lists("plain_list", ask_plain, "64", make_wide, 8, 12, 2, 1);
+    }
+    if (!only || strcmp(only, "cover_list") == 0)
+        run_lists("cover_list", ask_cover, "64", make_wide, 8, 10, 2, 2);
     return 0;
 }

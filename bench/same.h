@@ -9,7 +9,7 @@ __typeof__(kaunorpi_replay_word) same_replay_word;
 __typeof__(kaunorpi_summary_word) same_summary_word;
 __typeof__(kaunorpi_join_summaries) same_join_summaries;
 __typeof__(kaunorpi_place_weighting) same_place_weighting;
-__typeof__(kaunorpi_closed_list) same_closed_list;
+__typeof__(kaunorpi_closed_list) same_closed_list, plain_closed_list;
 __typeof__(kaunorpi_cover_list) same_cover_list;
 __typeof__(kaunorpi_complement_net) same_complement_net;
 __typeof__(kaunorpi_read_case) same_read_case;

@@ -10,9 +10,10 @@
  * counts: a wrong one is refusal 2, and is not used.
  *
  * Stack. kaunorpi_read_case needs some 75 KB, for rooms of its own in which a whole file is read before anything is
- * written; every other function needs less than 4 KB. Measured in the machine code of the archive for x86-64: 74,960
- * bytes, and at most 3,392 (kaunorpi_summary_stretch), with what a function calls and without memcpy and memset, which
- * are the C library's.
+ * written; the functions about lists of markings need some 18 KB, for an index of their own; every other function needs
+ * less than 4 KB. Measured in the machine code of the archive for x86-64: 74,960 bytes; at most 17,512
+ * (kaunorpi_closed_target); and at most 3,392 (kaunorpi_summary_stretch); with what a function calls and without memcpy
+ * and memset, which are the C library's.
  *
  * What is proved. Each function's comment ends with its contract, which says that the answer is the entry's of that
  * name, number by number, and with theorems that say what such an answer means; docs/STATEMENTS.md has them in words,

@@ -3,6 +3,7 @@
 #define TESTS_STDIO_H
 #include <stddef.h>
 int printf(const char *form, ...) __attribute__((format(printf, 1, 2)));
+int snprintf(char *room, size_t size, const char *form, ...) __attribute__((format(printf, 3, 4)));
 int puts(const char *line);
 int putchar(int c);
 /* files, as the C library of the kit has them */
