@@ -53,7 +53,7 @@ fn put_bytes(out: &mut [u8], at: usize, list: &[u8]) -> usize
 }
 
 // 01: the counts.
-pub fn put_counts(out: &mut [u8], at: usize, places: usize, transitions: usize) -> usize
+fn put_counts(out: &mut [u8], at: usize, places: usize, transitions: usize) -> usize
     requires { ⌜ (at + lineLength 3 ≤ length (now out)) × (places ≤ countLimit) × (transitions ≤ countLimit) ⌝ }
     ensures { λ r. ⌜ PutLine (now (out .entry)) at (1 ∷ places ∷ transitions ∷ []) r (now (out .exit)) ⌝ }
 {
@@ -64,7 +64,7 @@ pub fn put_counts(out: &mut [u8], at: usize, places: usize, transitions: usize) 
 }
 
 // 02, the capacities, or 03, the tokens: a number of two bytes for each place.
-pub fn put_numbers(out: &mut [u8], at: usize, kind: u8, list: &[u16]) -> usize
+fn put_numbers(out: &mut [u8], at: usize, kind: u8, list: &[u16]) -> usize
     requires { ⌜ at + numbersLength (length (now list)) ≤ length (now out) ⌝ }
     ensures { λ r. ⌜ PutLine (now (out .entry)) at (kind ∷ twos (now (list .entry))) r (now (out .exit)) ⌝ }
 {
@@ -74,7 +74,7 @@ pub fn put_numbers(out: &mut [u8], at: usize, kind: u8, list: &[u16]) -> usize
 }
 
 // 04: a transition, what it takes from each place, and what it puts there.
-pub fn put_row(out: &mut [u8], at: usize, t: u8, takes: &[Weight], puts: &[Weight]) -> usize
+fn put_row(out: &mut [u8], at: usize, t: u8, takes: &[Weight], puts: &[Weight]) -> usize
     requires { ⌜ (at + rowLength (length (now takes)) ≤ length (now out)) × (length (now puts) ≡ length (now takes)) ⌝ }
     ensures { λ r. ⌜ PutLine (now (out .entry)) at (4 ∷ t ∷ (now (takes .entry) ++ now (puts .entry))) r (now (out .exit)) ⌝ }
 {
@@ -86,7 +86,7 @@ pub fn put_row(out: &mut [u8], at: usize, t: u8, takes: &[Weight], puts: &[Weigh
 }
 
 // 05: some letters of the word.
-pub fn put_letters(out: &mut [u8], at: usize, letters: &[u8]) -> usize
+fn put_letters(out: &mut [u8], at: usize, letters: &[u8]) -> usize
     requires { ⌜ at + lineLength (1 + length (now letters)) ≤ length (now out) ⌝ }
     ensures { λ r. ⌜ PutLine (now (out .entry)) at (5 ∷ now (letters .entry)) r (now (out .exit)) ⌝ }
 {
@@ -96,7 +96,7 @@ pub fn put_letters(out: &mut [u8], at: usize, letters: &[u8]) -> usize
 }
 
 // A 04 for each transition, in order from 0.
-pub fn put_rows(
+fn put_rows(
     places: usize,
     transitions: usize,
     pre: &[Weight],
@@ -141,7 +141,7 @@ fn letters_lines(n: usize) -> usize
 }
 
 // The whole word, 64 letters a frame; none for the empty word.
-pub fn put_word(out: &mut [u8], at: usize, word: &[u8]) -> usize
+fn put_word(out: &mut [u8], at: usize, word: &[u8]) -> usize
     requires { ⌜ (at + wordLength (length (now word)) ≤ length (now out)) × (length (now word) ≤ wordLimit) ⌝ }
     ensures { λ r. ⌜ Appended (now (out .entry)) at (joined (lettersLine (now (word .entry))) (lettersLines (length (now (word .entry))))) r (now (out .exit)) ⌝ }
 {

@@ -84,7 +84,7 @@ fn moved(takes: Weight, puts: Weight, tokens: u32) -> u32
 }
 
 // Whether a letter passes: one plain pass over the places, with no way out on the way.
-pub fn may_fire(takes: &[Weight], puts: &[Weight], caps: &[u16], marking: &[u32]) -> bool
+fn may_fire(takes: &[Weight], puts: &[Weight], caps: &[u16], marking: &[u32]) -> bool
     requires { ⌜ Rows (arcsOf (now takes) (now puts) (now caps)) (now marking) ⌝ }
     ensures { λ r. ⌜ r ≡ passes (arcsOf (now (takes .entry)) (now (puts .entry)) (now (caps .entry))) (now (marking .entry)) ⌝ }
 {
@@ -128,7 +128,7 @@ fn lowest_over(takes: &[Weight], puts: &[Weight], caps: &[u16], marking: &[u32])
 }
 
 // Why a letter that some place stops is stopped: the lowest short place, else the lowest place over.
-pub fn why_stopped(takes: &[Weight], puts: &[Weight], caps: &[u16], marking: &[u32]) -> Cause
+fn why_stopped(takes: &[Weight], puts: &[Weight], caps: &[u16], marking: &[u32]) -> Cause
     requires { ⌜ Rows (arcsOf (now takes) (now puts) (now caps)) (now marking) ⌝ }
     requires { ⌜ passes (arcsOf (now takes) (now puts) (now caps)) (now marking) ≡ false ⌝ }
     ensures { λ r. ⌜ r ≡ cause (arcsOf (now (takes .entry)) (now (puts .entry)) (now (caps .entry))) (now (marking .entry)) ⌝ }
@@ -142,7 +142,7 @@ pub fn why_stopped(takes: &[Weight], puts: &[Weight], caps: &[u16], marking: &[u
 }
 
 // Fires a letter in place.
-pub fn fire(takes: &[Weight], puts: &[Weight], marking: &mut [u32])
+fn fire(takes: &[Weight], puts: &[Weight], marking: &mut [u32])
     requires { ⌜ length (now takes) ≡ length (now marking) ⌝ }
     requires { ⌜ length (now puts) ≡ length (now marking) ⌝ }
     requires { ⌜ Small replayLimit (now marking) ⌝ }
@@ -157,7 +157,7 @@ pub fn fire(takes: &[Weight], puts: &[Weight], marking: &mut [u32])
 }
 
 // One letter by its rows: fires it in place, or says why not and leaves the marking.
-pub fn play_rows(takes: &[Weight], puts: &[Weight], caps: &[u16], marking: &mut [u32]) -> Letter
+fn play_rows(takes: &[Weight], puts: &[Weight], caps: &[u16], marking: &mut [u32]) -> Letter
     requires { ⌜ Rows (arcsOf (now takes) (now puts) (now caps)) (now marking) ⌝ }
     ensures { λ r. ⌜ Played (arcsOf (now (takes .entry)) (now (puts .entry)) (now (caps .entry))) (now (marking .entry)) r (now (marking .exit)) ⌝ }
 {

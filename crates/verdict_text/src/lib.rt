@@ -37,7 +37,7 @@ fn put_marking(out: &mut [u8], at: usize, marking: &[u32]) -> usize
 }
 
 // 81 00, the letters fired, and the marking left.
-pub fn write_fired(out: &mut [u8], n: usize, marking: &[u32]) -> usize
+fn write_fired(out: &mut [u8], n: usize, marking: &[u32]) -> usize
     requires { ⌜ 13 + 8 * length (now marking) ≤ length (now out) ⌝ }
     ensures { λ r. ⌜ WrittenBytes (now (out .entry)) ((0x81 ∷ []) ++ ((0 ∷ []) ++ (four n ++ fours (now (marking .entry))))) r (now (out .exit)) ⌝ }
 {
@@ -49,7 +49,7 @@ pub fn write_fired(out: &mut [u8], n: usize, marking: &[u32]) -> usize
 }
 
 // 81 and the cause, the letter's position, and the place.
-pub fn write_blocked(out: &mut [u8], i: usize, cause: u8, place: u8) -> usize
+fn write_blocked(out: &mut [u8], i: usize, cause: u8, place: u8) -> usize
     requires { ⌜ 15 ≤ length (now out) ⌝ }
     ensures { λ r. ⌜ WrittenBytes (now (out .entry)) ((0x81 ∷ []) ++ ((cause ∷ []) ++ (four i ++ (place ∷ [])))) r (now (out .exit)) ⌝ }
 {
