@@ -168,24 +168,24 @@ kaunorpi_replay kaunorpi_replay_stretch(KAUNORPI_NET, const uint16_t *initial, s
 
 /* The summary of no letters. Refusals 1 2.
  * Contract: crates/c_summary/src/lib.rt. Theorems: empty-allowed-made in crates/summary/proofs/Exactly.antt;
- * empty-left, empty-right in crates/summary/proofs/Meaning.antt. */
+ * empty-left, empty-right in crates/summary_join/proofs/Meaning.antt. */
 kaunorpi_summary kaunorpi_empty_summary(size_t places, uint32_t *need, size_t need_len, uint32_t *climb,
                                         size_t climb_len, int32_t *change, size_t change_len);
 /* The summary of a word. Refusals 1 2 4 5.
  * Contract: crates/c_summary/src/lib.rt. Theorems: word-allowed-made in crates/summary/proofs/Exactly.antt;
- * summary-published, fires-iff in crates/summary/proofs/Meaning.antt. */
+ * summary-published in crates/summary_form/proofs/Meaning.antt; fires-iff in crates/summary_ask/proofs/Meaning.antt. */
 kaunorpi_summary kaunorpi_summary_word(KAUNORPI_NET, const uint8_t *word, size_t word_len, uint32_t *need,
                                        size_t need_len, uint32_t *climb, size_t climb_len, int32_t *change,
                                        size_t change_len);
 /* The same for a stretch of a word (see kaunorpi_replay_stretch). Refusals 1 2 4 5.
  * Contract: crates/c_summary/src/lib.rt. Theorems: stretch-allowed-made in crates/summary/proofs/Exactly.antt;
- * summary-published, fires-iff in crates/summary/proofs/Meaning.antt. */
+ * summary-published in crates/summary_form/proofs/Meaning.antt; fires-iff in crates/summary_ask/proofs/Meaning.antt. */
 kaunorpi_summary kaunorpi_summary_stretch(KAUNORPI_NET, const uint8_t *word, size_t word_len, size_t start, size_t end,
                                           uint32_t *need, size_t need_len, uint32_t *climb, size_t climb_len,
                                           int32_t *change, size_t change_len);
 /* The summary of the first word followed by the second, from their summaries. Refusals 1 2 6 7.
- * Contract: crates/c_summary/src/lib.rt. Theorems: join-allowed-made in crates/summary/proofs/Exactly.antt;
- * join-of-words, join-associative in crates/summary/proofs/Meaning.antt. */
+ * Contract: crates/c_summary/src/lib.rt. Theorems: join-allowed-made in crates/summary_join/proofs/Exactly.antt;
+ * join-of-words, join-associative in crates/summary_join/proofs/Meaning.antt. */
 kaunorpi_summary kaunorpi_join_summaries(size_t first_places, uint32_t first_letters, const uint32_t *first_need,
                                          size_t first_need_len, const uint32_t *first_climb, size_t first_climb_len,
                                          const int32_t *first_change, size_t first_change_len, size_t second_places,
@@ -197,7 +197,7 @@ kaunorpi_summary kaunorpi_join_summaries(size_t first_places, uint32_t first_let
 /* Does the word of this summary fire from this marking? Refusals 1 2 3 6. room: places entries.
  * 0x81 0: yes, and room holds the tokens of each place afterwards. 0x81 1: no, and room is as it was.
  * Contract: crates/c_summary/src/lib.rt. Theorems: ask-fires, fires-ask, ask-yes, ask-no in
- * crates/summary/proofs/Meaning.antt. */
+ * crates/summary_ask/proofs/Meaning.antt. */
 kaunorpi_answer kaunorpi_ask_summary(KAUNORPI_NET, const uint16_t *marking, size_t marking_len, size_t summary_places,
                                      uint32_t summary_letters, const uint32_t *need, size_t need_len,
                                      const uint32_t *climb, size_t climb_len, const int32_t *change, size_t change_len,

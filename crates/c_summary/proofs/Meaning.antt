@@ -7,11 +7,11 @@ use mathlib.Core.List.{List}
 use lib.ListN.{length}
 use lib.Dec.{eqb}
 use Rattle.ground.specs.Limits.{countLimit}
-use Rattle.summary.specs.Ask.{Reply, askedNumbers}
-use Rattle.summary.specs.declared.Summary.{Summary}
-use Rattle.summary.specs.declared.Summed.{Summed}
-use Rattle.summary.specs.declared.Asked.{Asked}
-use Rattle.summary.specs.declared.Asked.the-variants as reply
+use Rattle.summary_ask.specs.Ask.{Reply, askedNumbers}
+use Rattle.summary_form.specs.declared.Summary.{Summary}
+use Rattle.summary_form.specs.declared.Summed.{Summed}
+use Rattle.summary_ask.specs.declared.Asked.{Asked}
+use Rattle.summary_ask.specs.declared.Asked.the-variants as reply
 use Rattle.c_summary_lists.specs.Columns.{Columns, columnsFrom}
 use Rattle.c_summary_lists.proofs.Columns.{read-written}
 use Rattle.c_answer.specs.Hand.{handed}

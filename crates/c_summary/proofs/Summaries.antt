@@ -13,14 +13,16 @@ use Rattle.refusals.specs.declared.Fault.the-variants.{Sound, Faulty}
 use Rattle.refusals.proofs.Chains.{or-sound}
 use Rattle.refusals.proofs.Refusals.{counts-met, counts-unfit, marked-unfit}
 use Rattle.summary_place.specs.declared.Slot.{Slot}
-use Rattle.summary.specs.Summary.{emptySummary, refusal, summed, Answers, emptyAnswer, summaryOf, wordAnswer, shapeFault}
-use Rattle.summary.specs.Join.{joinFault, joinSummary, joinAnswer}
-use Rattle.summary.specs.Ask.{Reply, askFault, slotsReply, replied, askedNumbers, Replied}
-use Rattle.summary.specs.declared.Summary.{Summary}
-use Rattle.summary.specs.declared.Summed.{Summed}
-use Rattle.summary.specs.declared.Made.the-variants.{Done, Refused}
-use Rattle.summary.specs.declared.Asked.{Asked}
-use Rattle.summary.proofs.Answers.{answers-is, unfit-part}
+use Rattle.summary_form.specs.Summary.{emptySummary, refusal, summed, Answers, summaryOf, shapeFault}
+use Rattle.summary.specs.Entry.{emptyAnswer, wordAnswer}
+use Rattle.summary_join.specs.Join.{joinFault, joinSummary, joinAnswer}
+use Rattle.summary_ask.specs.Ask.{Reply, askFault, slotsReply, replied, askedNumbers, Replied}
+use Rattle.summary_form.specs.declared.Summary.{Summary}
+use Rattle.summary_form.specs.declared.Summed.{Summed}
+use Rattle.summary_form.specs.declared.Made.the-variants.{Done, Refused}
+use Rattle.summary_ask.specs.declared.Asked.{Asked}
+use Rattle.summary_form.proofs.Answers.{answers-is}
+use Rattle.summary.proofs.Answers.{unfit-part}
 use Rattle.c_summary_lists.specs.Columns.{Columns, fits, slotsFrom, columnsFrom}
 use Rattle.c_answer.specs.Hand.{handed}
 use Rattle.c_summary.specs.Summaries.{handedSummary, HandedSummary, listFault, emptyFor, lentSummary, joinFor, askFor, HandedReply}

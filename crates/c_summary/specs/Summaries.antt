@@ -10,13 +10,13 @@ use Rattle.net.specs.Net.{Net}
 use Rattle.refusals.specs.Given.{refuse, orElse, outside}
 use Rattle.refusals.specs.declared.Fault.{Fault}
 use Rattle.refusals.specs.declared.Fault.the-variants.{Sound}
-use Rattle.summary.specs.Summary.{emptySummary, summed, madeNumbers}
-use Rattle.summary.specs.Join.{joinFault, joinSummary}
-use Rattle.summary.specs.Ask.{Reply, askFault, slotsReply, replied, askedNumbers}
-use Rattle.summary.specs.declared.Summary.{Summary}
-use Rattle.summary.specs.declared.Summed.{Summed}
-use Rattle.summary.specs.declared.Made.{Made}
-use Rattle.summary.specs.declared.Made.the-variants.{Done, Refused}
+use Rattle.summary_form.specs.Summary.{emptySummary, summed, madeNumbers}
+use Rattle.summary_join.specs.Join.{joinFault, joinSummary}
+use Rattle.summary_ask.specs.Ask.{Reply, askFault, slotsReply, replied, askedNumbers}
+use Rattle.summary_form.specs.declared.Summary.{Summary}
+use Rattle.summary_form.specs.declared.Summed.{Summed}
+use Rattle.summary_form.specs.declared.Made.{Made}
+use Rattle.summary_form.specs.declared.Made.the-variants.{Done, Refused}
 use Rattle.c_summary_lists.specs.Columns.{Columns, fits, slotsFrom, columnsFrom}
 use Rattle.c_answer.specs.Hand.{at, handed}
 use Rattle.c_answer.specs.declared.Answer.{Answer}

@@ -6,10 +6,10 @@ use c_answer::Answer;
 use c_answer::REFUSED;
 use ground::Weight;
 use refusals::Fault;
-use summary::Asked;
-use summary::Made;
-use summary::Summary;
-use summary::Summed;
+use summary_ask::Asked;
+use summary_form::Made;
+use summary_form::Summary;
+use summary_form::Summed;
 ghost use mathlib.Core.Path.{_≡_};
 ghost use mathlib.Core.Bool.{false, _&&_, _||_};
 ghost use lib.ListN.{length};
@@ -17,8 +17,9 @@ ghost use Rattle.ground.specs.Limits.{countLimit};
 ghost use Rattle.net.specs.Net.{netOf};
 ghost use Rattle.refusals.specs.Given.{refuse, orElse, outside, countsFault, stretch, inside};
 ghost use Rattle.refusals.specs.declared.Fault.the-variants.{Sound};
-ghost use Rattle.summary.specs.Summary.{emptySummary, refusal, summed, wordAnswer};
-ghost use Rattle.summary.specs.Ask.{askedNumbers};
+ghost use Rattle.summary_form.specs.Summary.{emptySummary, refusal, summed};
+ghost use Rattle.summary.specs.Entry.{wordAnswer};
+ghost use Rattle.summary_ask.specs.Ask.{askedNumbers};
 ghost use Rattle.c_summary_lists.specs.Columns.{columnsOf, lengthsFit, fits};
 ghost use Rattle.c_answer.specs.Hand.{handed};
 ghost use Rattle.c_summary.specs.Summaries.{handedSummary, HandedSummary, listFault, emptyFor, lentSummary, joinFor, askFor, HandedReply};
@@ -258,7 +259,7 @@ pub extern "C" fn kaunorpi_join_summaries(
     if fit {
         let a = lent_summary(places1, letters1, need1, climb1, change1);
         let b = lent_summary(places2, letters2, need2, climb2, change2);
-        let made = summary::join_summaries(a, b);
+        let made = summary_join::join_summaries(a, b);
         return hand_summed(made, need, climb, change);
     }
     refuse_lists(places1, places2)
@@ -341,7 +342,7 @@ pub extern "C" fn kaunorpi_ask_summary(
     let fit = c_summary_lists::is_fitting(need.len(), climb.len(), change.len());
     if fit {
         let summary = lent_summary(count, letters, need, climb, change);
-        let answer = summary::ask_summary(
+        let answer = summary_ask::ask_summary(
             places,
             transitions,
             pre,

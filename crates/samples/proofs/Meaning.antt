@@ -16,8 +16,9 @@ use Rattle.replay.specs.declared.Replay.the-variants.{Fired, Blocked}
 use Rattle.replay.proofs.Meaning as replay
 use Rattle.summary_place.specs.Place.{change, need, climb}
 use Rattle.summary_place.specs.Slots.{slotOf, joined, slotBad}
-use Rattle.summary.specs.Summary.{partFault, shapeFault}
-use Rattle.summary.specs.Join.{laterFault, joinFault}
+use Rattle.summary.specs.Entry.{partFault}
+use Rattle.summary_form.specs.Summary.{shapeFault}
+use Rattle.summary_join.specs.Join.{laterFault, joinFault}
 use Rattle.weighting.specs.Weighting.{sum}
 use Rattle.weighting.specs.Bound.{foundBound}
 use Rattle.weighting.proofs.Meaning.{bound-holds}

@@ -7,8 +7,9 @@ use lib.ListN.{take, getD}
 use Rattle.replay.specs.Entry.{replayOf}
 use Rattle.replay.proofs.Meaning.{unique}
 use Rattle.summary_place.specs.Slots.{nil}
-use Rattle.summary.specs.declared.Summed.{Summed}
-use Rattle.summary.proofs.Meaning.{word-unique, join-unique}
+use Rattle.summary_form.specs.declared.Summed.{Summed}
+use Rattle.summary.proofs.Meaning.{word-unique}
+use Rattle.summary_join.proofs.Meaning.{join-unique}
 use Rattle.weighting.specs.Place.{placeOf}
 use Rattle.weighting.specs.Bound.{boundOf}
 use Rattle.weighting.specs.Transition.{transitionOf}

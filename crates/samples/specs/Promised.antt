@@ -8,9 +8,9 @@ use Rattle.refusals.specs.declared.Fault.the-variants.{Sound}
 use Rattle.replay.specs.Entry.{Replayed}
 use Rattle.replay.specs.declared.Replay.{Replay}
 use Rattle.summary_place.specs.Slots.{nil}
-use Rattle.summary.specs.Summary.{Answers}
-use Rattle.summary.specs.Join.{joinAnswer}
-use Rattle.summary.specs.declared.Summed.{Summed}
+use Rattle.summary_form.specs.Summary.{Answers}
+use Rattle.summary_join.specs.Join.{joinAnswer}
+use Rattle.summary_form.specs.declared.Summed.{Summed}
 use Rattle.weighting.specs.Place.{placeOf, placeNumbers}
 use Rattle.weighting.specs.Bound.{boundOf, boundNumbers}
 use Rattle.weighting.specs.Transition.{transitionOf, transitionNumbers}

@@ -14,11 +14,11 @@ use Rattle.replay.specs.declared.Replay.{Replay}
 use Rattle.replay.specs.declared.Replay.the-variants.{Fired, Blocked}
 use Rattle.summary_place.specs.Slots.{nil}
 use Rattle.summary_place.specs.declared.Slot.{Slot}
-use Rattle.summary.specs.Summary.{wordAnswer}
-use Rattle.summary.specs.Join.{joinAnswer}
-use Rattle.summary.specs.declared.Made.{Made}
-use Rattle.summary.specs.declared.Made.the-variants.{Done}
-use Rattle.summary.specs.declared.Summed.{Summed}
+use Rattle.summary.specs.Entry.{wordAnswer}
+use Rattle.summary_join.specs.Join.{joinAnswer}
+use Rattle.summary_form.specs.declared.Made.{Made}
+use Rattle.summary_form.specs.declared.Made.the-variants.{Done}
+use Rattle.summary_form.specs.declared.Summed.{Summed}
 use Rattle.weighting.specs.Place.{placeOf}
 use Rattle.weighting.specs.Bound.{boundOf}
 use Rattle.weighting.specs.Transition.{transitionOf}

@@ -1,8 +1,3 @@
-pub mod Shapes
-pub mod Places
-pub mod Formed
 pub mod Answers
-pub mod Joining
-pub mod Asking
 pub mod Meaning
 pub mod Exactly

@@ -1,5 +1,2 @@
-pub mod Summary
-pub mod Join
-pub mod Ask
+pub mod Entry
 pub mod Allowed
-pub mod Walk

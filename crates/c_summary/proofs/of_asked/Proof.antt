@@ -1,6 +1,6 @@
 use borrow.Author.Needs.{needs}
-use Rattle.summary.specs.Ask.{askedNumbers}
-use Rattle.summary.specs.declared.Asked.{Asked}
+use Rattle.summary_ask.specs.Ask.{askedNumbers}
+use Rattle.summary_ask.specs.declared.Asked.{Asked}
 use Rattle.c_answer.specs.Hand.{handed}
 use Rattle.c_answer.proofs.Hand.{passed}
 use Rattle.c_summary.proofs.of_asked.Statement.{statement}

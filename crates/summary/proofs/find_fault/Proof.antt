@@ -1,5 +1,5 @@
 use Rattle.refusals.proofs.Chains.{chains}
-use Rattle.summary.specs.Summary.{partFault}
+use Rattle.summary.specs.Entry.{partFault}
 use borrow.Author.Needs.{needs}
 use Rattle.summary.proofs.find_fault.Statement.{statement}
 use Rattle.summary.proofs.find_fault.Tie as tie

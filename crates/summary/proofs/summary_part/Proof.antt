@@ -3,8 +3,10 @@ use mathlib.Core.Path.{_≡_, sym, _∙_}
 use native.Mathlib.Omega.{arith}
 use Rattle.net.specs.Net.{Net, netOf, Light}
 use Rattle.refusals.specs.declared.Fault.the-variants.{Sound}
-use Rattle.summary.specs.Summary.{summaryOf, partFault}
-use Rattle.summary.proofs.Answers.{Sane, sane-of, answers-refused, answers-done, word-made}
+use Rattle.summary_form.specs.Summary.{summaryOf}
+use Rattle.summary.specs.Entry.{partFault}
+use Rattle.summary.proofs.Answers.{Sane, sane-of, word-made}
+use Rattle.summary_form.proofs.Answers.{answers-refused, answers-done}
 use borrow.Author.Needs.{needs}
 use Rattle.summary.proofs.summary_part.Statement.{statement}
 use Rattle.summary.proofs.summary_part.Tie as tie

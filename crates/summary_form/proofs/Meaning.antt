@@ -1,0 +1,78 @@
+-- What a summary means: its numbers are the published ones, and it is well formed exactly where refusal 6 is not given. Assumes nothing.
+use Prim.Native.Nat.{ℕ, _≤_, _<_}
+use mathlib.Core.Path.{_≡_, refl, sym, _∙_}
+use mathlib.Core.Bool.{Bool, true, false, cond}
+use mathlib.Core.List.{List, []}
+use mathlib.Core.Logic.{_↔_}
+use native.Mathlib.Omega.{arith}
+use lib.ListN.{length, getD, replicate, length-replicate, getD-replicate}
+use lib.Dec.{ltb}
+use lib.Seq.{ext-getD}
+use borrow.Author.Tests.{lt-ltb}
+use Rattle.ground.specs.Limits.{countLimit, wordLimit}
+use Rattle.ground.specs.Lists.{most}
+use Rattle.ground.proofs.Fill.{table-length, table-at}
+use Rattle.net.specs.Net.{Net, Light, Sized}
+use Rattle.refusals.specs.declared.Fault.the-variants.{Sound}
+use Rattle.summary_place.specs.Place.{Move, letterAt, need, climb, change, prefixClimb}
+use Rattle.summary_place.specs.Slots.{nil, slotOf, slotAt, slotsOf}
+use Rattle.summary_place.proofs.Words.{climb-prefix}
+use Rattle.summary_form.specs.Summary.{summaryOf, emptySummary, shapeFault, WellFormed, Count, Held}
+use Rattle.summary_form.specs.declared.Summary.{Summary}
+use Rattle.summary_form.proofs.Formed.{Shaped, formed-of, of-formed, word-shaped, empty-shaped}
+
+-- ---- the numbers are the published ones
+-- climb is "the largest change over all prefixes, the empty one (0) included"
+pub climb-published : (net : Net) (p : ℕ) (w : List ℕ) → climb (letterAt net p) w ≡ prefixClimb (letterAt net p) w
+climb-published net p w = climb-prefix (letterAt net p) (λ t. refl) w
+
+pub slot-here : (net : Net) (w : List ℕ) (p : ℕ) → net .places ≤ countLimit → p < net .places → getD (slotsOf net w) p nil ≡ slotOf (letterAt net p) w
+slot-here net w p h l = table-at (slotAt net w) countLimit p nil (omega arith) ∙ rw (lt-ltb p (net .places) l)
+
+-- a word's summary holds, at each place, its need, climb and change as published
+pub summary-published : (net : Net) (w : List ℕ) (p : ℕ) → net .places ≤ countLimit → p < net .places → getD (summaryOf net w .slots) p nil ≡ record { need = need (letterAt net p) w; climb = prefixClimb (letterAt net p) w; change = change (letterAt net p) w }
+unfolding slotOf
+summary-published net w p h l =
+    slot-here net w p h l
+    ∙ (λ i. record { need = need (letterAt net p) w; climb = climb-published net p w i; change = change (letterAt net p) w })
+
+-- the summary of the empty word is the empty summary
+slot-none : (at : ℕ → Move) → slotOf at [] ≡ nil
+unfolding slotOf need climb change most
+slot-none at = refl
+
+pub empty-word : (net : Net) → summaryOf net [] ≡ emptySummary (net .places)
+empty-word net = λ i. record { places = net .places; letters = 0; slots = same i }
+  where
+    each : (p : ℕ) (b : Bool) → cond b (slotOf (letterAt net p) []) nil ≡ nil
+    each p true = slot-none (letterAt net p)
+    each p false = refl
+
+    same : slotsOf net [] ≡ replicate countLimit nil
+    same =
+        ext-getD nil (slotsOf net []) (replicate countLimit nil) (table-length (slotAt net []) countLimit ∙ sym (length-replicate countLimit nil))
+        (λ k h. let l : k < countLimit = omega (arith, table-length (slotAt net []) countLimit) in
+        table-at (slotAt net []) countLimit k nil l ∙ each k (ltb k (net .places)) ∙ sym (getD-replicate countLimit k nil nil l))
+
+-- ---- well formed
+-- refusal 6 is not given exactly where a summary is well formed as published
+pub well-formed-iff : (s : Summary) → (shapeFault s ≡ Sound) ↔ WellFormed s
+well-formed-iff s = (formed-of s, of-formed s)
+
+pub word-well-formed : (net : Net) (w : List ℕ) → Sized net → Light net → length w ≤ wordLimit → Held (net .places) (summaryOf net w)
+word-well-formed net w sized light h =
+    record {
+      range = record { some = sized .some-places; few = sized .few-places };
+      count = refl;
+      slots = word-shaped net light w h .slots;
+      formed = formed-of (summaryOf net w) (word-shaped net light w h .shaped);
+    }
+
+pub shaped : {P : ℕ} {s : Summary} → Held P s → Shaped s
+shaped {P} {s} h = record { slots = h .slots; shaped = of-formed s (h .formed) }
+
+pub in-range : {P : ℕ} {s : Summary} → Held P s → Count (s .places)
+in-range {P} {s} h = rw (h .count) (h .range)
+
+pub empty-held : (P : ℕ) → Count P → Held P (emptySummary P)
+empty-held P c = record { range = c; count = refl; slots = empty-shaped P .slots; formed = formed-of (emptySummary P) (empty-shaped P .shaped) }

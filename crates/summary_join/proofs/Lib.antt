@@ -1,0 +1,4 @@
+pub mod Joined
+pub mod Joining
+pub mod Meaning
+pub mod Exactly
