@@ -1,4 +1,4 @@
-/* Summaries and their join, as crates/summary_place, crates/summary and crates/c_summary do it: by place, and by value. */
+/* Summaries and their join, as crates/summary_place, crates/summary.. and crates/c_summary.. do it: by place, and by value. */
 #include "same.h"
 
 struct slot {

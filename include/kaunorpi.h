@@ -184,7 +184,7 @@ kaunorpi_summary kaunorpi_summary_stretch(KAUNORPI_NET, const uint8_t *word, siz
                                           uint32_t *need, size_t need_len, uint32_t *climb, size_t climb_len,
                                           int32_t *change, size_t change_len);
 /* The summary of the first word followed by the second, from their summaries. Refusals 1 2 6 7.
- * Contract: crates/c_summary/src/lib.rt. Theorems: join-allowed-made in crates/summary_join/proofs/Exactly.antt;
+ * Contract: crates/c_summary_join/src/lib.rt. Theorems: join-allowed-made in crates/summary_join/proofs/Exactly.antt;
  * join-of-words, join-associative in crates/summary_join/proofs/Meaning.antt. */
 kaunorpi_summary kaunorpi_join_summaries(size_t first_places, uint32_t first_letters, const uint32_t *first_need,
                                          size_t first_need_len, const uint32_t *first_climb, size_t first_climb_len,
@@ -196,7 +196,7 @@ kaunorpi_summary kaunorpi_join_summaries(size_t first_places, uint32_t first_let
                                          size_t change_len);
 /* Does the word of this summary fire from this marking? Refusals 1 2 3 6. room: places entries.
  * 0x81 0: yes, and room holds the tokens of each place afterwards. 0x81 1: no, and room is as it was.
- * Contract: crates/c_summary/src/lib.rt. Theorems: ask-fires, fires-ask, ask-yes, ask-no in
+ * Contract: crates/c_summary_ask/src/lib.rt. Theorems: ask-fires, fires-ask, ask-yes, ask-no in
  * crates/summary_ask/proofs/Meaning.antt. */
 kaunorpi_answer kaunorpi_ask_summary(KAUNORPI_NET, const uint16_t *marking, size_t marking_len, size_t summary_places,
                                      uint32_t summary_letters, const uint32_t *need, size_t need_len,

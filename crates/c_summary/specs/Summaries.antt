@@ -1,73 +1,12 @@
--- To be believed: summaries for C. The place count and the letters stand in the answer, the slots in three lists of exactly 64 entries. A list of
--- another length is 2: "a lent list's or room's length disagrees with the counts", after 1 and before all others.
+-- To be believed: the empty summary for C; a word's needs no definition of its own.
 use Prim.Native.Nat.{ℕ}
-use mathlib.Core.Path.{_≡_}
-use mathlib.Core.Bool.{Bool, not, _&&_, _||_}
-use mathlib.Core.List.{List}
-use lib.ListN.{length}
-use lib.Dec.{eqb}
-use Rattle.net.specs.Net.{Net}
-use Rattle.refusals.specs.Given.{refuse, orElse, outside}
-use Rattle.refusals.specs.declared.Fault.{Fault}
+use mathlib.Core.Bool.{Bool}
+use Rattle.refusals.specs.Given.{outside}
 use Rattle.refusals.specs.declared.Fault.the-variants.{Sound}
-use Rattle.summary_form.specs.Summary.{emptySummary, summed, madeNumbers}
-use Rattle.summary_join.specs.Join.{joinFault, joinSummary}
-use Rattle.summary_ask.specs.Ask.{Reply, askFault, slotsReply, replied, askedNumbers}
-use Rattle.summary_form.specs.declared.Summary.{Summary}
+use Rattle.summary_form.specs.Summary.{emptySummary, summed}
 use Rattle.summary_form.specs.declared.Summed.{Summed}
-use Rattle.summary_form.specs.declared.Made.{Made}
-use Rattle.summary_form.specs.declared.Made.the-variants.{Done, Refused}
-use Rattle.c_summary_lists.specs.Columns.{Columns, fits, slotsFrom, columnsFrom}
-use Rattle.c_answer.specs.Hand.{at, handed}
-use Rattle.c_answer.specs.declared.Answer.{Answer}
-use Rattle.c_summary.specs.declared.SummaryAnswer.{SummaryAnswer}
-
--- a summary's answer: its numbers, its place count and its letters; a refusal comes with the empty summary of no places
-unfoldable pub handedSummary : Summed → SummaryAnswer
-handedSummary x =
-    record {
-      kind = at 0 (madeNumbers (x .answer));
-      number = at 1 (madeNumbers (x .answer));
-      position = at 2 (madeNumbers (x .answer));
-      places = x .summary .places;
-      letters = x .summary .letters;
-    }
-
--- the lists hold the slots where a summary was made; "A refusal leaves lent memory as found."
-abbrev pub leftBy : Made → Columns → Columns → Columns
-leftBy Done new lists = new
-leftBy (Refused n at) new lists = lists
-
--- a summary's answer x, handed to C as r and in the lists
-pub record HandedSummary (x : Summed) (lists : Columns) (r : SummaryAnswer) (lists′ : Columns) : Type 0 where
-  pub answer : r ≡ handedSummary x
-  pub left : lists′ ≡ leftBy (x .answer) (columnsFrom (x .summary .slots)) lists
-
--- 1 for the place counts, then 2 for a list's length, then what the entry itself refuses
-unfoldable pub listFault : Bool → Bool → Fault → Fault
-listFault outsides fit next = orElse (refuse outsides 1 0) (orElse (refuse (not fit) 2 0) next)
+use Rattle.c_summary_answer.specs.Summaries.{listFault}
 
 -- the empty summary into lists
 abbrev pub emptyFor : ℕ → Bool → Summed
 emptyFor P fit = summed (listFault (outside P) fit Sound) (emptySummary P)
-
--- the summary that C lends: a place count, a number of letters and three lists
-abbrev pub lentSummary : ℕ → ℕ → Columns → Summary
-lentSummary P n lists = record { places = P; letters = n; slots = slotsFrom lists }
-
--- two lent summaries joined, into lists
-abbrev pub joinFor : ℕ → ℕ → Columns → ℕ → ℕ → Columns → Columns → Summed
-joinFor P n a Q k b lists =
-    summed (listFault (outside P || outside Q) (fits a && (fits b && fits lists)) (joinFault (lentSummary P n a) (lentSummary Q k b)))
-    (joinSummary (lentSummary P n a) (lentSummary Q k b))
-
--- a lent summary asked against a marking: `askAnswer`, where the lists' lengths count with the room's
-abbrev pub askFor : Net → List ℕ → ℕ → ℕ → Columns → List ℕ → Reply
-askFor net m P n lists room =
-    replied (askFault net m (lentSummary P n lists) (eqb (length room) (net .places) && fits lists))
-    (slotsReply (slotsFrom lists) (net .caps) m room) room
-
--- such an answer, handed to C as r and in the room
-pub record HandedReply (reply : Reply) (r : Answer) (room′ : List ℕ) : Type 0 where
-  pub answer : r ≡ handed (askedNumbers (reply .answer))
-  pub left : room′ ≡ reply .left
