@@ -217,8 +217,8 @@ kaunorpi_answer kaunorpi_transition_weighting(KAUNORPI_NET, const int16_t *x, si
 /* What y bounds the tokens of `place` by. Refusals 1 2 3 8 13.
  * 0x81 0: bound: the place never holds more. 0x81 1: no bound, since position: 1 y is not invariant, 2 it has a negative
  * entry, 3 y(place) is not positive.
- * Contract: crates/c_weighting/src/lib.rt. Theorems: bounded-holds in crates/weighting/proofs/Promise.antt;
- * bound-judged in crates/weighting/proofs/Meaning.antt. */
+ * Contract: crates/c_weighting/src/lib.rt. Theorems: bounded-holds in crates/weighting_bound/proofs/Promise.antt;
+ * bound-judged in crates/weighting_bound/proofs/Meaning.antt. */
 kaunorpi_bound kaunorpi_place_bound(KAUNORPI_NET, const uint16_t *initial, size_t initial_len, const int16_t *y,
                                     size_t y_len, size_t place);
 

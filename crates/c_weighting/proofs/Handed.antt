@@ -2,7 +2,6 @@
 use Prim.Native.Nat.{ℕ}
 use mathlib.Core.Path.{_≡_, ap, _∙_}
 use mathlib.Core.List.{List}
-use Rattle.c_answer.specs.Hand.{handed}
 use Rattle.c_weighting.specs.Handed.{handedBound}
 use Rattle.c_weighting.specs.declared.BoundAnswer.{BoundAnswer}
 

@@ -8,10 +8,10 @@ use Rattle.weighting.specs.declared.PlaceWeighting.the-variants as place
 use Rattle.weighting.specs.Transition.{transitionNumbers}
 use Rattle.weighting.specs.declared.TransitionWeighting.{TransitionWeighting}
 use Rattle.weighting.specs.declared.TransitionWeighting.the-variants as transition
-use Rattle.weighting.specs.Bound.{boundNumbers}
-use Rattle.weighting.specs.declared.NoBoundCause.the-variants.{NotInvariant, Negative, NotPositive}
-use Rattle.weighting.specs.declared.Bound.{Bound}
-use Rattle.weighting.specs.declared.Bound.the-variants as bound
+use Rattle.weighting_bound.specs.Bound.{boundNumbers}
+use Rattle.weighting_bound.specs.declared.NoBoundCause.the-variants.{NotInvariant, Negative, NotPositive}
+use Rattle.weighting_bound.specs.declared.Bound.{Bound}
+use Rattle.weighting_bound.specs.declared.Bound.the-variants as bound
 use Rattle.sets.specs.Answer.{setNumbers}
 use Rattle.sets.specs.declared.SetAnswer.{SetAnswer}
 use Rattle.sets.specs.declared.SetAnswer.the-variants as set

@@ -6,16 +6,16 @@ use c_answer::Answer;
 use c_answer::REFUSED;
 use ground::Weight;
 use sets::SetAnswer;
-use weighting::Bound;
-use weighting::NoBoundCause;
 use weighting::PlaceWeighting;
 use weighting::TransitionWeighting;
+use weighting_bound::Bound;
+use weighting_bound::NoBoundCause;
 ghost use mathlib.Core.Path.{_≡_};
 ghost use mathlib.Core.List.{[], _∷_};
 ghost use Rattle.net.specs.Net.{netOf};
 ghost use Rattle.weighting.specs.Place.{placeOf, placeNumbers};
 ghost use Rattle.weighting.specs.Transition.{transitionOf, transitionNumbers};
-ghost use Rattle.weighting.specs.Bound.{causeNumber, boundOf, boundNumbers};
+ghost use Rattle.weighting_bound.specs.Bound.{causeNumber, boundOf, boundNumbers};
 ghost use Rattle.sets.specs.Answer.{siphonOf, trapOf, setNumbers};
 ghost use Rattle.c_answer.specs.Hand.{handed};
 ghost use Rattle.c_weighting.specs.Handed.{handedBound};
@@ -173,7 +173,16 @@ pub extern "C" fn kaunorpi_place_bound(
 ) -> BoundAnswer
     ensures { λ r. ⌜ r ≡ handedBound (boundNumbers (boundOf (netOf places transitions (now (pre .entry)) (now (post .entry)) (now (caps .entry))) (now (initial .entry)) (now (y .entry)) place)) ⌝ }
 {
-    let answer = weighting::place_bound(places, transitions, pre, post, caps, initial, y, place);
+    let answer = weighting_bound::place_bound(
+        places,
+        transitions,
+        pre,
+        post,
+        caps,
+        initial,
+        y,
+        place,
+    );
     of_bound(answer)
 }
 

@@ -19,9 +19,9 @@ use Rattle.summary_place.specs.Slots.{slotOf, joined, slotBad}
 use Rattle.summary.specs.Entry.{partFault}
 use Rattle.summary_form.specs.Summary.{shapeFault}
 use Rattle.summary_join.specs.Join.{laterFault, joinFault}
-use Rattle.weighting.specs.Weighting.{sum}
-use Rattle.weighting.specs.Bound.{foundBound}
-use Rattle.weighting.proofs.Meaning.{bound-holds}
+use Rattle.weighting_sums.specs.Weighting.{sum}
+use Rattle.weighting_bound.specs.Bound.{foundBound}
+use Rattle.weighting_bound.proofs.Meaning.{bound-holds}
 use Rattle.sets.specs.Sets.{Siphon, Trap}
 use Rattle.sets.proofs.Allowed.{allowed-of}
 use Rattle.sets.proofs.Meaning.{siphon-accepted, trap-accepted}

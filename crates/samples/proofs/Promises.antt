@@ -11,9 +11,10 @@ use Rattle.summary_form.specs.declared.Summed.{Summed}
 use Rattle.summary.proofs.Meaning.{word-unique}
 use Rattle.summary_join.proofs.Meaning.{join-unique}
 use Rattle.weighting.specs.Place.{placeOf}
-use Rattle.weighting.specs.Bound.{boundOf}
+use Rattle.weighting_bound.specs.Bound.{boundOf}
 use Rattle.weighting.specs.Transition.{transitionOf}
-use Rattle.weighting.proofs.Numbers.{place-unique, bound-unique, transition-unique}
+use Rattle.weighting.proofs.Numbers.{place-unique, transition-unique}
+use Rattle.weighting_bound.proofs.Numbers.{bound-unique}
 use Rattle.sets.specs.Answer.{siphonOf, trapOf}
 use Rattle.sets.proofs.Numbers.{siphon-unique, trap-unique}
 use Rattle.cover.proofs.Meaning.{unique-list, unique-target}

@@ -12,10 +12,10 @@ use Rattle.summary_form.specs.Summary.{Answers}
 use Rattle.summary_join.specs.Join.{joinAnswer}
 use Rattle.summary_form.specs.declared.Summed.{Summed}
 use Rattle.weighting.specs.Place.{placeOf, placeNumbers}
-use Rattle.weighting.specs.Bound.{boundOf, boundNumbers}
+use Rattle.weighting_bound.specs.Bound.{boundOf, boundNumbers}
 use Rattle.weighting.specs.Transition.{transitionOf, transitionNumbers}
 use Rattle.weighting.specs.declared.PlaceWeighting.{PlaceWeighting}
-use Rattle.weighting.specs.declared.Bound.{Bound}
+use Rattle.weighting_bound.specs.declared.Bound.{Bound}
 use Rattle.weighting.specs.declared.TransitionWeighting.{TransitionWeighting}
 use Rattle.sets.specs.Answer.{siphonOf, trapOf, setNumbers}
 use Rattle.sets.specs.declared.SetAnswer.{SetAnswer}

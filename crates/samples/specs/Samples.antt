@@ -20,12 +20,12 @@ use Rattle.summary_form.specs.declared.Made.{Made}
 use Rattle.summary_form.specs.declared.Made.the-variants.{Done}
 use Rattle.summary_form.specs.declared.Summed.{Summed}
 use Rattle.weighting.specs.Place.{placeOf}
-use Rattle.weighting.specs.Bound.{boundOf}
+use Rattle.weighting_bound.specs.Bound.{boundOf}
 use Rattle.weighting.specs.Transition.{transitionOf}
 use Rattle.weighting.specs.declared.PlaceWeighting.{PlaceWeighting}
 use Rattle.weighting.specs.declared.PlaceWeighting.the-variants.{Invariant, NotInvariant}
-use Rattle.weighting.specs.declared.Bound.{Bound}
-use Rattle.weighting.specs.declared.Bound.the-variants.{Bounded}
+use Rattle.weighting_bound.specs.declared.Bound.{Bound}
+use Rattle.weighting_bound.specs.declared.Bound.the-variants.{Bounded}
 use Rattle.weighting.specs.declared.TransitionWeighting.{TransitionWeighting}
 use Rattle.weighting.specs.declared.TransitionWeighting.the-variants.{Proper}
 use Rattle.sets.specs.Answer.{siphonOf, trapOf}

@@ -10,22 +10,18 @@ use lib.Dec.{ltb}
 use lib.IntN.{ℤ}
 use Rattle.net.specs.Net.{Net}
 use Rattle.refusals.specs.declared.Fault.{Fault}
-use Rattle.refusals.specs.declared.Fault.the-variants.{Sound, Faulty}
 use Rattle.refusals.proofs.Exactly.{Answers, answers-of, exactly-refused, is-answered, is-allowed}
-use Rattle.weighting.specs.Tests.{lowestTransition, lowestPlace, hasNegative, weightingFault, boundFault}
-use Rattle.weighting.specs.Allowed.{Allowed, Refusal, BoundAllowed, BoundRefusal}
+use Rattle.weighting_sums.specs.Tests.{lowestTransition, lowestPlace, hasNegative}
+use Rattle.weighting.specs.Tests.{weightingFault}
+use Rattle.weighting.specs.Allowed.{Allowed, Refusal}
 use Rattle.weighting.specs.Place.{placeAnswer, placeOf, placeNumbers}
 use Rattle.weighting.specs.declared.PlaceWeighting.{PlaceWeighting}
 use Rattle.weighting.specs.declared.PlaceWeighting.the-variants as place
 use Rattle.weighting.specs.Transition.{transitionAnswer, transitionOf, transitionNumbers}
 use Rattle.weighting.specs.declared.TransitionWeighting.{TransitionWeighting}
 use Rattle.weighting.specs.declared.TransitionWeighting.the-variants as transition
-use Rattle.weighting.specs.Bound.{Judged, foundBound, boundAnswer, boundOf, boundNumbers}
-use Rattle.weighting.specs.declared.Bound.{Bound}
-use Rattle.weighting.specs.declared.Bound.the-variants as bound
-use Rattle.weighting.proofs.Numbers.{place-numbers-apart, transition-numbers-apart, bound-numbers-apart}
-use Rattle.weighting.proofs.Allowed.{allowed-of, of-allowed, weighting-chain, bound-allowed-of, of-bound-allowed, bound-chain}
-use Rattle.weighting.proofs.Meaning.{bound-judged}
+use Rattle.weighting.proofs.Numbers.{place-numbers-apart, transition-numbers-apart}
+use Rattle.weighting.proofs.Allowed.{allowed-of, of-allowed, weighting-chain}
 
 -- a place weighting
 module _ (net : Net) (y : List ℤ) (r : PlaceWeighting) (promise : placeNumbers r ≡ placeNumbers (placeOf net y)) where
@@ -67,22 +63,3 @@ module _ (net : Net) (x : List ℤ) (r : TransitionWeighting) (promise : transit
 
   pub transition-refused-exactly : (n at : ℕ) → (r ≡ transition.Refused n at) ↔ Refusal net (net .transitions) x n at
   transition-refused-exactly = exactly-refused transition-made (λ n at k p e. (cc, cc)) (weighting-chain net (net .transitions) x)
-
--- a bound
-module _ (net : Net) (initial : List ℕ) (y : List ℤ) (p : ℕ) (r : Bound) (promise : boundNumbers r ≡ boundNumbers (boundOf net initial y p)) where
-  bound-made : Answers bound.Refused (boundFault net initial y p) r
-  bound-made =
-      answers-of bound.Refused (λ (f : Fault). boundAnswer f (foundBound net initial y p)) (boundFault net initial y p) r
-      (bound-numbers-apart r (boundOf net initial y p) promise) (λ n at. refl) none
-    where
-      none : (n at : ℕ) → foundBound net initial y p ≡ bound.Refused n at → ⊥
-      none n at e = let j : Judged net initial y p (bound.Refused n at) = rw e at (bound-judged net initial y p) in j
-
-  pub bound-allowed-answered : BoundAllowed net initial y p → (n at : ℕ) → r ≡ bound.Refused n at → ⊥
-  bound-allowed-answered = is-answered bound-made (of-bound-allowed net initial y p)
-
-  pub bound-answered-allowed : ((n at : ℕ) → r ≡ bound.Refused n at → ⊥) → BoundAllowed net initial y p
-  bound-answered-allowed = is-allowed bound-made (bound-allowed-of net initial y p)
-
-  pub bound-refused-exactly : (n at : ℕ) → (r ≡ bound.Refused n at) ↔ BoundRefusal net initial y p n at
-  bound-refused-exactly = exactly-refused bound-made (λ n at k p e. (cc, cc)) (bound-chain net initial y p)

@@ -1,8 +1,3 @@
-pub mod Sum
-pub mod Shares
-pub mod Nets
-pub mod Entries
-pub mod Lowest
 pub mod Allowed
 pub mod Answers
 pub mod Numbers

@@ -1,14 +1,14 @@
 -- Demands 2 and 1, from the promise: what is true of the net, over the published relation, where an entry has answered so. Assumes nothing.
-use Prim.Native.Nat.{ℕ, _≤_, _<_}
+use Prim.Native.Nat.{ℕ, _<_}
 use mathlib.Core.Path.{_≡_, sym, _∙_}
 use mathlib.Core.Logic.{_↔_}
 use mathlib.Core.List.{List}
 use native.Mathlib.Omega.{arith}
 use lib.ListN.{length}
 use lib.IntN.{ℤ, pos}
-use Rattle.net.specs.Net.{Net, tokens}
+use Rattle.net.specs.Net.{Net}
 use Rattle.net.specs.Firing.{Fires, Reachable}
-use Rattle.weighting.specs.Weighting.{entry, placeSum, transitionSum, PlaceInvariant, TransitionInvariant, NoNegative, weight, count, Lowest}
+use Rattle.weighting_sums.specs.Weighting.{entry, placeSum, transitionSum, PlaceInvariant, TransitionInvariant, NoNegative, weight, count, Lowest}
 use Rattle.weighting.specs.Allowed.{Allowed}
 use Rattle.weighting.specs.Place.{placeOf, placeNumbers}
 use Rattle.weighting.specs.declared.PlaceWeighting.{PlaceWeighting}
@@ -16,11 +16,9 @@ use Rattle.weighting.specs.declared.PlaceWeighting.the-variants as place
 use Rattle.weighting.specs.Transition.{transitionOf, transitionNumbers}
 use Rattle.weighting.specs.declared.TransitionWeighting.{TransitionWeighting}
 use Rattle.weighting.specs.declared.TransitionWeighting.the-variants as transition
-use Rattle.weighting.specs.Bound.{boundOf, boundNumbers}
-use Rattle.weighting.specs.declared.Bound.{Bound}
-use Rattle.weighting.specs.declared.Bound.the-variants as bound
-use Rattle.weighting.proofs.Numbers.{place-numbers-apart, transition-numbers-apart, bound-numbers-apart}
-use Rattle.weighting.proofs.Meaning.{place-accepted, place-fails-at, transition-proper-if, transition-accepted, transition-fails-at, keeps-sum, never-reached, counts-return, bound-holds}
+use Rattle.weighting.proofs.Numbers.{place-numbers-apart, transition-numbers-apart}
+use Rattle.weighting.proofs.Meaning.{place-accepted, place-fails-at, transition-proper-if, transition-accepted, transition-fails-at}
+use Rattle.weighting_sums.proofs.Meaning.{keeps-sum, never-reached, counts-return}
 use Rattle.weighting.proofs.Exactly.{place-answered-allowed, transition-answered-allowed}
 
 -- `place_weighting`
@@ -86,8 +84,3 @@ module _ (net : Net) (x : List ℤ) (r : TransitionWeighting) (promise : transit
   -- a firing word in which each transition stands as often as a proper weighting says leads back to where it started
   pub proper-returns : r ≡ transition.Proper → (m w m′ : List ℕ) → ((t : ℕ) → t < net .transitions → entry x t ≡ pos (count w t)) → length m ≡ net .places → Fires net m w m′ → m′ ≡ m
   proper-returns e m w m′ c long f = counts-return x (transition-proper-exactly .0 e .1 .0) c long f
-
--- `place_bound`: the bound on a place holds at every reachable marking
-module _ (net : Net) (initial : List ℕ) (y : List ℤ) (p : ℕ) (r : Bound) (promise : boundNumbers r ≡ boundNumbers (boundOf net initial y p)) where
-  pub bounded-holds : (b : ℕ) → r ≡ bound.Bounded b → (m : List ℕ) → Reachable net initial m → tokens m p ≤ b
-  bounded-holds b e m f = bound-holds y p b (sym (bound-numbers-apart r (boundOf net initial y p) promise) ∙ e) f

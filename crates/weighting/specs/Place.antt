@@ -7,7 +7,8 @@ use lib.IntN.{ℤ}
 use Rattle.net.specs.Net.{Net}
 use Rattle.refusals.specs.declared.Fault.{Fault}
 use Rattle.refusals.specs.declared.Fault.the-variants.{Sound, Faulty}
-use Rattle.weighting.specs.Tests.{lowestTransition, weightingFault}
+use Rattle.weighting_sums.specs.Tests.{lowestTransition}
+use Rattle.weighting.specs.Tests.{weightingFault}
 use Rattle.weighting.specs.declared.PlaceWeighting.{PlaceWeighting}
 use Rattle.weighting.specs.declared.PlaceWeighting.the-variants.{Invariant, NotInvariant, Refused}
 

@@ -7,7 +7,8 @@ use lib.IntN.{ℤ}
 use Rattle.net.specs.Net.{Net}
 use Rattle.refusals.specs.declared.Fault.{Fault}
 use Rattle.refusals.specs.declared.Fault.the-variants.{Sound, Faulty}
-use Rattle.weighting.specs.Tests.{lowestPlace, hasNegative, weightingFault}
+use Rattle.weighting_sums.specs.Tests.{lowestPlace, hasNegative}
+use Rattle.weighting.specs.Tests.{weightingFault}
 use Rattle.weighting.specs.declared.TransitionWeighting.{TransitionWeighting}
 use Rattle.weighting.specs.declared.TransitionWeighting.the-variants.{NotInvariant, Invariant, Proper, Refused}
 

@@ -1,6 +1,6 @@
 use borrow.Author.Needs.{needs}
-use Rattle.weighting.specs.Bound.{boundNumbers}
-use Rattle.weighting.specs.declared.Bound.{Bound}
+use Rattle.weighting_bound.specs.Bound.{boundNumbers}
+use Rattle.weighting_bound.specs.declared.Bound.{Bound}
 use Rattle.c_weighting.specs.Handed.{handedBound}
 use Rattle.c_answer.proofs.Hand.{passed}
 use Rattle.c_weighting.proofs.of_bound.Statement.{statement}

@@ -1,7 +1,7 @@
 use mathlib.Core.List.{[], _∷_}
 use borrow.Author.Needs.{needs}
-use Rattle.weighting.specs.Bound.{causeNumber}
-use Rattle.weighting.specs.declared.NoBoundCause.{NoBoundCause}
+use Rattle.weighting_bound.specs.Bound.{causeNumber}
+use Rattle.weighting_bound.specs.declared.NoBoundCause.{NoBoundCause}
 use Rattle.c_weighting.specs.Handed.{handedBound}
 use Rattle.c_answer.proofs.Hand.{passed}
 use Rattle.c_weighting.proofs.of_no_bound.Statement.{statement}

@@ -1,0 +1,6 @@
+pub mod Allowed
+pub mod Answers
+pub mod Numbers
+pub mod Meaning
+pub mod Exactly
+pub mod Promise

@@ -1,0 +1,4 @@
+pub mod Weighting
+pub mod Tests
+pub mod Allowed
+pub mod Walk
