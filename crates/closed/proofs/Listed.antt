@@ -20,7 +20,7 @@ use Rattle.lists.specs.Match.{alike, matches, held}
 use Rattle.lists.specs.declared.Kind.the-variants.{Closed}
 use Rattle.lists.proofs.Somes.{some-first, some-none, some-is, is-none, none-at, none-first}
 use Rattle.lists.proofs.Wholes.{marking-long}
-use Rattle.list_check.specs.Look.{Ready, absent, missing}
+use Rattle.list_pairs.specs.Look.{Ready, absent, missing}
 use Rattle.closed.specs.Closed.{Listed, FiringAt, EnabledResultListed, AllEnable, DeadListed}
 use Rattle.closed.specs.Dead.{dead, someDead}
 

@@ -23,7 +23,7 @@ use Rattle.lists.specs.declared.ListAnswer.the-variants as list
 use Rattle.lists.specs.declared.ClaimAnswer.{ClaimAnswer}
 use Rattle.lists.proofs.Pairs.{accepted-looked, looked-accepted, looked-initial, looked-result, initial-looked, result-looked}
 use Rattle.lists.proofs.Wholes.{marking-end, marking-small}
-use Rattle.lists.proofs.Exactly.{entries-few}
+use Rattle.list_refusals.proofs.Exactly.{entries-few}
 use Rattle.lists.proofs.Answers.{numbers-apart, claim-numbers-apart}
 use Rattle.list_check.specs.Given.{givenFault, listOf, targetOf}
 use Rattle.list_check.specs.Allowed.{ListAllowed}

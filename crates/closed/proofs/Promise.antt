@@ -10,7 +10,8 @@ use lib.Dec.{eqb}
 use Rattle.net.specs.Net.{Net, capacity, tokens}
 use Rattle.net.specs.Firing.{Enabled, Reachable}
 use Rattle.refusals.specs.declared.Fault.the-variants.{Sound}
-use Rattle.lists.specs.Whole.{count, targetFault}
+use Rattle.lists.specs.Whole.{count}
+use Rattle.list_refusals.specs.Given.{targetFault}
 use Rattle.lists.specs.Answers.{numbers, claimNumbers}
 use Rattle.lists.specs.declared.Failure.the-variants.{InitialMissing, ResultMissing}
 use Rattle.lists.specs.declared.Kind.the-variants.{Closed}
@@ -19,7 +20,7 @@ use Rattle.lists.specs.declared.ListAnswer.the-variants as list
 use Rattle.lists.specs.declared.ClaimAnswer.{ClaimAnswer}
 use Rattle.lists.specs.declared.ClaimAnswer.the-variants as claim
 use Rattle.lists.proofs.Answers.{numbers-apart, claim-numbers-apart, shown-is, open-is, failed-is}
-use Rattle.list_check.specs.Look.{Ready}
+use Rattle.list_pairs.specs.Look.{Ready}
 use Rattle.list_check.specs.Given.{listOf, targetOf}
 use Rattle.list_check.specs.Allowed.{ListAllowed, TargetAllowed}
 use Rattle.list_check.proofs.Exactly.{list-sound, target-sound}

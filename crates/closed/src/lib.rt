@@ -13,7 +13,7 @@ ghost use Rattle.net.specs.Net.{netOf, Sized};
 ghost use Rattle.refusals.specs.declared.Fault.the-variants.{Sound};
 ghost use Rattle.lists.specs.Answers.{numbers, claimNumbers};
 ghost use Rattle.lists.specs.declared.Kind.the-variants.{Closed};
-ghost use Rattle.list_check.specs.Look.{Ready};
+ghost use Rattle.list_pairs.specs.Look.{Ready};
 ghost use Rattle.list_check.specs.Given.{listOf, targetOf};
 ghost use Rattle.closed.specs.Stall.{stallOf};
 ghost use Rattle.closed.specs.Dead.{enablesNone, dead, someDead};

@@ -18,8 +18,8 @@ use Rattle.lists.specs.Match.{beyond, covering, matches, held}
 use Rattle.lists.specs.declared.Kind.the-variants.{Cover}
 use Rattle.lists.proofs.Somes.{some-first, some-is, is-none, none-at}
 use Rattle.lists.proofs.Wholes.{marking-long}
-use Rattle.list_check.specs.Fire.{lacks, passesAny, afterAny, firedAny}
-use Rattle.list_check.specs.Look.{Ready, absent, missing}
+use Rattle.list_pairs.specs.Fire.{lacks, passesAny, afterAny, firedAny}
+use Rattle.list_pairs.specs.Look.{Ready, absent, missing}
 use Rattle.cover.specs.Number.{nat, entryNumber, listed, marking, CoversAt, CoversMarking, after}
 use Rattle.cover.specs.Cover.{CoverEnabled, resultAt, ListCovers, EnabledAt, ResultCovered}
 

@@ -10,7 +10,7 @@ use lib.Dec.{eqb}
 use Rattle.net.specs.Net.{Net}
 use Rattle.net.specs.Firing.{Reachable}
 use Rattle.refusals.specs.declared.Fault.the-variants.{Sound}
-use Rattle.lists.specs.Whole.{targetFault}
+use Rattle.list_refusals.specs.Given.{targetFault}
 use Rattle.lists.specs.Answers.{numbers, claimNumbers}
 use Rattle.lists.specs.declared.Failure.the-variants.{InitialMissing, ResultMissing}
 use Rattle.lists.specs.declared.Kind.the-variants.{Cover}

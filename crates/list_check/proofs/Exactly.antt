@@ -14,8 +14,9 @@ use Rattle.refusals.specs.First.{StartFirst}
 use Rattle.refusals.specs.declared.Fault.{Fault}
 use Rattle.refusals.specs.declared.Fault.the-variants.{Sound}
 use Rattle.refusals.proofs.Exactly.{Chain, Reads, reads-both, reads-all, start-reads, Answers, exactly-refused, is-answered, is-allowed}
-use Rattle.lists.specs.Whole.{count, whole, targetFault, listFault}
-use Rattle.lists.specs.Demands.{WholeMarkings, EntriesFirst, SizeFirst}
+use Rattle.lists.specs.Whole.{count}
+use Rattle.list_refusals.specs.Given.{whole, targetFault, listFault}
+use Rattle.list_refusals.specs.Demands.{WholeMarkings, EntriesFirst, SizeFirst}
 use Rattle.lists.specs.Match.{held}
 use Rattle.lists.specs.Answers.{claimOf}
 use Rattle.lists.specs.declared.Kind.{Kind}
@@ -23,8 +24,8 @@ use Rattle.lists.specs.declared.ListAnswer.the-variants as list
 use Rattle.lists.specs.declared.ClaimAnswer.the-variants as claim
 use Rattle.lists.proofs.Answers.{refused-claim}
 use Rattle.lists.proofs.Pairs.{looked-never}
-use Rattle.lists.proofs.Wholes.{whole-long}
-use Rattle.lists.proofs.Exactly.{none-reads, markings-of, of-markings, entries-reads, target-of, of-target, target-reads, size-reads}
+use Rattle.list_refusals.proofs.Wholes.{whole-long}
+use Rattle.list_refusals.proofs.Exactly.{none-reads, markings-of, of-markings, entries-reads, target-of, of-target, target-reads, size-reads}
 use Rattle.list_check.specs.Given.{givenFault, listOf, targetOf}
 use Rattle.list_check.specs.Allowed.{ListAllowed, ListRefused, TargetAllowed, TargetRefused}
 use Rattle.list_check.proofs.Refusals.{lent-of, of-lent}

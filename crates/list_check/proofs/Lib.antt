@@ -1,5 +1,3 @@
-pub mod Fires
-pub mod Lookups
 pub mod Refusals
 pub mod Targets
 pub mod Exactly

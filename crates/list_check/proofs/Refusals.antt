@@ -12,16 +12,17 @@ use Rattle.refusals.specs.declared.Fault.{Fault}
 use Rattle.refusals.specs.declared.Fault.the-variants.{Sound, Faulty}
 use Rattle.refusals.proofs.Chains.{or-sound, sound-or}
 use Rattle.refusals.proofs.Refusals.{start-met, met-start}
-use Rattle.lists.specs.Whole.{count, whole, entryFault, sizeFault, listFault}
+use Rattle.lists.specs.Whole.{count}
+use Rattle.list_refusals.specs.Given.{whole, entryFault, sizeFault, listFault}
 use Rattle.lists.specs.declared.Failure.{Failure}
 use Rattle.lists.specs.declared.Kind.{Kind}
 use Rattle.lists.specs.declared.Kind.the-variants.{Closed}
 use Rattle.lists.specs.declared.ListAnswer.{ListAnswer}
 use Rattle.lists.specs.declared.ListAnswer.the-variants.{Accepted, Failed, Refused}
-use Rattle.lists.specs.Demands.{EntriesFine, SomeMarkings}
-use Rattle.lists.proofs.Wholes.{whole-long}
-use Rattle.lists.proofs.Exactly.{of-markings, entries-of, of-entries, size-of, of-size}
-use Rattle.list_check.specs.Look.{Ready, looked}
+use Rattle.list_refusals.specs.Demands.{EntriesFine, SomeMarkings}
+use Rattle.list_refusals.proofs.Wholes.{whole-long}
+use Rattle.list_refusals.proofs.Exactly.{of-markings, entries-of, of-entries, size-of, of-size}
+use Rattle.list_pairs.specs.Look.{Ready, looked}
 use Rattle.list_check.specs.Given.{givenFault, answered, listOf}
 
 -- which refusal of a net, its initial marking and a list

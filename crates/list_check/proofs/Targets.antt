@@ -7,7 +7,8 @@ use lib.ListN.{length}
 use lib.Dec.{eqb}
 use Rattle.net.specs.Net.{Net}
 use Rattle.refusals.specs.declared.Fault.{Fault}
-use Rattle.lists.specs.Whole.{count, targetFault}
+use Rattle.lists.specs.Whole.{count}
+use Rattle.list_refusals.specs.Given.{targetFault}
 use Rattle.lists.specs.Match.{held}
 use Rattle.lists.specs.declared.Failure.{Failure}
 use Rattle.lists.specs.declared.Kind.{Kind}

@@ -7,7 +7,7 @@ use lib.ListN.{length}
 use Rattle.net.specs.Net.{Net, Sized}
 use Rattle.refusals.specs.Given.{Fine}
 use Rattle.refusals.specs.First.{StartFirst}
-use Rattle.lists.specs.Demands.{WholeMarkings, EntriesFine, TargetFine, SomeMarkings, EntriesFirst, TargetFirst, SizeFirst}
+use Rattle.list_refusals.specs.Demands.{WholeMarkings, EntriesFine, TargetFine, SomeMarkings, EntriesFirst, TargetFirst, SizeFirst}
 use Rattle.lists.specs.declared.Kind.{Kind}
 use Rattle.lists.specs.declared.Kind.the-variants.{Closed}
 

@@ -8,14 +8,15 @@ use Rattle.net.specs.Net.{Net}
 use Rattle.refusals.specs.Given.{orElse, startFault}
 use Rattle.refusals.specs.declared.Fault.{Fault}
 use Rattle.refusals.specs.declared.Fault.the-variants.{Sound, Faulty}
-use Rattle.lists.specs.Whole.{count, whole, targetFault, listFault}
+use Rattle.lists.specs.Whole.{count}
+use Rattle.list_refusals.specs.Given.{whole, targetFault, listFault}
 use Rattle.lists.specs.Match.{held}
 use Rattle.lists.specs.Answers.{claimOf}
 use Rattle.lists.specs.declared.Kind.{Kind}
 use Rattle.lists.specs.declared.ListAnswer.{ListAnswer}
 use Rattle.lists.specs.declared.ListAnswer.the-variants.{Refused}
 use Rattle.lists.specs.declared.ClaimAnswer.{ClaimAnswer}
-use Rattle.list_check.specs.Look.{looked}
+use Rattle.list_pairs.specs.Look.{looked}
 
 -- 1, 2, then 3 in the initial marking and the others, then 9; `fits` tells whether the length of what follows the list agrees
 -- with the counts, `next` is its 3

@@ -1,4 +1,2 @@
-pub mod Fire
-pub mod Look
 pub mod Given
 pub mod Allowed

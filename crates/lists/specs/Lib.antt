@@ -1,6 +1,5 @@
 pub mod Some
 pub mod Whole
-pub mod Demands
 pub mod Answers
 pub mod Match
 pub mod Pairs

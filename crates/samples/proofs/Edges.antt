@@ -6,13 +6,13 @@ use Rattle.ground.specs.Lists.{first, tally, mapAt}
 use Rattle.refusals.specs.Given.{countsFault, markingFault, startFault}
 use Rattle.refusals.specs.declared.Fault.the-variants.{Sound}
 use Rattle.lists.specs.Some.{some, none}
-use Rattle.lists.specs.Whole.{firstBad, entryFault, sizeFault, listFault}
+use Rattle.list_refusals.specs.Given.{firstBad, entryFault, sizeFault, listFault}
 use Rattle.lists.specs.Match.{matches}
 use Rattle.lists.specs.Pairs.{resultsOf, lookedOf}
 use Rattle.lists.specs.declared.Kind.the-variants.{Closed}
 use Rattle.lists.specs.declared.Failure.the-variants.{ResultMissing}
 use Rattle.lists.specs.declared.ListAnswer.the-variants.{Accepted, Failed}
-use Rattle.list_check.specs.Look.{absent}
+use Rattle.list_pairs.specs.Look.{absent}
 use Rattle.list_check.specs.Given.{givenFault, listOf}
 use Rattle.samples.specs.Samples.{net, initial}
 use Rattle.samples.specs.Edges.{allTwelve, struckOut}

@@ -27,12 +27,12 @@ use Rattle.sets.proofs.Allowed.{allowed-of}
 use Rattle.sets.proofs.Meaning.{siphon-accepted, trap-accepted}
 use Rattle.sets.specs.Answer.{touches, escapes, setFault}
 use Rattle.lists.specs.Some.{some, none}
-use Rattle.lists.specs.Whole.{targetFault, firstBad, entryFault, sizeFault, listFault}
+use Rattle.list_refusals.specs.Given.{targetFault, firstBad, entryFault, sizeFault, listFault}
 use Rattle.lists.specs.Answers.{claimOf}
 use Rattle.lists.specs.Match.{matches}
 use Rattle.lists.specs.declared.ClaimAnswer.the-variants as claim
 use Rattle.lists.specs.Pairs.{resultsOf, lookedOf}
-use Rattle.list_check.specs.Look.{absent}
+use Rattle.list_pairs.specs.Look.{absent}
 use Rattle.list_check.specs.Given.{givenFault, listOf}
 use Rattle.cover.specs.Cover.{Coverable}
 use Rattle.cover.proofs.Promise.{shown-never-covered}

@@ -5,7 +5,7 @@ use Rattle.ground.proofs.Scan.{Below, scans}
 use Rattle.net.specs.Net.{netOf}
 use Rattle.net.specs.Letter.{arcsAt, passes}
 use Rattle.lists.proofs.Somes.{somes}
-use Rattle.list_check.proofs.Fires.{small-as}
+use Rattle.list_pairs.proofs.Fires.{small-as}
 use Rattle.closed.proofs.Deads.{none-as}
 use borrow.Author.Needs.{needs}
 use Rattle.closed.proofs.enables_none.Statement.{statement}

@@ -1,0 +1,39 @@
+use Rattle.list_pairs.proofs.Lookups.{found-closed, found-cover}
+use borrow.Author.Needs.{needs}
+use Rattle.list_pairs.proofs.fill_index.Statement.{statement}
+use Rattle.list_pairs.proofs.fill_index.Tie as tie
+
+enum-told : tie.Need-enum-told
+enum-told c = search needs
+
+make-index-requires : tie.Need-make-index-requires
+make-index-requires c κs = search needs
+
+enum-told-2 : tie.Need-enum-told-2
+enum-told-2 c = search needs
+
+same-length : tie.Need-same-length
+same-length c = search needs
+
+same-length-2 : tie.Need-same-length-2
+same-length-2 c = search needs
+
+returns : tie.Need-returns
+returns c =
+    let m : tie.After-make-index = search needs in
+    found-closed _ _ _ _ _ _ (m .make-index .ensures)
+
+returns-2 : tie.Need-returns-2
+returns-2 c = found-cover _ _ _ _ _ _ (search needs)
+
+pub fill-index-spec : {M : Type 1} → statement M
+fill-index-spec =
+    tie.close
+    (tie.spec
+    enum-told
+    make-index-requires
+    enum-told-2
+    same-length
+    same-length-2
+    returns
+    returns-2)

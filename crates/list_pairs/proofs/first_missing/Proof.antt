@@ -1,0 +1,93 @@
+use mathlib.Core.Logic.{⊎-elim}
+use native.Mathlib.Omega.{arith}
+use denote.Ref.{now}
+use Prim.Native.Nat.{_≤_, _-_}
+use Rattle.net.specs.Net.{Net, netOf}
+use Rattle.ground.proofs.Scan.{Below, scans}
+use Rattle.lists.specs.Pairs.{fails}
+use Rattle.lists.proofs.Pairs.{results-found, marking-passes, results-none}
+use Rattle.list_pairs.specs.Look.{missing}
+use borrow.Author.Needs.{needs}
+use Rattle.list_pairs.proofs.first_missing.Statement.{statement}
+use Rattle.list_pairs.proofs.first_missing.Tie as tie
+
+abbrev Inv-loop : tie.InvT-loop
+Inv-loop kind places transitions pre post caps list count heads links k t₀ t = (t ≤ transitions) × Below (missing kind (netOf places transitions pre post caps) count list k) t
+
+abbrev μ-loop : tie.MeasureT-loop
+μ-loop kind places transitions pre post caps list count heads links k t₀ t = transitions - t
+
+abbrev Inv-markings : tie.InvT-markings
+Inv-markings kind places transitions pre post caps list count heads links k₀ t₀ k t = (k ≤ count) × Below (fails (missing kind (netOf places transitions pre post caps) count list) transitions) k
+
+abbrev μ-markings : tie.MeasureT-markings
+μ-markings kind places transitions pre post caps list count heads links k₀ t₀ k t = count - k
+
+-- the net at the function's entry
+at : tie.Start Inv-loop μ-loop Inv-markings μ-markings → Net
+at s = netOf (s .args .places) (s .args .transitions) (now (s .args .pre)) (now (s .args .post)) (now (s .args .caps))
+
+markings-holds : tie.Need-markings-holds Inv-loop μ-loop Inv-markings μ-markings
+markings-holds c = search (scans, needs)
+
+loop-holds : tie.Need-loop-holds Inv-loop μ-loop Inv-markings μ-markings
+loop-holds c = search (scans, needs)
+
+is-missing-requires : tie.Need-is-missing-requires Inv-loop μ-loop Inv-markings μ-markings
+is-missing-requires c κs = search needs
+
+add-t : tie.Need-add-t Inv-loop μ-loop Inv-markings μ-markings
+add-t c = search needs
+
+loop-less : tie.Need-loop-less Inv-loop μ-loop Inv-markings μ-markings
+loop-less c = search needs
+
+loop-again : tie.Need-loop-again Inv-loop μ-loop Inv-markings μ-markings
+loop-again c = search (scans, needs)
+
+add-k : tie.Need-add-k Inv-loop μ-loop Inv-markings μ-markings
+add-k c = search needs
+
+markings-less : tie.Need-markings-less Inv-loop μ-loop Inv-markings μ-markings
+markings-less c = search needs
+
+markings-again : tie.Need-markings-again Inv-loop μ-loop Inv-markings μ-markings
+unfolding at
+markings-again c =
+    let s : tie.Start Inv-loop μ-loop Inv-markings μ-markings = search needs in
+    let m = c .before .before .before .markings in
+    let l = c .before .loop in
+    (search needs, marking-passes (missing (s .args .kind) (at s) (s .args .count) (now (s .args .list))) (s .args .transitions) (m .k) (m .inv .1) (l .t) (l .inv .1) (l .inv .0) (c .loop-test .left))
+
+returns : tie.Need-returns Inv-loop μ-loop Inv-markings μ-markings
+unfolding at
+returns c =
+    let s : tie.Start Inv-loop μ-loop Inv-markings μ-markings = search needs in
+    let m = c .before .before .markings in
+    ⊎-elim
+    (λ w. absurd (omega (arith, w .0 .left, c .if2 .taken)))
+    (λ w. rw (w .5) (results-found (missing (s .args .kind) (at s) (s .args .count) (now (s .args .list))) (s .args .transitions) (m .k) (m .inv .1) (s .args .count) (w .1 .t) (w .1 .inv .1) _ (w .3 .ensures) (w .4 .taken) (c .if2 .taken) (w .2 .taken)))
+    (c .before .markings-test .came)
+
+returns-2 : tie.Need-returns-2 Inv-loop μ-loop Inv-markings μ-markings
+returns-2 c = search (results-none, needs)
+
+pub first-missing-spec : {M : Type 1} → statement M
+first-missing-spec =
+    tie.close
+    (tie.spec
+    Inv-loop
+    μ-loop
+    Inv-markings
+    μ-markings
+    markings-holds
+    loop-holds
+    is-missing-requires
+    add-t
+    loop-less
+    loop-again
+    add-k
+    markings-less
+    markings-again
+    returns
+    returns-2)

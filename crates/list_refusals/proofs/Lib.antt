@@ -1,0 +1,3 @@
+pub mod Wholes
+pub mod Entries
+pub mod Exactly
