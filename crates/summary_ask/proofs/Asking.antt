@@ -14,9 +14,9 @@ use Rattle.refusals.specs.declared.Fault.{Fault}
 use Rattle.refusals.specs.declared.Fault.the-variants.{Sound, Faulty}
 use Rattle.refusals.proofs.Chains.{or-sound, sound-or, sound-refuse}
 use Rattle.refusals.proofs.Refusals.{marked-met, met-marked, inside-is}
-use Rattle.summary_place.specs.Asked.{lowestNo, ends, Suffices}
+use Rattle.summary_asked.specs.Asked.{lowestNo, ends, Suffices}
 use Rattle.summary_place.specs.declared.Slot.{Slot}
-use Rattle.summary_place.proofs.Tests.{suffices-of, of-suffices}
+use Rattle.summary_asked.proofs.Tests.{suffices-of, of-suffices}
 use Rattle.summary_form.specs.Summary.{shapeFault}
 use Rattle.summary_ask.specs.Ask.{askFault, saysYes, askAnswer, askedNumbers, Replied}
 use Rattle.summary_ask.specs.Allowed.{AskAllowed}

@@ -22,7 +22,7 @@ use Rattle.replay.specs.declared.Replay.the-variants.{Fired}
 use Rattle.replay.proofs.Meaning.{fired-means, fires-fired}
 use Rattle.summary_place.specs.Place.{letterAt, change}
 use Rattle.summary_place.specs.Slots.{nil, slotOf, slotsOf}
-use Rattle.summary_place.specs.Asked.{endAt, ends, Suffices}
+use Rattle.summary_asked.specs.Asked.{endAt, ends, Suffices}
 use Rattle.summary_place.specs.declared.Slot.{Slot}
 use Rattle.summary_place.proofs.Words.{need-peak, climb-peak}
 use Rattle.summary_place.proofs.Firing.{fires-then, then-fires}

@@ -11,7 +11,7 @@ use Rattle.refusals.specs.Given.{refuse, orElse, outside, markedFault}
 use Rattle.refusals.specs.declared.Fault.{Fault}
 use Rattle.refusals.specs.declared.Fault.the-variants.{Sound, Faulty}
 use Rattle.summary_place.specs.Place.{letterAt, need, prefixClimb}
-use Rattle.summary_place.specs.Asked.{lowestNo, ends, SufficesAt}
+use Rattle.summary_asked.specs.Asked.{lowestNo, ends, SufficesAt}
 use Rattle.summary_place.specs.declared.Slot.{Slot}
 use Rattle.summary_form.specs.Summary.{shapeFault}
 use Rattle.summary_form.specs.declared.Summary.{Summary}

@@ -63,11 +63,11 @@ fn ask_slots(slots: [Slot; COUNT_LIMIT], caps: &[u16], marking: &[u16], room: &m
     requires { ⌜ Wells slotLimit slots ⌝ }
     ensures { λ r. ⌜ SlotsAsked slots (now (caps .entry)) (now (marking .entry)) (now (room .entry)) r (now (room .exit)) ⌝ }
 {
-    let p = summary_place::lowest_no(slots, caps, marking);
+    let p = summary_asked::lowest_no(slots, caps, marking);
     if p < marking.len() {
         return Asked::No;
     }
-    summary_place::write_end(slots, marking, room);
+    summary_asked::write_end(slots, marking, room);
     Asked::Yes
 }
 

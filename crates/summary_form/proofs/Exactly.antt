@@ -10,7 +10,7 @@ use Rattle.refusals.specs.declared.Fault.the-variants.{Sound}
 use Rattle.refusals.proofs.Exactly as law
 use Rattle.refusals.proofs.Exactly.{Reads, tells-as, tells-test, tells-scan, reads-test, reads-both}
 use Rattle.summary_place.specs.Slots.{nil, badAt}
-use Rattle.summary_place.proofs.Tests.{not-bad, well-not}
+use Rattle.summary_slots.proofs.Tests.{not-bad, well-not}
 use Rattle.summary_form.specs.Summary.{refusal, made, summed, Answers, shapeFault, FormedAt, SlotsFormed}
 use Rattle.summary_form.specs.Allowed.{FormedFirst}
 use Rattle.summary_form.specs.declared.Summary.{Summary}

@@ -19,7 +19,7 @@ use Rattle.summary_place.specs.Slots.{nil, slotOf, slotAt}
 use Rattle.summary_place.specs.Walk.{Well}
 use Rattle.summary_place.specs.declared.Slot.{Slot}
 use Rattle.summary_place.proofs.Words.{slot-well}
-use Rattle.summary_place.proofs.Tests.{wells-of, nil-well}
+use Rattle.summary_slots.proofs.Tests.{wells-of, nil-well}
 use Rattle.summary_form.specs.Summary.{summaryOf, emptySummary, shapeFault, FormedAt, WellFormed, Count}
 use Rattle.summary_form.specs.declared.Summary.{Summary}
 use Rattle.summary_form.proofs.Shapes.{shape-sound, sound-shape}

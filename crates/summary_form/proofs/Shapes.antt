@@ -14,7 +14,7 @@ use Rattle.refusals.specs.declared.Fault.the-variants.{Sound, Faulty}
 use Rattle.refusals.proofs.Chains.{or-sound, sound-or, refuse-sound, sound-refuse}
 use Rattle.summary_place.specs.Slots.{nil}
 use Rattle.summary_place.specs.Walk.{slotLimit, Well, Wells}
-use Rattle.summary_place.proofs.Tests.{of-wells, wells}
+use Rattle.summary_slots.proofs.Tests.{of-wells, wells}
 use Rattle.summary_form.specs.Summary.{badOf, shapeFault}
 use Rattle.summary_form.specs.declared.Summary.{Summary}
 

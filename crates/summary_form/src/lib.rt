@@ -60,7 +60,7 @@ pub fn shape_fault(s: Summary) -> Fault
     if WORD_LIMIT < letters as usize {
         return Fault::Faulty(6, 0);
     }
-    let p = summary_place::bad_slot(places, WEIGHT_LIMIT * letters, slots);
+    let p = summary_slots::bad_slot(places, WEIGHT_LIMIT * letters, slots);
     if p < COUNT_LIMIT {
         Fault::Faulty(6, p)
     } else {

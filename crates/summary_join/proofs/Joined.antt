@@ -16,7 +16,7 @@ use Rattle.summary_place.specs.Slots.{nil, slotOf, slotAt, slotsOf, joined, joi
 use Rattle.summary_place.specs.Walk.{Well}
 use Rattle.summary_place.specs.declared.Slot.{Slot}
 use Rattle.summary_place.proofs.Words.{slot-append}
-use Rattle.summary_place.proofs.Joins.{joined-well, nil-joined, joined-nil, all-length, all-at, all-assoc}
+use Rattle.summary_slots.proofs.Joins.{joined-well, nil-joined, joined-nil, all-length, all-at, all-assoc}
 use Rattle.summary_form.specs.Summary.{summaryOf, emptySummary}
 use Rattle.summary_join.specs.Join.{joinSummary}
 use Rattle.summary_form.specs.declared.Summary.{Summary}

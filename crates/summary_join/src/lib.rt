@@ -67,7 +67,7 @@ pub fn join_summaries(a: Summary, b: Summary) -> Summed
             let before = a.slots;
             let after = b.slots;
             let letters = first + second;
-            let slots = summary_place::join_slots(before, after);
+            let slots = summary_slots::join_slots(before, after);
             Summed {
                 answer: Made::Done,
                 summary: Summary {

@@ -1,4 +1,3 @@
 pub mod Place
 pub mod Slots
-pub mod Asked
 pub mod Walk

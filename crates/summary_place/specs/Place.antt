@@ -30,7 +30,7 @@ change at (t ∷ w) = (pos (at t .puts) -ℤ pos (at t .takes)) +ℤ change at w
 unfoldable pub need : (ℕ → Move) → List ℕ → ℕ
 need at w = most (length w) (λ i. up (pos (letterOf at w i .takes) -ℤ change at (take i w)))
 
--- the largest of 0 and, for each letter with u before it, change(u) + its rise; for 001's rule this is 01's climb, `prefixClimb` (`climb-published` in summary)
+-- the largest of 0 and, for each letter with u before it, change(u) + its rise; for 001's rule this is 01's climb, `prefixClimb` (`climb-published` in summary_form)
 unfoldable pub climb : (ℕ → Move) → List ℕ → ℕ
 climb at w = most (length w) (λ i. up (change at (take i w) +ℤ pos (letterOf at w i .rise)))
 

@@ -1,7 +1,7 @@
 -- Only for the code's walk, no answer is made of it: the form in which numbers are computed, and bounds that keep them inside 32 bits.
 use Prim.Native.Nat.{ℕ, _+_, _-_, _*_, _≤_, _<_, max}
 use mathlib.Core.List.{List}
-use lib.ListN.{length, getD}
+use lib.ListN.{getD}
 use Rattle.ground.specs.Limits.{countLimit, weightLimit, wordLimit}
 use Rattle.ground.specs.Parts.{up, dn}
 use Rattle.summary_place.specs.Slots.{nil}
@@ -25,7 +25,3 @@ pub record Well (cap : ℕ) (s : Slot) : Type 0 where
 -- all slots are
 pub record Wells (cap : ℕ) (slots : List Slot) : Type 0 where
   pub at : (p : ℕ) → p < countLimit → Well cap (getD slots p nil)
-
--- every place has what its slot needs
-pub record NeedsMet (slots : List Slot) (m : List ℕ) : Type 0 where
-  pub at : (p : ℕ) → p < length m → getD slots p nil .need ≤ getD m p 0

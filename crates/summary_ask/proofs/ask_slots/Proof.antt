@@ -1,5 +1,5 @@
 use Rattle.summary_ask.proofs.Asking.{slots-answers}
-use Rattle.summary_place.proofs.Tests.{needs-met}
+use Rattle.summary_asked.proofs.Tests.{needs-met}
 use borrow.Author.Needs.{needs}
 use Rattle.summary_ask.proofs.ask_slots.Statement.{statement}
 use Rattle.summary_ask.proofs.ask_slots.Tie as tie

@@ -4,7 +4,6 @@ use native.Mathlib.Omega.{arith}
 use lib.ListN.{replicate}
 use lib.IntN.{pos}
 use Rattle.ground.specs.Limits.{countLimit}
-use Rattle.summary_place.specs.declared.Slot.{Slot}
 use Rattle.summary_place.proofs.no_slots.Statement.{statement}
 use Rattle.summary_place.proofs.no_slots.Tie as tie
 

@@ -1,23 +1,22 @@
--- Laws of the tests on slots: what a slot that is not bad has, and what no place's no says. Assumes nothing.
-use Prim.Native.Nat.{ℕ, _+_, _≤_, _<_, zero-le}
-use mathlib.Core.Path.{_≡_, refl, _∙_}
-use mathlib.Core.Bool.{Bool, true, false, cond, _&&_}
+-- Laws of the tests on slots: what a slot that is not bad has. Assumes nothing.
+use Prim.Native.Nat.{ℕ, _≤_, _<_, zero-le}
+use mathlib.Core.Path.{_≡_, _∙_}
+use mathlib.Core.Bool.{Bool, true, false, cond}
 use mathlib.Core.List.{List}
 use native.Mathlib.Omega.{arith}
-use lib.ListN.{length, getD}
+use lib.ListN.{getD}
 use lib.Dec.{ltb}
 use mir.Syntax.{w32}
 use mir.Val.{SFits, toZ, ofZ}
-use borrow.Author.Tests.{lt-ltb, le-ltb, ltb-true, ltb-false}
-use Rattle.ground.specs.Limits.{countLimit, noCapacity}
+use borrow.Author.Tests.{lt-ltb, le-ltb, ltb-false}
+use Rattle.ground.specs.Limits.{countLimit}
 use Rattle.ground.specs.Parts.{up, dn}
 use Rattle.ground.proofs.Tests.{or-false, both-false}
 use Rattle.ground.proofs.Scan.{first-below, first-none}
 use Rattle.summary_place.specs.Slots.{nil, slotBad, badAt, badSlot}
-use Rattle.summary_place.specs.Asked.{noAt, lowestNo, SufficesAt, Suffices}
-use Rattle.summary_place.specs.Walk.{Well, Wells, NeedsMet}
+use Rattle.summary_place.specs.Walk.{Well, Wells}
 use Rattle.summary_place.specs.declared.Slot.{Slot}
 use Rattle.summary_place.proofs.Border.{up-read, dn-read}
 
 pub not-bad : (cap : ℕ) (s : Slot) → slotBad cap s ≡ false → Well cap s
 unfolding slotBad
@@ -91,41 +90,3 @@ module _ (places cap : ℕ) (slots : List Slot) where
 
   pub wells : (limit : ℕ) → cap ≤ limit → countLimit ≤ badSlot places cap slots → Wells limit slots
   wells limit h b = record { at = λ p l. well-more _ limit _ (omega (arith, cap-low places cap p)) (wells-of b p l) }
-
--- one place's answer
-pub no-short : (need climb cap tokens : ℕ) → tokens < need → true ≡ noAt need climb cap tokens
-no-short need climb cap tokens h = rw (lt-ltb tokens need h)
-
-pub no-capped : (need climb cap tokens : ℕ) → need ≤ tokens → cap < noCapacity → ltb cap (tokens + climb) ≡ noAt need climb cap tokens
-no-capped need climb cap tokens h l = rw (le-ltb tokens need h, lt-ltb cap noCapacity l)
-
-pub no-free : (need climb cap tokens : ℕ) → need ≤ tokens → noCapacity ≤ cap → false ≡ noAt need climb cap tokens
-no-free need climb cap tokens h l = rw (le-ltb tokens need h, le-ltb cap noCapacity l)
-
-pub ruleset noes = (no-short, no-capped, no-free)
-
--- a place does not say no exactly where its tokens suffice
-pub yes-at : (need climb cap tokens : ℕ) → noAt need climb cap tokens ≡ false → SufficesAt need climb cap tokens
-yes-at need climb cap tokens e =
-    let a = or-false (ltb tokens need) _ e in
-    record { covers = ltb-false tokens need (a .0); keeps = λ h. ltb-false cap (tokens + climb) (rw (lt-ltb cap noCapacity h) at (a .1)) }
-
-pub at-yes : (need climb cap tokens : ℕ) → SufficesAt need climb cap tokens → noAt need climb cap tokens ≡ false
-at-yes need climb cap tokens s = both-false _ _ (le-ltb tokens need (s .covers)) (go (ltb cap noCapacity) refl)
-  where
-    go : (b : Bool) → ltb cap noCapacity ≡ b → (b && ltb cap (tokens + climb)) ≡ false
-    go true q = le-ltb cap (tokens + climb) (s .keeps (ltb-true cap noCapacity q))
-    go false q = refl
-
--- no place says no exactly where the marking suffices
-pub suffices-of : (slots : List Slot) (caps m : List ℕ) → length m ≤ lowestNo slots caps m → Suffices slots caps m
-suffices-of slots caps m h =
-    record { at = λ p l. yes-at (getD slots p nil .need) (getD slots p nil .climb) (getD caps p 0) (getD m p 0) (first-below (λ p. noAt (getD slots p nil .need) (getD slots p nil .climb) (getD caps p 0) (getD m p 0)) (length m) p (omega arith)) }
-
-pub of-suffices : (slots : List Slot) (caps m : List ℕ) → Suffices slots caps m → lowestNo slots caps m ≡ length m
-of-suffices slots caps m s =
-    first-none (λ p. noAt (getD slots p nil .need) (getD slots p nil .climb) (getD caps p 0) (getD m p 0)) (length m)
-    (λ p h. at-yes (getD slots p nil .need) (getD slots p nil .climb) (getD caps p 0) (getD m p 0) (s .at p h))
-
-pub needs-met : (slots : List Slot) (caps m : List ℕ) (r : ℕ) → r ≡ lowestNo slots caps m → length m ≤ r → NeedsMet slots m
-needs-met slots caps m r e h = let s = suffices-of slots caps m (omega arith) in record { at = λ p l. s .at p l .covers }

@@ -1,13 +1,13 @@
 use native.Mathlib.Omega.{arith}
 use Rattle.summary_place.specs.Slots.{nil}
 use Prim.Native.Nat.{_≤_, _-_}
 use lib.ListN.{length, getD}
 use Rattle.ground.proofs.Scan.{Below, scans}
-use Rattle.summary_place.specs.Asked.{noAt}
+use Rattle.summary_asked.specs.Asked.{noAt}
 use Rattle.summary_place.specs.Walk.{slotLimit, Wells}
 use borrow.Author.Needs.{needs}
-use Rattle.summary_place.proofs.lowest_no.Statement.{statement}
-use Rattle.summary_place.proofs.lowest_no.Tie as tie
+use Rattle.summary_asked.proofs.lowest_no.Statement.{statement}
+use Rattle.summary_asked.proofs.lowest_no.Tie as tie
 
 abbrev Inv-loop : tie.InvT-loop
 Inv-loop caps marking slots p₀ p =

@@ -1,7 +1,7 @@
-use Rattle.summary_place.proofs.Tests.{bounds}
+use Rattle.summary_slots.proofs.Tests.{bounds}
 use borrow.Author.Needs.{needs}
-use Rattle.summary_place.proofs.is_bad_at.Statement.{statement}
-use Rattle.summary_place.proofs.is_bad_at.Tie as tie
+use Rattle.summary_slots.proofs.is_bad_at.Statement.{statement}
+use Rattle.summary_slots.proofs.is_bad_at.Tie as tie
 
 is-bad-requires : tie.Need-is-bad-requires
 is-bad-requires c κs = search needs

@@ -1,7 +1,7 @@
-use Rattle.summary_place.proofs.Tests.{noes}
+use Rattle.summary_asked.proofs.Tests.{noes}
 use borrow.Author.Needs.{needs}
-use Rattle.summary_place.proofs.is_no.Statement.{statement}
-use Rattle.summary_place.proofs.is_no.Tie as tie
+use Rattle.summary_asked.proofs.is_no.Statement.{statement}
+use Rattle.summary_asked.proofs.is_no.Tie as tie
 
 returns : tie.Need-returns
 returns c = search (noes, needs)

@@ -1,14 +1,14 @@
 use Rattle.summary_place.specs.Slots.{nil, joined}
 use Rattle.summary_place.specs.Walk.{slotLimit, Wells}
-use Rattle.summary_place.proofs.Joins.{joining, joins-end}
-use Rattle.summary_place.proofs.Tests.{well-at}
+use Rattle.summary_slots.proofs.Joins.{joining, joins-end}
+use Rattle.summary_slots.proofs.Tests.{well-at}
 use Prim.Native.Nat.{_-_}
 use lib.ListN.{getD}
 use Rattle.ground.specs.Limits.{countLimit}
 use Rattle.ground.proofs.Fill.{Filled, fills}
 use borrow.Author.Needs.{needs}
-use Rattle.summary_place.proofs.join_slots.Statement.{statement}
-use Rattle.summary_place.proofs.join_slots.Tie as tie
+use Rattle.summary_slots.proofs.join_slots.Statement.{statement}
+use Rattle.summary_slots.proofs.join_slots.Tie as tie
 
 abbrev Inv-loop : tie.InvT-loop
 Inv-loop b r₀ p₀ r p = Filled nil (λ k x. joined x (getD b k nil)) r₀ p r

@@ -5,12 +5,12 @@ use lib.IntN.{subℕ}
 use mir.Syntax.{w32}
 use mir.Facts.{toZ-ofZ}
 use Rattle.ground.proofs.Parts.{sum-sub}
 use Rattle.summary_place.specs.Walk.{step}
 use Rattle.summary_place.proofs.Border.{change-fits, up-read, dn-read}
-use Rattle.summary_place.proofs.Joins.{joined-is}
+use Rattle.summary_slots.proofs.Joins.{joined-is}
 use borrow.Author.Needs.{needs}
-use Rattle.summary_place.proofs.join_slot.Statement.{statement}
-use Rattle.summary_place.proofs.join_slot.Tie as tie
+use Rattle.summary_slots.proofs.join_slot.Statement.{statement}
+use Rattle.summary_slots.proofs.join_slot.Tie as tie
 
 up-part-requires : tie.Need-up-part-requires
 up-part-requires c κs = search needs

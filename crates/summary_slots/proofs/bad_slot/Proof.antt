@@ -2,10 +2,10 @@ use Prim.Native.Nat.{_≤_, _-_}
 use lib.ListN.{getD}
 use Rattle.ground.specs.Limits.{countLimit}
 use Rattle.ground.proofs.Scan.{Below, scans}
 use Rattle.summary_place.specs.Slots.{nil, badAt}
 use borrow.Author.Needs.{needs}
-use Rattle.summary_place.proofs.bad_slot.Statement.{statement}
-use Rattle.summary_place.proofs.bad_slot.Tie as tie
+use Rattle.summary_slots.proofs.bad_slot.Statement.{statement}
+use Rattle.summary_slots.proofs.bad_slot.Tie as tie
 
 abbrev Inv-loop : tie.InvT-loop
 Inv-loop places cap slots p₀ p = (p ≤ countLimit) × Below (λ p. badAt places cap p (getD slots p nil)) p

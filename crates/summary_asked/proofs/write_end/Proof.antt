@@ -1,17 +1,18 @@
 use denote.Ref.{now}
 use native.Mathlib.Omega.{arith}
-use Rattle.summary_place.specs.Asked.{endAt}
+use Rattle.summary_asked.specs.Asked.{endAt}
 use Prim.Native.Nat.{ℕ, _-_, _≤_}
 use mathlib.Core.Path.{_≡_, _∙_}
 use mathlib.Core.List.{List}
 use Rattle.ground.specs.Lists.{table}
 use Rattle.ground.proofs.Fill.{Made, makes, make-end}
 use lib.ListN.{length, getD}
 use Rattle.summary_place.specs.Slots.{nil}
-use Rattle.summary_place.specs.Walk.{NeedsMet, slotLimit, Wells}
+use Rattle.summary_asked.specs.Walk.{NeedsMet}
+use Rattle.summary_place.specs.Walk.{slotLimit, Wells}
 use borrow.Author.Needs.{needs}
-use Rattle.summary_place.proofs.write_end.Statement.{statement}
-use Rattle.summary_place.proofs.write_end.Tie as tie
+use Rattle.summary_asked.proofs.write_end.Statement.{statement}
+use Rattle.summary_asked.proofs.write_end.Tie as tie
 
 filled : (f : ℕ → ℕ) (l r₀ : List ℕ) (p : ℕ) (r : List ℕ) → Made 0 f r₀ p r → length r₀ ≡ length l → length r ≤ p → r ≡ table f (length l)
 filled f l r₀ p r m e h = make-end 0 f r₀ p r m h ∙ rw e

@@ -1,10 +1,10 @@
 use Prim.Native.Nat.{ℕ, _+_, _-_}
 use mathlib.Core.Path.{ap₂, _∙_}
 use native.Mathlib.Omega.{arith}
 use Rattle.summary_place.proofs.Border.{change-fits, up-read, dn-read}
 use borrow.Author.Needs.{needs}
-use Rattle.summary_place.proofs.end_at.Statement.{statement}
-use Rattle.summary_place.proofs.end_at.Tie as tie
+use Rattle.summary_asked.proofs.end_at.Statement.{statement}
+use Rattle.summary_asked.proofs.end_at.Tie as tie
 
 up-part-requires : tie.Need-up-part-requires
 up-part-requires c κs = search needs

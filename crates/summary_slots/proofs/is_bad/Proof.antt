@@ -1,7 +1,7 @@
-use Rattle.summary_place.proofs.Tests.{bads}
+use Rattle.summary_slots.proofs.Tests.{bads}
 use borrow.Author.Needs.{needs}
-use Rattle.summary_place.proofs.is_bad.Statement.{statement}
-use Rattle.summary_place.proofs.is_bad.Tie as tie
+use Rattle.summary_slots.proofs.is_bad.Statement.{statement}
+use Rattle.summary_slots.proofs.is_bad.Tie as tie
 
 returns : tie.Need-returns
 returns c = search (bads, needs)
