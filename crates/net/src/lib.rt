@@ -142,7 +142,7 @@ fn why_stopped(takes: &[Weight], puts: &[Weight], caps: &[u16], marking: &[u32])
 }
 
 // Fires a letter in place.
-fn fire(takes: &[Weight], puts: &[Weight], marking: &mut [u32])
+pub fn fire(takes: &[Weight], puts: &[Weight], marking: &mut [u32])
     requires { ⌜ length (now takes) ≡ length (now marking) ⌝ }
     requires { ⌜ length (now puts) ≡ length (now marking) ⌝ }
     requires { ⌜ Small replayLimit (now marking) ⌝ }

@@ -1,0 +1,4 @@
+pub mod Orders
+pub mod Search
+pub mod Lengths
+pub mod Sums
