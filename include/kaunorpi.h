@@ -9,11 +9,13 @@
  * its type. A room must not overlap anything else that is lent in the same call. The lengths are compared with the
  * counts: a wrong one is refusal 2, and is not used.
  *
- * Stack. kaunorpi_read_case needs some 75 KB, for rooms of its own in which a whole file is read before anything is
- * written; the functions about lists of markings need some 18 KB, for an index of their own; every other function needs
- * less than 4 KB. Measured in the machine code of the archive for x86-64: 74,960 bytes; at most 17,512
- * (kaunorpi_closed_target); and at most 3,392 (kaunorpi_summary_stretch); with what a function calls and without memcpy
- * and memset, which are the C library's.
+ * Stack. kaunorpi_order_logs needs some 340 KB for two logs of 255 letters, since it calls itself for each letter: 656
+ * bytes for each letter of both logs, and 1.4 KB. kaunorpi_read_case needs some 75 KB, for rooms of its own in which a
+ * whole file is read before anything is written; the functions about lists of markings need some 18 KB, for an index of
+ * their own; every other function needs less than 4 KB. Measured in the machine code of the archive for x86-64: 74,960
+ * bytes; at most 17,512 (kaunorpi_closed_target); and at most 3,392 (kaunorpi_summary_stretch); with what a function calls
+ * and without memcpy and memset, which are the C library's. Of kaunorpi_order_logs, where 510 letters fire, 335,936 bytes
+ * were seen to be written.
  *
  * What is proved. Each function's comment ends with its contract, which says that the answer is the entry's of that
  * name, number by number, and with theorems that say what such an answer means; docs/STATEMENTS.md has them in words,
@@ -33,7 +35,8 @@
  * A refusal (kind 0x82) means that the question itself is faulty. Nothing was written to any room. `number`:
  *    1  a place or transition count outside 1..64
  *    2  a list or room whose length disagrees with the counts; two summaries of different place counts; a summary
- *       whose place count is not the net's; a stretch that ends before its start or past its word
+ *       whose place count is not the net's; a stretch that ends before its start or past its word; a room for an order
+ *       that has not one byte for each letter of both logs; a work space of other than 65,536 bytes
  *    3  65,535 tokens where not allowed, or more tokens than the capacity. position: the place; in a list of
  *       markings, marking number * places + place. The initial marking must keep to the capacities in every question,
  *       cover lists too; a closed list's markings as well; a cover list's entries are free; a target may be above
@@ -52,8 +55,12 @@
  *   12  a frame of unknown kind, in the wrong order, of wrong length or index, or missing. position: the line
  *   13  a place number that is not below the place count
  *   14  a room that is shorter than what is to be written there
- * position is 0 where nothing else is said. Of several refusals the lowest number is given, and of one number
- * the lowest position, the initial marking before a list before a target. A case file (kaunorpi_read_case) is
+ *   15  a log over 255 letters, after 4
+ *   16  a list that is not made of as many 0s and 1s as the two logs have letters, or a step that is not below its
+ *       length, after 15
+ * position is 0 where nothing else is said. Of several refusals the lowest number is given, but that 15 and 16 come
+ * right after 4; and of one number the lowest position, the initial marking before a list before a target, and the
+ * first log before the second. A case file (kaunorpi_read_case) is
  * different: the first faulty line decides, on it 11 and 12 come before 1, 3, 4 and 5, and position is that line.
  */
 #ifndef KAUNORPI_H
@@ -67,7 +74,7 @@ extern "C" {
 #endif
 
 /* Another number with every change of a function, a struct, an answer or a refusal. */
-#define KAUNORPI_VERSION 2
+#define KAUNORPI_VERSION 3
 
 #define KAUNORPI_ANSWERED 0x81
 #define KAUNORPI_REFUSED 0x82
@@ -143,6 +150,15 @@ typedef struct kaunorpi_length {
     size_t position;
     size_t length;
 } kaunorpi_length;
+
+typedef struct kaunorpi_rest {
+    uint8_t kind;
+    uint8_t number;
+    size_t position;
+    size_t log;
+    size_t start;
+    size_t length;
+} kaunorpi_rest;
 
 /* ---- Replay: can the letters of the word happen in this order? Refusals 1 2 3 4 5.
  * 0x81 0: all of them. position: how many. room: the tokens of each place afterwards.
@@ -313,6 +329,39 @@ kaunorpi_length kaunorpi_case_length(KAUNORPI_NET, const uint16_t *initial, size
  * crates/file_round/proofs/Meaning.antt. */
 kaunorpi_length kaunorpi_write_case(KAUNORPI_NET, const uint16_t *initial, size_t initial_len, const uint8_t *word,
                                     size_t word_len, uint8_t *room, size_t room_len);
+
+/* ---- Two logs of one line: words of at most KAUNORPI_MOST_LOG letters, each recorded in its own order. An order of
+ * the two is a list of one byte for each letter of both: 0 takes the next letter of the first log, 1 the next of the
+ * second. It fires if the word that it makes can happen, from the initial marking, in the sense of
+ * kaunorpi_replay_word. */
+
+/* the most letters of one log, and the bytes of work space */
+#define KAUNORPI_MOST_LOG 255
+#define KAUNORPI_WORK_SPACE 65536
+
+/* Is there an order of the two logs that fires? Refusals 1 2 3 4 15 5. room: first_len + second_len bytes. work:
+ * KAUNORPI_WORK_SPACE bytes, which may hold anything.
+ * 0x81 0: yes, and room holds it; of several the one that takes from the first log at the earliest step where two differ.
+ * 0x81 1: no order of the two logs fires, and room is as it was.
+ * Both leave all of work 0; a refusal leaves it as it was. The position in 5 is the letter's in its own log.
+ * Contract: crates/c_order/src/lib.rt. Theorems: found-fires, found-first, none-exactly, keeps-order, replays in
+ * crates/order/proofs/Meaning.antt. */
+kaunorpi_answer kaunorpi_order_logs(KAUNORPI_NET, const uint16_t *initial, size_t initial_len, const uint8_t *first,
+                                    size_t first_len, const uint8_t *second, size_t second_len, uint8_t *room,
+                                    size_t room_len, uint8_t *work, size_t work_len);
+/* May the unread rest be asked for, for a step of an order of the two logs? Steps count from 0. No net is lent: whether
+ * the order fires is not looked at. Refusals 4 15 16.
+ * 0x81 0: yes.
+ * Contract: crates/c_order/src/lib.rt. Theorems: allowed-answered, answered-allowed, refused-exactly in
+ * crates/order_rest/proofs/Meaning.antt. */
+kaunorpi_answer kaunorpi_rest_fault(const uint8_t *first, size_t first_len, const uint8_t *second, size_t second_len,
+                                    const uint8_t *order, size_t order_len, size_t step);
+/* What is still unread of the log that the step takes from, from that step's letter on. Refusals 4 15 16.
+ * 0x81 0: it is the last `length` letters of log `log`, 0 the first and 1 the second: they begin at letter `start` of it,
+ * which is the step's own. There is at least that one.
+ * Contract: crates/c_order/src/lib.rt. Theorems: rest-lies, rest-refused in crates/c_order/proofs/Meaning.antt. */
+kaunorpi_rest kaunorpi_unread_rest(const uint8_t *first, size_t first_len, const uint8_t *second, size_t second_len,
+                                   const uint8_t *order, size_t order_len, size_t step);
 
 #ifdef __cplusplus
 }
