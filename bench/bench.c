@@ -1,5 +1,6 @@
 /* bench: each question through the library and through the same algorithm in C, in turn, the best time of each.
- * Prints a line for each row: question|size|ns of the library|ns of C. bench/run makes a table of several such runs.
+ * Prints a line for each row: question|size|ns of the library|ns of C, and of an order how many pairs of letters read were
+ * looked at. bench/run makes a table of several such runs.
  * Sizes are volatile, so that no compiler knows them; both sides' answers and rooms are compared after every round. */
 #include "same.h"
 
@@ -22,10 +23,11 @@ SIDE(cover_list)
 SIDE(complement_net)
 SIDE(read_case)
 SIDE(write_case)
+SIDE(order_logs)
 
 /* What is lent. */
-static volatile size_t P, T, cells, letters, entries, file_size, wide;
-static uint8_t pre[4096], post[4096], word[65535], file[KAUNORPI_FILE_LIMIT];
+static volatile size_t P, T, cells, letters, entries, file_size, wide, log_length[2];
+static uint8_t pre[4096], post[4096], word[65535], file[KAUNORPI_FILE_LIMIT], logs[2][KAUNORPI_MOST_LOG];
 static uint16_t caps[64], initial[64], list[4096 * 64];
 static int16_t weights[64];
 static uint32_t need[2][64], climb[2][64];
@@ -38,7 +40,8 @@ static struct written {
     uint32_t room[64], need[64], climb[64];
     int32_t change[64];
     uint16_t caps[64], initial[64];
-    uint8_t pre[4096], post[4096], word[65535], file[KAUNORPI_FILE_LIMIT];
+    uint8_t pre[4096], post[4096], word[65535], file[KAUNORPI_FILE_LIMIT], order[2 * KAUNORPI_MOST_LOG];
+    uint8_t work[KAUNORPI_WORK_SPACE];
 } out[2];
 
 #define NET P, T, pre, cells, post, cells, caps, P
@@ -112,6 +115,13 @@ static void ask_write(int side) {
     keep(o, a.kind, a.number, a.position, a.length);
 }
 
+static void ask_order(int side) {
+    struct written *o = &out[side];
+    kaunorpi_answer a = side_order_logs[side](NET, initial, P, logs[0], log_length[0], logs[1], log_length[1], o->order,
+                                              log_length[0] + log_length[1], o->work, sizeof o->work);
+    keep(o, a.kind, a.number, a.position, 0);
+}
+
 /* A number by chance, always the same ones. */
 static size_t below(size_t n) {
     static uint64_t state = 1;
@@ -170,6 +180,56 @@ static void make_capped(void) {
     for (size_t p = 0; p < 32; p++)
         caps[p] = 40000;
     wide = 64;
+}
+
+/* Deals a word of 200 letters that fires out to two logs by chance. The net is a ring of four places, of two tokens each at
+ * most, around which three are handed: there is always one that can move, and letters often have to wait. */
+static void make_logs(void) {
+    size_t n[2] = {0, 0};
+    uint32_t m[4] = {1, 0, 2, 0};
+    P = T = 4;
+    cells = 16;
+    for (size_t t = 0; t < 4; t++)
+        for (size_t p = 0; p < 4; p++) {
+            pre[t * 4 + p] = p == t;
+            post[t * 4 + p] = p == (t + 1) % 4;
+        }
+    for (size_t p = 0; p < 4; p++) {
+        initial[p] = (uint16_t)m[p];
+        caps[p] = 2;
+    }
+    while (n[0] + n[1] < 200) {
+        size_t t = below(4), which = below(2);
+        if (!may_fire(pre + t * 4, post + t * 4, caps, m, 4))
+            continue;
+        fire(pre + t * 4, post + t * 4, m, 4);
+        logs[which][n[which]++] = (uint8_t)t;
+    }
+    log_length[0] = n[0];
+    log_length[1] = n[1];
+}
+
+/* Two logs of 255 letters each that fire one after the other, on the ring of 64 places. */
+static void make_straight(void) {
+    make_ring(64);
+    for (size_t i = 0; i < 510; i++)
+        logs[i / 255][i % 255] = (uint8_t)below(64);
+    log_length[0] = log_length[1] = 255;
+}
+
+/* The longest way round: the first letter of the first log takes the token that the last one of the second looks at, and all
+ * the others are free. A search that forgets where it has been would go through every order of 509 letters. */
+static void make_comb(void) {
+    P = 1;
+    T = cells = 3;
+    caps[0] = 65535;
+    initial[0] = 1;
+    pre[0] = pre[1] = post[1] = 1;
+    post[0] = pre[2] = post[2] = 0;
+    memset(logs, 2, sizeof logs);
+    logs[0][0] = 0;
+    logs[1][254] = 1;
+    log_length[0] = log_length[1] = 255;
 }
 
 /* Where the markings of a list differ from their neighbours. */
@@ -267,6 +327,9 @@ static const struct row rows[] = {
     {"read_case", "the largest file, 151 KB", make_file, ask_case, 100, 1},
     {"write_case", "the largest file, 151 KB", make_word, ask_write, 100, 1},
     {"write_case", "4 places, 4 transitions, 100 letters", make_small, ask_write, 300, 200},
+    {"order_logs", "200 letters of one word, 4 places", make_logs, ask_order, 100, 10},
+    {"order_logs", "255 letters each that fire at once, 64 places", make_straight, ask_order, 100, 10},
+    {"order_logs", "255 letters each, every pair looked at", make_comb, ask_order, 40, 1},
 };
 
 /* Nanoseconds that this process has run: what others do on the machine in between is not counted. */
@@ -294,7 +357,14 @@ static void run(const struct row *row) {
             exit(1);
         }
     }
-    printf("%s|%s|%.0f|%.0f\n", row->question, row->size, best[0], best[1]);
+    if (row->ask == ask_order && same_order_visits > 2 * KAUNORPI_WORK_SPACE) {
+        printf("bench: %s, %s: %zu pairs looked at\n", row->question, row->size, same_order_visits);
+        exit(1);
+    }
+    printf("%s|%s|%.0f|%.0f", row->question, row->size, best[0], best[1]);
+    if (row->ask == ask_order)
+        printf("|%zu", same_order_visits);
+    puts("");
 }
 
 /* The list that the next row is of. */

@@ -26,6 +26,9 @@ SIDE(complement_net)
 SIDE(read_case)
 SIDE(case_length)
 SIDE(write_case)
+SIDE(order_logs)
+SIDE(rest_fault)
+SIDE(unread_rest)
 
 /* A lent piece as a pointer and a length; the net; the three lists of a summary. */
 #define LENT(piece) on_side(side, &in.piece), in.piece.count
@@ -44,6 +47,7 @@ PLAIN(transition_weighting, LENT(weights))
 PLAIN(siphon_set, LENT(set))
 PLAIN(trap_set, LENT(set))
 PLAIN(complement_net, LENT(initial), LENT(pre2), LENT(post2), LENT(caps2), LENT(initial2))
+PLAIN(order_logs, LENT(initial), LENT(log[0]), LENT(log[1]), LENT(room), LENT(work))
 
 /* A question of replay. */
 #define REPLAY(question, ...) \
@@ -106,13 +110,29 @@ static struct given ask_read_case(int side) {
 WRITES(case_length, LENT(word))
 WRITES(write_case, LENT(word), LENT(room))
 
+/* Whether the unread rest may be asked for. */
+static struct given ask_rest_fault(int side) {
+    kaunorpi_answer a = side_rest_fault[side](LENT(log[0]), LENT(log[1]), LENT(order), in.step);
+    return (struct given){a.kind, a.number, {a.position}, a.number};
+}
+
+/* The unread rest; an answer is counted by its log, as 20 and 21. */
+static struct given ask_unread_rest(int side) {
+    kaunorpi_rest a = side_unread_rest[side](LENT(log[0]), LENT(log[1]), LENT(order), in.step);
+    int answered = a.kind == KAUNORPI_ANSWERED;
+    return (struct given){a.kind, a.number, {a.position, a.log, a.start, a.length}, answered ? 20 + (int)a.log : a.number};
+}
+
 /* The faults of what is lent. */
-#define F(fault) ((uint64_t)1 << (fault))
+#define F(fault) ((fault_set)1 << (fault))
 #define OF_NET (F(BAD_PLACES) | F(BAD_TRANSITIONS) | F(PRE_LENGTH) | F(POST_LENGTH) | F(CAPS_LENGTH))
 #define OF_MARKING (F(INITIAL_LENGTH) | F(INITIAL_FULL) | F(INITIAL_OVER))
 #define OF_WORD (F(LONG_WORD) | F(BAD_LETTER))
 #define OF_STRETCH (OF_WORD | F(BAD_START) | F(BAD_END))
 #define OF_ROOM F(ROOM_LENGTH)
+#define OF_LOGS (F(LONG_LOG) | F(LONG_LOG_1) | F(OVER_LOG) | F(OVER_LOG_1))
+#define OF_LETTERS (F(LOG_LETTER) | F(LOG_LETTER_1))
+#define OF_ORDER (F(ORDER_SPLIT) | F(ORDER_BYTE) | F(ORDER_LENGTH) | F(BAD_STEP))
 #define OF_FIRST (F(BAD_FIRST_COUNT) | F(NEED_LENGTH) | F(CLIMB_LENGTH) | F(CHANGE_LENGTH) | F(BAD_FIRST))
 #define OF_SECOND (F(BAD_SECOND_COUNT) | F(NEED_LENGTH_1) | F(CLIMB_LENGTH_1) | F(CHANGE_LENGTH_1) | F(BAD_SECOND))
 #define OF_SUMMARY_ROOMS (F(NEED_LENGTH_2) | F(CLIMB_LENGTH_2) | F(CHANGE_LENGTH_2))
@@ -171,5 +191,9 @@ const struct question questions[] = {
      OF_NET | OF_MARKING | OF_WORD},
     {"write_case", make_write_case, ask_write_case, B(0), 0, B(1) | B(2) | B(3) | B(4) | B(5) | B(14), B(3) | B(5),
      OF_NET | OF_MARKING | OF_WORD | F(SHORT_ROOM)},
+    {"order_logs", make_order_logs, ask_order_logs, B(0) | B(1), 0, B(1) | B(2) | B(3) | B(4) | B(5) | B(15), B(3) | B(5),
+     OF_NET | OF_MARKING | OF_LOGS | OF_LETTERS | OF_ROOM | F(WORK_LENGTH)},
+    {"rest_fault", make_rest, ask_rest_fault, B(0), 0, B(4) | B(15) | B(16), 0, OF_LOGS | OF_ORDER},
+    {"unread_rest", make_rest, ask_unread_rest, B(20) | B(21), 0, B(4) | B(15) | B(16), 0, OF_LOGS | OF_ORDER},
 };
 const size_t question_count = sizeof questions / sizeof questions[0];

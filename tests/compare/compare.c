@@ -1,7 +1,8 @@
 /* compare N SEED [QUESTION [INPUT]]: N inputs for each question (or the one named), drawn from SEED; with INPUT that one
  * alone, shown in full. Prints nothing if library and reference agree in all of them, every answer and refusal that can
  * come did come, and each lent thing that can be refused was refused alone. compare --questions prints the questions'
- * names. Built with -DSELF_CHECK it looks instead whether each broken rule is noticed.
+ * names; compare --every asks for all short logs (every.c). Built with -DSELF_CHECK it looks instead whether each broken
+ * rule is noticed.
  * Ends with 0, 1 (a difference), 2 (wrong use) or 3 (something never came). */
 #include "compare.h"
 
@@ -29,7 +30,7 @@ static void print_given(const char *side, const struct given *g) {
 }
 
 /* Are two answers the same in every field? */
-static int same_given(const struct given *a, const struct given *b) {
+int same_given(const struct given *a, const struct given *b) {
     return a->kind == b->kind && a->number == b->number && memcmp(a->field, b->field, sizeof a->field) == 0;
 }
 
@@ -77,11 +78,13 @@ static int missing(size_t q, uint32_t classes, int refused, int further) {
     return lacks;
 }
 
-/* Does refusal i come before j? The lower number does, but after those of the whole file come those of its lines. */
+/* Does refusal i come before j? The lower number does, but 15 and 16 come right after 4, and after those of the whole file come
+ * those of its lines. */
 static int comes_before(size_t q, int i, int j) {
+    static const int ranks[REFUSALS] = {0, 1, 2, 3, 4, 7, 8, 9, 10, 11, 12, 13, 14, 15, 16, 5, 6};
     uint32_t of_lines = questions[q].refusals_further & ~questions[q].refusals;
     int i_of_line = (of_lines >> i & 1u) != 0, j_of_line = (of_lines >> j & 1u) != 0;
-    return i_of_line == j_of_line ? i < j : j_of_line;
+    return i_of_line == j_of_line ? ranks[i] < ranks[j] : j_of_line;
 }
 
 /* Reports two refusals that were never due at once. */
@@ -167,6 +170,8 @@ int main(int count, char **words) {
     uint64_t seed;
     if (count == 2 && strcmp(words[1], "--questions") == 0)
         return print_questions();
+    if (count == 2 && strcmp(words[1], "--every") == 0)
+        return every_order();
     if (count < 3)
         return 2;
     inputs = strtoul(words[1], NULL, 10);

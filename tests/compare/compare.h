@@ -2,9 +2,9 @@
  *
  * An input is drawn from a seed, its question and its number alone (random.c), with the faults that plan.c plans for it,
  * into lent memory with guard bytes around each piece (lend.c). What is drawn is up to net.c, word.c, complement.c,
- * summary.c, weighting.c, lists.c, file.c, damage.c and write.c; ask.c puts the question to both sides; compare.c compares,
- * counts what came, and reports; faults.c and lines.c find which lent thing a refusal comes from, decided.c counts those,
- * and edges.c knows the edges that must come.
+ * summary.c, weighting.c, lists.c, file.c, damage.c, write.c and order.c; ask.c puts the question to both sides; compare.c
+ * compares, counts what came, and reports; faults.c and lines.c find which lent thing a refusal comes from, decided.c counts
+ * those, and edges.c knows the edges that must come. every.c asks without chance: all short logs of some small nets.
  */
 #ifndef COMPARE_H
 #define COMPARE_H
@@ -26,14 +26,14 @@ struct lent {
     int is_null, is_room;
 };
 
-/* What an input is made of; a question uses a part of it. Index 0 and 1 of the summaries are the first and the second
- * one lent, 2 is the room. A whole word is the stretch from 0 to its end. */
+/* What an input is made of; a question uses a part of it. Index 0 and 1 of the summaries and of the logs are the first and
+ * the second one lent, 2 is a summary's room. A whole word is the stretch from 0 to its end. */
 struct input {
     size_t places, transitions;
     struct lent pre, post, caps, initial, word, room, weights, set, list, target;
     struct lent need[3], climb[3], change[3];
-    struct lent pre2, post2, caps2, initial2, file;
-    size_t summary_places[2], start, end, place;
+    struct lent pre2, post2, caps2, initial2, file, log[2], order, work;
+    size_t summary_places[2], start, end, place, step;
     uint32_t letters[2];
 };
 extern struct input in;
@@ -52,7 +52,7 @@ void print_input(void);
 /* ---- plan.c, faults.c, lines.c */
 
 /* Refusals are numbered from 1 up to, and without, this. */
-enum { REFUSALS = 15 };
+enum { REFUSALS = 17 };
 
 /* Every fault that a lent thing can have, by the refusal that it gives; the table in faults.c has their names. */
 enum fault {
@@ -62,18 +62,25 @@ enum fault {
     PRE_LENGTH, POST_LENGTH, CAPS_LENGTH, INITIAL_LENGTH, ROOM_LENGTH, WEIGHTS_LENGTH, SET_LENGTH, LIST_LENGTH,
     TARGET_LENGTH, NEED_LENGTH, NEED_LENGTH_1, NEED_LENGTH_2, CLIMB_LENGTH, CLIMB_LENGTH_1, CLIMB_LENGTH_2,
     CHANGE_LENGTH, CHANGE_LENGTH_1, CHANGE_LENGTH_2, PRE2_LENGTH, POST2_LENGTH, CAPS2_LENGTH, INITIAL2_LENGTH,
-    BAD_START, BAD_END, NOT_THE_NETS, NOT_THE_OTHERS,
+    WORK_LENGTH, BAD_START, BAD_END, NOT_THE_NETS, NOT_THE_OTHERS,
     /* 3 */
     INITIAL_FULL, INITIAL_OVER, LIST_FULL, LIST_OVER, TARGET_FULL, FILE_FULL, FILE_OVER,
     /* 4 to 10, 13 and 14 */
-    LONG_WORD, LONG_FILE, BAD_LETTER, FILE_LETTER, BAD_FIRST, BAD_SECOND, LONG_TOGETHER, ALL_ZERO, NO_MARKING,
-    MANY_MARKINGS, MANY_PLACES, BAD_PLACE, SHORT_ROOM,
+    LONG_WORD, LONG_FILE, LONG_LOG, LONG_LOG_1, BAD_LETTER, FILE_LETTER, LOG_LETTER, LOG_LETTER_1, BAD_FIRST, BAD_SECOND,
+    LONG_TOGETHER, ALL_ZERO, NO_MARKING, MANY_MARKINGS, MANY_PLACES, BAD_PLACE, SHORT_ROOM,
     /* 11 */
     LINE_FEED, LINE_EMPTY, LINE_ODD, LINE_LONG, LINE_DIGIT,
     /* 12 */
     FRAME_KIND, FRAME_ORDER, FRAME_LENGTH, FRAME_INDEX, FRAME_SHORT, FRAME_MISSING,
+    /* 15 */
+    OVER_LOG, OVER_LOG_1,
+    /* 16 */
+    ORDER_SPLIT, ORDER_BYTE, ORDER_LENGTH, BAD_STEP,
     FAULTS
 };
+
+/* A set of faults, a bit each. */
+typedef unsigned __int128 fault_set;
 
 /* A fault: its refusal, what it is in words, and how it is found in the input: as the wrong length of a piece, or else. */
 struct fault_kind {
@@ -84,7 +91,7 @@ struct fault_kind {
 };
 extern const struct fault_kind faults[FAULTS];
 
-void plan_faults(uint32_t refusals, uint64_t can);
+void plan_faults(uint32_t refusals, fault_set can);
 int wants(int refusal);
 int breaks(enum fault fault);
 int is_sound(void);
@@ -154,6 +161,8 @@ void make_complement(void);
 void make_case(void);
 void make_case_length(void);
 void make_write_case(void);
+void make_order_logs(void);
+void make_rest(void);
 
 /* ---- ask.c */
 
@@ -171,13 +180,15 @@ struct question {
     void (*make)(void);
     struct given (*ask)(int side);
     uint32_t answers, answers_further, refusals, refusals_further;
-    uint64_t faults;
+    fault_set faults;
 };
 extern const struct question questions[];
 extern const size_t question_count;
 
-/* ---- compare.c, selfcheck.c */
+/* ---- compare.c, selfcheck.c, every.c */
+int same_given(const struct given *a, const struct given *b);
 int agrees(size_t q, uint64_t seed, size_t input, int show);
+int every_order(void);
 int self_check(size_t inputs, uint64_t seed);
 
 /* ---- decided.c */

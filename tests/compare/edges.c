@@ -56,6 +56,55 @@ static int exact_room(const struct given *g) { return answered(g, 0) && in.room.
 static int longer_room(const struct given *g) { return answered(g, 0) && in.room.count == file_bytes() + 1; }
 static int shorter_room(const struct given *g) { return refused(g, 14) && in.room.count + 1 == file_bytes(); }
 static int no_room(const struct given *g) { return refused(g, 14) && in.room.count == 0; }
+static int full_logs(const struct given *g) { return answered(g, 0) && in.log[0].count == 255 && in.log[1].count == 255; }
+static int full_none(const struct given *g) { return answered(g, 1) && in.log[0].count == 255 && in.log[1].count == 255; }
+static int no_logs(const struct given *g) { return answered(g, 0) && in.log[0].count + in.log[1].count == 0; }
+static int no_first(const struct given *g) { return answered(g, 0) && in.log[0].count == 0 && in.log[1].count > 0; }
+static int no_second(const struct given *g) { return answered(g, 0) && in.log[0].count > 0 && in.log[1].count == 0; }
+static int log_one_more(const struct given *g) { return refused(g, 15) && in.log[0].count == 256; }
+static int log_one_more_1(const struct given *g) { return refused(g, 15) && in.log[1].count == 256; }
+static int long_one_more(const struct given *g) { return refused(g, 4) && in.log[0].count == 65536; }
+static int long_one_more_1(const struct given *g) { return refused(g, 4) && in.log[1].count == 65536; }
+static int room_one_more(const struct given *g) { return refused(g, 2) && in.room.count == in.room.right + 1; }
+static int room_one_short(const struct given *g) { return refused(g, 2) && in.room.count + 1 == in.room.right; }
+static int work_one_more(const struct given *g) { return refused(g, 2) && in.work.count == 65537; }
+static int work_one_short(const struct given *g) { return refused(g, 2) && in.work.count == 65535; }
+static int letter_in_both(const struct given *g) { return refused(g, 5) && breaks(LOG_LETTER) && breaks(LOG_LETTER_1); }
+static int ends_with(const struct given *g, int log) {
+    return answered(g, 0) && in.room.count > 0 && ((uint8_t *)on_side(REFERENCE, &in.room))[in.room.count - 1] == log;
+}
+static int ends_first(const struct given *g) { return ends_with(g, 0) && in.log[1].count > 0; }
+static int ends_second(const struct given *g) { return ends_with(g, 1) && in.log[0].count > 0; }
+
+/* Does the order take from the second log where a letter of the first could fire? Whoever never goes back finds no such. */
+static int goes_back(const struct given *g) {
+    const uint8_t *order = on_side(REFERENCE, &in.room), *log[2] = {own(&in.log[0]), own(&in.log[1])}, *ends = log[0];
+    const uint16_t *initial = own(&in.initial);
+    int64_t m[64];
+    if (!answered(g, 0))
+        return 0;
+    ends += in.log[0].count;
+    for (size_t p = 0; p < in.places; p++)
+        m[p] = initial[p];
+    for (size_t i = 0; i < in.log[0].count + in.log[1].count; i++) {
+        if (order[i] == 1 && log[0] < ends && enabled_now(m, *log[0]))
+            return 1;
+        fire_now(m, *log[order[i]]++);
+    }
+    return 0;
+}
+
+static int goes_back_late(const struct given *g) { return in.room.count > 40 && goes_back(g); }
+static int first_step(const struct given *g) { return answered(g, 0) && in.step == 0; }
+static int last_step(const struct given *g) { return answered(g, 0) && in.step + 1 == in.order.count && in.step > 0; }
+static int step_at_end(const struct given *g) { return refused(g, 16) && in.step == in.order.count && in.step > 0; }
+static int no_order(const struct given *g) { return refused(g, 16) && in.order.count == 0; }
+static int byte_beside(const struct given *g) {
+    return refused(g, 16) && is_alone() && breaks(ORDER_BYTE) && in.order.count > in.log[0].count + in.log[1].count;
+}
+static int byte_instead(const struct given *g) {
+    return refused(g, 16) && is_alone() && breaks(ORDER_BYTE) && in.order.count == in.log[0].count + in.log[1].count;
+}
 
 /* A question's edge, and how often it came. */
 static struct edge {
@@ -99,6 +148,32 @@ static struct edge {
     {"write_case", "a room one longer", longer_room, 0},
     {"write_case", "a room one short", shorter_room, 0},
     {"write_case", "no room", no_room, 0},
+    {"order_logs", "255 letters each, found", full_logs, 0},
+    {"order_logs", "255 letters each, none", full_none, 0},
+    {"order_logs", "two empty logs", no_logs, 0},
+    {"order_logs", "an empty first log", no_first, 0},
+    {"order_logs", "an empty second log", no_second, 0},
+    {"order_logs", "256 letters in the first log", log_one_more, 0},
+    {"order_logs", "256 letters in the second log", log_one_more_1, 0},
+    {"order_logs", "65,536 letters in the first log", long_one_more, 0},
+    {"order_logs", "65,536 letters in the second log", long_one_more_1, 0},
+    {"order_logs", "a room one longer", room_one_more, 0},
+    {"order_logs", "a room one short", room_one_short, 0},
+    {"order_logs", "a work space one longer", work_one_more, 0},
+    {"order_logs", "a work space one short", work_one_short, 0},
+    {"order_logs", "a wrong letter in both logs", letter_in_both, 0},
+    {"order_logs", "a last step from the first log", ends_first, 0},
+    {"order_logs", "a last step from the second log", ends_second, 0},
+    {"order_logs", "a letter of the first log that could fire and must wait", goes_back, 0},
+    {"order_logs", "the same with over 40 letters", goes_back_late, 0},
+    {"order_logs", "64 places", all_places, 0},
+    {"order_logs", "64 transitions", all_transitions, 0},
+    {"rest_fault", "an empty order", no_order, 0},
+    {"unread_rest", "the first step", first_step, 0},
+    {"unread_rest", "the last step", last_step, 0},
+    {"unread_rest", "a step at the order's length", step_at_end, 0},
+    {"unread_rest", "another byte beside all 0s and 1s", byte_beside, 0},
+    {"unread_rest", "another byte instead of a 0 or 1", byte_instead, 0},
 };
 
 /* Counts the edges that this input and answer meet. */

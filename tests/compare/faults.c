@@ -46,15 +46,38 @@ static int list_over(void) { return has_over(&in.list); }
 static int target_full(void) { return has_full(&in.target); }
 
 static int long_word(void) { return in.end - in.start > 65535; }
+static int long_log(void) { return in.log[0].count > 65535; }
+static int long_log_1(void) { return in.log[1].count > 65535; }
+static int over_log(void) { return in.log[0].count > 255; }
+static int over_log_1(void) { return in.log[1].count > 255; }
 
-/* Is there a letter in the stretch that names no transition? */
-static int bad_letter(void) {
-    const uint8_t *word = own(&in.word);
-    for (size_t i = in.start; i < in.end; i++)
+/* Is there a letter of this piece, from start to end, that names no transition? */
+static int names_none(const struct lent *piece, size_t start, size_t end) {
+    const uint8_t *word = own(piece);
+    for (size_t i = start; i < end; i++)
         if (word[i] >= in.transitions)
             return 1;
     return 0;
 }
+
+static int bad_letter(void) { return names_none(&in.word, in.start, in.end); }
+static int log_letter(void) { return names_none(&in.log[0], 0, in.log[0].count); }
+static int log_letter_1(void) { return names_none(&in.log[1], 0, in.log[1].count); }
+
+/* How many steps of the order are this byte. */
+static size_t steps_of(uint8_t byte) {
+    const uint8_t *order = own(&in.order);
+    size_t count = 0;
+    for (size_t i = 0; i < in.order.count; i++)
+        count += order[i] == byte;
+    return count;
+}
+
+/* The order is made of 0s and 1s: as many as both logs have letters, but not of each as many; or another number. */
+static int order_byte(void) { return steps_of(0) + steps_of(1) != in.order.count; }
+static int order_length(void) { return !order_byte() && in.order.count != in.log[0].count + in.log[1].count; }
+static int order_split(void) { return !order_byte() && !order_length() && steps_of(0) != in.log[0].count; }
+static int bad_step(void) { return in.step >= in.order.count; }
 
 /* Is the summary well formed (refusal 6)? */
 int is_well_formed(size_t places, uint32_t letters, const uint32_t *need, const uint32_t *climb, const int32_t *change) {
@@ -116,6 +139,7 @@ const struct fault_kind faults[FAULTS] = {
     [POST2_LENGTH] = {2, "the room for post", &in.post2, 0},
     [CAPS2_LENGTH] = {2, "the room for capacities", &in.caps2, 0},
     [INITIAL2_LENGTH] = {2, "the room for a marking", &in.initial2, 0},
+    [WORK_LENGTH] = {2, "the work space", &in.work, 0},
     [BAD_START] = {2, "a stretch that ends before its start", 0, bad_start},
     [BAD_END] = {2, "a stretch that ends past its word", 0, bad_end},
     [NOT_THE_NETS] = {2, "a summary's count that is not the net's", 0, not_the_nets},
@@ -129,8 +153,12 @@ const struct fault_kind faults[FAULTS] = {
     [FILE_OVER] = {3, "tokens above capacity in the file", 0, file_over},
     [LONG_WORD] = {4, "the letters", 0, long_word},
     [LONG_FILE] = {4, "the file's letters", 0, is_the_only},
+    [LONG_LOG] = {4, "the first log's letters", 0, long_log},
+    [LONG_LOG_1] = {4, "the second log's letters", 0, long_log_1},
     [BAD_LETTER] = {5, "a letter", 0, bad_letter},
     [FILE_LETTER] = {5, "a letter of the file", 0, is_the_only},
+    [LOG_LETTER] = {5, "a letter of the first log", 0, log_letter},
+    [LOG_LETTER_1] = {5, "a letter of the second log", 0, log_letter_1},
     [BAD_FIRST] = {6, "the first summary", 0, bad_first},
     [BAD_SECOND] = {6, "the second summary", 0, bad_second},
     [LONG_TOGETHER] = {7, "the letters of both summaries", 0, long_together},
@@ -151,4 +179,10 @@ const struct fault_kind faults[FAULTS] = {
     [FRAME_INDEX] = {12, "a frame of wrong index", 0, frame_index},
     [FRAME_SHORT] = {12, "a frame after a short one", 0, frame_short},
     [FRAME_MISSING] = {12, "a frame that is missing", 0, frame_missing},
+    [OVER_LOG] = {15, "the first log's length", 0, over_log},
+    [OVER_LOG_1] = {15, "the second log's length", 0, over_log_1},
+    [ORDER_SPLIT] = {16, "other numbers of 0s and of 1s", 0, order_split},
+    [ORDER_BYTE] = {16, "a step that is neither 0 nor 1", 0, order_byte},
+    [ORDER_LENGTH] = {16, "an order of another length", 0, order_length},
+    [BAD_STEP] = {16, "a step that the order does not have", 0, bad_step},
 };

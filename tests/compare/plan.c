@@ -3,11 +3,11 @@
 #include "compare.h"
 
 static uint32_t kinds;
-static uint64_t broken;
+static fault_set broken;
 static int alone;
 
 /* One of these faults that gives this refusal; each is as likely. */
-static enum fault draw_fault(uint64_t can, int refusal) {
+static enum fault draw_fault(fault_set can, int refusal) {
     enum fault drawn = FAULTS;
     for (size_t f = 0, seen = 0; f < FAULTS; f++)
         if ((can >> f & 1u) != 0 && faults[f].refusal == refusal && chance(++seen))
@@ -16,33 +16,33 @@ static enum fault draw_fault(uint64_t can, int refusal) {
 }
 
 /* Plans a fault of one of these refusals, each as likely; long words, files and lists are rarer, since they are slow. */
-static void plan_one(uint32_t refusals, uint64_t can) {
+static void plan_one(uint32_t refusals, fault_set can) {
     for (;;) {
         int refusal = 1 + (int)below(REFUSALS - 1), is_slow;
         enum fault fault = draw_fault(can, refusal);
         if ((refusals >> refusal & 1u) == 0)
             continue;
-        is_slow = fault == LONG_WORD || fault == LONG_FILE || fault == MANY_MARKINGS;
+        is_slow = fault == LONG_WORD || fault == LONG_FILE || fault == MANY_MARKINGS || fault == LONG_LOG || fault == LONG_LOG_1;
         if (is_slow && !chance(alone ? 12 : fault == LONG_FILE ? 2 : 5))
             continue;
         kinds |= 1u << refusal;
-        broken |= (uint64_t)1 << fault;
+        broken |= (fault_set)1 << fault;
         return;
     }
 }
 
 /* Plans faults of so many refusals, and now and then a second one of the same refusal. */
-static void plan_several(uint32_t refusals, uint64_t can, size_t count) {
+static void plan_several(uint32_t refusals, fault_set can, size_t count) {
     for (; count > 0; count--)
         plan_one(refusals, can);
     for (int refusal = 1; refusal < REFUSALS; refusal++)
         if (wants(refusal) && chance(2))
-            broken |= (uint64_t)1 << draw_fault(can, refusal);
+            broken |= (fault_set)1 << draw_fault(can, refusal);
 }
 
 /* Plans the faults of an input, among those that its question has: half of the inputs get one, a third none, the others
  * those of one, two or three refusals. */
-void plan_faults(uint32_t refusals, uint64_t can) {
+void plan_faults(uint32_t refusals, fault_set can) {
     size_t style = below(24);
     kinds = 0;
     broken = 0;

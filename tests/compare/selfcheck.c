@@ -5,7 +5,7 @@
 #include <stdio.h>
 #include <string.h>
 
-enum { NAMED = 8 };
+enum { NAMED = 9 };
 
 /* The rules by number, what is broken, and where it must show. */
 static const struct {
@@ -44,11 +44,11 @@ static const struct {
     {30, "a stretch past its word ends with it", {"replay_stretch", "summary_stretch"}},
     {31, "a stretch that ends before its start is empty", {"replay_stretch", "summary_stretch"}},
     {32, "65,535 tokens are allowed where there is no capacity",
-     {"replay_word", "ask_summary", "place_bound", "closed_list", "cover_list", "complement_net", "case_length",
-      "write_case"}},
+     {"replay_word", "ask_summary", "place_bound", "closed_list", "cover_list", "complement_net", "case_length", "write_case",
+      "order_logs"}},
     {33, "tokens above capacity are allowed",
-     {"replay_word", "ask_summary", "place_bound", "closed_list", "cover_list", "complement_net", "case_length",
-      "write_case"}},
+     {"replay_word", "ask_summary", "place_bound", "closed_list", "cover_list", "complement_net", "case_length", "write_case",
+      "order_logs"}},
     {34, "a list of no marking is allowed", {"closed_list", "cover_list"}},
     {35, "a list of 4,097 markings is allowed", {"closed_list", "cover_list"}},
     {36, "the second summary is not looked at", {"join_summaries"}},
@@ -70,6 +70,32 @@ static const struct {
     {51, "14 for a room of exactly the length", {"write_case"}},
     {52, "a byte past the file's end is written", {"write_case"}},
     {53, "14 writes the room", {"write_case"}},
+    {54, "the order takes from the second log as early as can be", {"order_logs"}},
+    {55, "a letter of the first log that can fire is never taken back", {"order_logs"}},
+    {56, "none where the last letter is the second log's", {"order_logs"}},
+    {57, "a 1 is left in the work space", {"order_logs"}},
+    {58, "none writes the room", {"order_logs"}},
+    {59, "the marking is taken one letter late", {"order_logs"}},
+    {60, "where no order leads on is remembered for (k, n)", {"order_logs"}},
+    {61, "a longer room for the order is allowed", {"order_logs"}},
+    {62, "a work space of another length is allowed", {"order_logs"}},
+    {63, "a first log of 256 letters is allowed", {"order_logs", "rest_fault", "unread_rest"}},
+    {64, "a second log of 256 letters is allowed", {"order_logs", "rest_fault", "unread_rest"}},
+    {65, "15 comes before 4", {"order_logs", "rest_fault", "unread_rest"}},
+    {66, "letters of the second log are not looked at", {"order_logs"}},
+    {67, "letters of the second log are looked at first", {"order_logs"}},
+    {68, "a refusal leaves the work space zero", {"order_logs"}},
+    {69, "none leaves the work space as found", {"order_logs"}},
+    {70, "5 comes before 15", {"order_logs"}},
+    {71, "another byte is taken for a 1", {"rest_fault", "unread_rest"}},
+    {72, "other bytes beside the 0s and 1s are passed over", {"rest_fault", "unread_rest"}},
+    {73, "a step at the order's length is allowed", {"rest_fault", "unread_rest"}},
+    {74, "the rest begins after the step's letter", {"unread_rest"}},
+    {75, "the rest is the other log's", {"unread_rest"}},
+    {76, "the rest begins at the step's number", {"unread_rest"}},
+    {77, "0s are counted for the second log and 1s for the first", {"rest_fault", "unread_rest"}},
+    {78, "16 comes before 15", {"rest_fault", "unread_rest"}},
+    {79, "a refused rest is not empty", {"unread_rest"}},
 };
 
 /* Must the rule show in this question? */

@@ -36,6 +36,7 @@ static void keep_bound(kaunorpi_bound a) { KEEP(a.kind, a.number, a.position, a.
 static void keep_list(kaunorpi_list a) { KEEP(a.kind, a.number, a.position, a.transition); }
 static void keep_places(kaunorpi_places a) { KEEP(a.kind, a.number, a.position, a.places); }
 static void keep_length(kaunorpi_length a) { KEEP(a.kind, a.number, a.position, a.length); }
+static void keep_rest(kaunorpi_rest a) { KEEP(a.kind, a.number, a.position, a.log, a.start, a.length); }
 static void keep_case(kaunorpi_case a) { KEEP(a.kind, a.number, a.position, a.places, a.transitions, a.letters); }
 
 typedef uint8_t u8;
@@ -91,6 +92,9 @@ static void ask(void) {
              ROOM(u8, word))
     QUESTION(case_length, length, NET, LENT(u16, initial), LENT(u8, word))
     QUESTION(write_case, length, NET, LENT(u16, initial), LENT(u8, word), ROOM(u8, room))
+    QUESTION(order_logs, answer, NET, LENT(u16, initial), LENT(u8, first), LENT(u8, second), ROOM(u8, room), ROOM(u8, work))
+    QUESTION(rest_fault, answer, LENT(u8, first), LENT(u8, second), LENT(u8, order), NUMBER(size_t, step))
+    QUESTION(unread_rest, rest, LENT(u8, first), LENT(u8, second), LENT(u8, order), NUMBER(size_t, step))
     malformed("no such question", call.question);
 }
 

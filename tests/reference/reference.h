@@ -1,7 +1,7 @@
-/* An implementation of document 01 of its own, in C: reference_X answers as kaunorpi_X must (include/kaunorpi.h).
+/* An implementation of documents 01 and 02 of its own, in C: reference_X answers as kaunorpi_X must (include/kaunorpi.h).
  *
- * It was written from the document and the header, never from the Rattle code, and does what the document says in
- * the document's own order, with plain loops and signed 64-bit numbers. Speed is no aim.
+ * It was written from the documents and the header, never from the Rattle code, and does what a document says in
+ * its own order, with plain loops and signed 64-bit numbers. Speed is no aim.
  */
 #ifndef REFERENCE_H
 #define REFERENCE_H
@@ -39,6 +39,9 @@ __typeof__(kaunorpi_complement_net) reference_complement_net;
 __typeof__(kaunorpi_read_case) reference_read_case;
 __typeof__(kaunorpi_case_length) reference_case_length;
 __typeof__(kaunorpi_write_case) reference_write_case;
+__typeof__(kaunorpi_order_logs) reference_order_logs;
+__typeof__(kaunorpi_rest_fault) reference_rest_fault;
+__typeof__(kaunorpi_unread_rest) reference_unread_rest;
 
 /* ---- What the files of the reference share (net.c). */
 
@@ -69,5 +72,11 @@ int reference_counts_fault(const struct net *net);
 int reference_lengths_fault(const struct net *net);
 size_t reference_tokens_fault(const struct net *net, const uint16_t *marking);
 size_t reference_letters_fault(const struct net *net, const uint8_t *word, size_t start, size_t end);
+
+/* ---- The two ways of order.c, for logs that are right: is there an order that fires, and if so, the one to be given. */
+int reference_try_orders(KAUNORPI_NET, const uint16_t *initial, const uint8_t *first, size_t first_len,
+                         const uint8_t *second, size_t second_len, uint8_t *order);
+int reference_table_order(KAUNORPI_NET, const uint16_t *initial, const uint8_t *first, size_t first_len,
+                          const uint8_t *second, size_t second_len, uint8_t *order);
 
 #endif

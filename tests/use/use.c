@@ -1,7 +1,7 @@
 /* The library from C, with kaunorpi.h alone: a case file is read, written back and replayed, a word is summed up, two
- * summaries are joined and one is asked, a list of markings is judged. What is expected is document 01's case and its
- * samples, worked out by hand there. Prints nothing and ends with 0 where every answer is right, else prints the lines that
- * are not. */
+ * summaries are joined and one is asked, a list of markings is judged, two logs are put into one order. What is expected is
+ * document 01's case and its samples, worked out by hand there, and of two logs by hand here. Prints nothing and ends with 0
+ * where every answer is right, else prints the lines that are not. */
 #include <stdio.h>
 #include <string.h>
 
@@ -183,11 +183,40 @@ static void lists_and_weightings(void) {
     EXPECT(l.kind == KAUNORPI_ANSWERED && l.number == 0);
 }
 
+/* Two recorders: one wrote each 0, the other each 1 and then a 2. 0 and 1 go by turns, so that only 0 1 0 1 2 fires; with a
+ * third 1 and no third 0 none does. */
+static void two_logs(void) {
+    static const uint8_t zeros[] = {0, 0}, others[] = {1, 1, 2}, late[] = {1, 1, 1, 2};
+    static uint8_t work[KAUNORPI_WORK_SPACE];
+    uint8_t order[7];
+    memset(order, 7, sizeof order);
+    memset(work, 7, sizeof work);
+    kaunorpi_answer a = kaunorpi_order_logs(NET, initial, 3, zeros, 2, others, 3, order, 5, work, sizeof work - 1);
+    EXPECT(a.kind == KAUNORPI_REFUSED && a.number == 2 && a.position == 0 && order[0] == 7 && work[0] == 7);
+    a = kaunorpi_order_logs(NET, initial, 3, zeros, 2, others, 3, order, 5, work, sizeof work);
+    EXPECT(a.kind == KAUNORPI_ANSWERED && a.number == 0 && a.position == 0 && work[0] == 0 && work[sizeof work - 1] == 0);
+    EXPECT(order[0] == 0 && order[1] == 1 && order[2] == 0 && order[3] == 1 && order[4] == 1 && order[5] == 7);
+    /* step 3 takes the second 1, and the 2 lies behind it */
+    kaunorpi_rest r = kaunorpi_unread_rest(zeros, 2, others, 3, order, 5, 3);
+    EXPECT(r.kind == KAUNORPI_ANSWERED && r.number == 0 && r.log == 1 && r.start == 1 && r.length == 2);
+    r = kaunorpi_unread_rest(zeros, 2, others, 3, order, 5, 2);
+    EXPECT(r.log == 0 && r.start == 1 && r.length == 1);
+    EXPECT(kaunorpi_rest_fault(zeros, 2, others, 3, order, 5, 4).kind == KAUNORPI_ANSWERED);
+    EXPECT(kaunorpi_rest_fault(zeros, 2, others, 3, order, 5, 5).number == 16);
+    r = kaunorpi_unread_rest(zeros, 2, others, 3, order, 4, 0);
+    EXPECT(r.kind == KAUNORPI_REFUSED && r.number == 16 && r.log == 0 && r.start == 0 && r.length == 0);
+    order[0] = 7;
+    work[0] = 7;
+    a = kaunorpi_order_logs(NET, initial, 3, zeros, 2, late, 4, order, 6, work, sizeof work);
+    EXPECT(a.kind == KAUNORPI_ANSWERED && a.number == 1 && order[0] == 7 && work[0] == 0);
+}
+
 int main(void) {
     read_the_case();
     write_it_back();
     replay();
     summaries();
     lists_and_weightings();
+    two_logs();
     return wrong;
 }

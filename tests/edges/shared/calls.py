@@ -9,12 +9,12 @@ HUGE = 2**64 - 1  # the largest count, position or place number that can be lent
 
 # How many fields the answer of each question has in include/kaunorpi.h.
 FIELDS = {
-    **dict.fromkeys(["ask_summary", "complement_net"], 3),
+    **dict.fromkeys(["ask_summary", "complement_net", "order_logs", "rest_fault"], 3),
     **dict.fromkeys(["place_weighting", "transition_weighting", "siphon_set", "trap_set"], 3),
     **dict.fromkeys(["replay_word", "replay_stretch", "place_bound", "complement_places", "case_length", "write_case"], 4),
     **dict.fromkeys(["closed_list", "closed_target", "closed_stall", "cover_list", "cover_target"], 4),
     **dict.fromkeys(["empty_summary", "summary_word", "summary_stretch", "join_summaries"], 5),
-    "read_case": 6,
+    **dict.fromkeys(["read_case", "unread_rest"], 6),
 }
 
 told = set()  # the cases so far
