@@ -1,14 +1,14 @@
 -- A whole search: from the initial marking to the order in the room. Assumes nothing.
-use Prim.Native.Nat.{ℕ, zero, suc, _+_, _-_, _≤_}
-use mathlib.Core.Path.{_≡_, refl, sym, _∙_, ap}
+use Prim.Native.Nat.{ℕ, _+_, _≤_}
+use mathlib.Core.Path.{_≡_, sym, _∙_, ap}
 use mathlib.Core.Bool.{Bool, true, false}
-use mathlib.Core.List.{List, []}
+use mathlib.Core.List.{List}
 use native.Mathlib.Omega.{arith}
 use lib.ListN.{length, take, replicate, length-replicate}
-use Rattle.ground.proofs.Tests.{never}
 use Rattle.orders.specs.Orders.{Recorded}
 use Rattle.orders.specs.Lengths.{orderLimit, workLength}
-use Rattle.orders.specs.Search.{Way, noOrder, anOrder, open-to, onto, else-way, step, orderFrom, leftOf}
+use Rattle.orders.specs.Search.{Way}
+use Rattle.orders.proofs.Meaning.{way-long}
 use Rattle.order_find.specs.Walk.{Stands, Ends, Begins, Sought, isOrder, orderOr, wayFrom}
 use Rattle.order_find.proofs.Marks.{remembers-none}
 
@@ -20,36 +20,6 @@ pub ends-loaded :
     (logs : Recorded) (n k : ℕ) (m path : List ℕ) (r : Bool) (m′ path′ work′ initial : List ℕ) → m ≡ initial
     → Ends logs n k m path (wayFrom logs n k m) r m′ path′ work′ → Ends logs n k initial path (wayFrom logs n k initial) r m′ path′ work′
 ends-loaded logs n k m path r m′ path′ work′ initial e s = rw (← e) s
-
--- an order that is found has as many steps as letters were left
-record Long (l : ℕ) (w : Way) : Type 0 where
-  at : (o : List ℕ) → w ≡ anOrder o → length o ≡ l
-
-long-none : (l : ℕ) → Long l noOrder
-long-none l = record { at = λ o e. never (sym (ap isOrder e)) }
-
-long-onto : (l which : ℕ) (w : Way) → Long l w → Long (suc l) (onto which w)
-long-onto l which noOrder h = long-none (suc l)
-long-onto l which (anOrder p) h = record { at = λ o e. sym (ap (λ (x : Way). length (orderOr x [])) e) ∙ ap suc (h .at p refl) }
-
-long-else : (l : ℕ) (v w : Way) → Long l v → Long l w → Long l (else-way v w)
-long-else l noOrder w g h = h
-long-else l (anOrder p) w g h = g
-
-long-step : (logs : Recorded) (l which n k : ℕ) (m : List ℕ) (f : List ℕ → Way) → ((m′ : List ℕ) → Long l (f m′)) → Long (suc l) (step logs which n k m f)
-long-step logs l which n k m f h = go (open-to logs which n k m) refl
-  where
-    go : (b : Bool) → open-to logs which n k m ≡ b → Long (suc l) (step logs which n k m f)
-    go true e = rw e (long-onto l which _ (h _))
-    go false e = rw e (long-none (suc l))
-
-long-from : (logs : Recorded) (l n k : ℕ) (m : List ℕ) → Long l (orderFrom logs l n k m)
-unfolding orderFrom
-long-from logs zero n k m = record { at = λ o e. sym (ap (λ (x : Way). length (orderOr x [])) e) }
-long-from logs (suc l) n k m =
-    long-else (suc l) _ _
-    (long-step logs l 0 n k m (λ m′. orderFrom logs l (n + 1) k m′) (λ m′. long-from logs l (n + 1) k m′))
-    (long-step logs l 1 n k m (λ m′. orderFrom logs l n (k + 1) m′) (λ m′. long-from logs l n (k + 1) m′))
 
 module _ (logs : Recorded) (initial room work : List ℕ) (b : Begins logs initial room work) where
   -- where the search stands at first, its work space cleared
@@ -77,7 +47,7 @@ module _ (logs : Recorded) (initial room work : List ℕ) (b : Begins logs initi
       pub sought-found : (room′ : List ℕ) → r ≡ true → room′ ≡ take (length room) path₂ → Sought logs initial room r room′ work₃
       sought-found room′ y c =
           let w = e .whole y in
-          let long : length room ≡ 0 + 0 + length (w .order) = omega (arith, long-from logs (leftOf logs 0 0) 0 0 initial .at (w .order) (w .is), b .roomy) in
+          let long : length room ≡ 0 + 0 + length (w .order) = omega (arith, way-long logs initial (b .marked) (w .is) .0, b .roomy) in
           record {
             answer = y ∙ sym (ap isOrder (w .is));
             left = c ∙ ap (λ (j : ℕ). take j path₂) long ∙ w .stands ∙ sym (ap (λ (x : Way). orderOr x room) (w .is));
