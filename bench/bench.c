@@ -218,14 +218,17 @@ static void make_straight(void) {
 }
 
 /* The longest way round: the first letter of the first log takes the token that the last one of the second looks at, and all
- * the others are free. A search that forgets where it has been would go through every order of 509 letters. */
+ * the others only put onto a heap. A search that forgets where it has been would go through every order of 509 letters. */
 static void make_comb(void) {
-    P = 1;
-    T = cells = 3;
-    caps[0] = 65535;
+    P = 2;
+    T = 3;
+    cells = 6;
+    caps[0] = caps[1] = 65535;
     initial[0] = 1;
-    pre[0] = pre[1] = post[1] = 1;
-    post[0] = pre[2] = post[2] = 0;
+    initial[1] = 0;
+    memset(pre, 0, cells);
+    memset(post, 0, cells);
+    pre[0] = pre[2] = post[2] = post[5] = 1;
     memset(logs, 2, sizeof logs);
     logs[0][0] = 0;
     logs[1][254] = 1;
@@ -251,7 +254,7 @@ static size_t switch_place(size_t bits, enum order order, size_t side) {
 }
 
 /* All 2^bits settings of so many switches, each a pair of the 64 places and two transitions. The other places never
- * change, and the other transitions are never enabled. */
+ * change, and the other transitions, which would take from one of them each, are never enabled. */
 static void make_switches(size_t bits, enum order order) {
     size_t still = switch_place(bits, order, 63);
     P = 64;
@@ -264,8 +267,10 @@ static void make_switches(size_t bits, enum order order) {
         if (t < 2 * bits) {
             pre[t * 64 + switch_place(bits, order, t)] = 1;
             post[t * 64 + switch_place(bits, order, t ^ 1)] = 1;
-        } else
+        } else {
+            pre[t * 64 + switch_place(bits, order, t)] = 1;
             pre[t * 64 + still] = 255;
+        }
     for (size_t k = 0; k < entries / 64; k++)
         for (size_t side = 0; side < 64; side++)
             list[k * 64 + switch_place(bits, order, side)] =

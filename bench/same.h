@@ -26,7 +26,7 @@ struct fault {
 };
 
 /* Refusals 1 and 2 for a net. */
-static inline struct fault net_fault(KAUNORPI_NET, int fits) {
+static inline struct fault counts_fault(KAUNORPI_NET, int fits) {
     (void)pre, (void)post, (void)caps;
     if (places < 1 || places > 64 || transitions < 1 || transitions > 64)
         return (struct fault){1, 0};
@@ -35,19 +35,58 @@ static inline struct fault net_fault(KAUNORPI_NET, int fits) {
     return (struct fault){0, 0};
 }
 
+/* Whether no transition has an arc with this place. */
+static inline int is_loose_place(size_t places, size_t transitions, const uint8_t *pre, const uint8_t *post, size_t p) {
+    for (size_t t = 0; t < transitions; t++)
+        if (pre[t * places + p] != 0 || post[t * places + p] != 0)
+            return 0;
+    return 1;
+}
+
+/* Whether no place has an arc with this transition. */
+static inline int is_loose_transition(size_t places, const uint8_t *pre, const uint8_t *post, size_t t) {
+    for (size_t p = 0; p < places; p++)
+        if (pre[t * places + p] != 0 || post[t * places + p] != 0)
+            return 0;
+    return 1;
+}
+
+/* Refusal 17. */
+static inline struct fault loose_fault(size_t places, size_t transitions, const uint8_t *pre, const uint8_t *post) {
+    size_t p = 0, t = 0;
+    while (p < places && !is_loose_place(places, transitions, pre, post, p))
+        p++;
+    while (t < transitions && !is_loose_transition(places, pre, post, t))
+        t++;
+    return p < places ? (struct fault){17, p} : t < transitions ? (struct fault){17, 64 + t} : (struct fault){0, 0};
+}
+
+/* Refusals 1, 2 and 17 for a net. */
+static inline struct fault net_fault(KAUNORPI_NET, int fits) {
+    struct fault found = counts_fault(places, transitions, pre, pre_len, post, post_len, caps, caps_len, fits);
+    return found.number == 0 ? loose_fault(places, transitions, pre, post) : found;
+}
+
 /* One place of a given marking has more tokens than may be given. */
 static inline int is_bad_token(uint16_t cap, uint16_t tokens) {
     return tokens > 65534 || tokens > cap;
 }
 
 /* Refusals 1, 2 and 3 for a net and its initial marking. */
-static inline struct fault first_fault(KAUNORPI_NET, const uint16_t *initial, size_t initial_len, int fits) {
-    struct fault found = net_fault(places, transitions, pre, pre_len, post, post_len, caps, caps_len,
-                                   fits && initial_len == places);
+static inline struct fault start_fault(KAUNORPI_NET, const uint16_t *initial, size_t initial_len, int fits) {
+    struct fault found = counts_fault(places, transitions, pre, pre_len, post, post_len, caps, caps_len,
+                                      fits && initial_len == places);
     for (size_t p = 0; found.number == 0 && p < places; p++)
         if (is_bad_token(caps[p], initial[p]))
             return (struct fault){3, p};
     return found;
+}
+
+/* Refusals 1, 2, 3 and 17. */
+static inline struct fault marked_fault(KAUNORPI_NET, const uint16_t *initial, size_t initial_len, int fits) {
+    struct fault found = start_fault(places, transitions, pre, pre_len, post, post_len, caps, caps_len, initial,
+                                     initial_len, fits);
+    return found.number == 0 ? loose_fault(places, transitions, pre, post) : found;
 }
 
 /* Refusals 4 and 5. */

@@ -130,6 +130,12 @@ static struct reading advance(struct reading s, const uint8_t *d, size_t n) {
     }
 }
 
+/* 17: with the line of the last transition stored, a node has no arc. */
+static int is_loose(const struct reading *s, const uint8_t *d, const struct rooms *r) {
+    return byte_at(d, 0) == 4 && s->next + 1 == s->transitions &&
+           loose_fault(s->places, s->transitions, r->pre, r->post).number != 0;
+}
+
 /* The whole lines of the file; the refusal, or 0. */
 static uint8_t read_lines(struct reading *s, const uint8_t *file, size_t file_len, struct rooms *r) {
     size_t at = 0;
@@ -144,6 +150,8 @@ static uint8_t read_lines(struct reading *s, const uint8_t *file, size_t file_le
         if (number != 0)
             return number;
         store(s, file + at, e - at, r);
+        if (is_loose(s, file + at, r))
+            return 17;
         *s = advance(*s, file + at, e - at);
         at = e + 1;
     }

@@ -1,54 +1,78 @@
 /* The complement net and a place weighting, as crates/complement and crates/weighting do it. */
 #include "same.h"
 
-/* All transitions' weights: what is kept, then at each capped place what the other row has more. */
+/* All transitions' weights: what is kept, then at each place that gets a new one what the other row has more. */
 static void write_rows(size_t places, size_t transitions, size_t wide, const uint8_t *kept, const uint8_t *other,
-                       const uint16_t *caps, uint8_t *room) {
+                       const size_t *sources, uint8_t *room) {
     for (size_t t = 0; t < transitions; t++) {
         const uint8_t *k = kept + t * places, *o = other + t * places;
         size_t at = t * wide;
         for (size_t p = 0; p < places; p++)
             room[at + p] = k[p];
         at += places;
-        for (size_t p = 0; p < places; p++)
-            if (caps[p] < 65535)
-                room[at++] = o[p] < k[p] ? 0 : (uint8_t)(o[p] - k[p]);
+        for (size_t q = places; q < wide; q++) {
+            size_t p = sources[q];
+            room[at++] = o[p] < k[p] ? 0 : (uint8_t)(o[p] - k[p]);
+        }
     }
 }
 
-/* How many places have a capacity. */
-static size_t count_capped(size_t places, const uint16_t *caps) {
+/* Whether a place gets a new one: it has a capacity, and some transition changes it. */
+static int is_made(size_t places, size_t transitions, const uint8_t *pre, const uint8_t *post, const uint16_t *caps,
+                   size_t p) {
+    if (caps[p] == 65535)
+        return 0;
+    for (size_t t = 0; t < transitions; t++)
+        if (pre[t * places + p] != post[t * places + p])
+            return 1;
+    return 0;
+}
+
+/* How many places get one. */
+static size_t count_made(size_t places, size_t transitions, const uint8_t *pre, const uint8_t *post,
+                         const uint16_t *caps) {
     size_t count = 0;
     for (size_t p = 0; p < places; p++)
-        count += caps[p] < 65535;
+        count += (size_t)is_made(places, transitions, pre, post, caps, p);
     return count;
+}
+
+/* For each place of the complement net the old place that it stands for. */
+static void find_sources(size_t places, size_t transitions, const uint8_t *pre, const uint8_t *post, const uint16_t *caps,
+                         size_t *sources) {
+    size_t at = places;
+    for (size_t p = 0; p < 64; p++)
+        sources[p] = p;
+    for (size_t p = 0; p < places; p++)
+        if (is_made(places, transitions, pre, post, caps, p))
+            sources[at++] = p;
 }
 
 /* The refusals, then the four rooms one after another. */
 kaunorpi_answer same_complement_net(KAUNORPI_NET, const uint16_t *initial, size_t initial_len, uint8_t *pre2,
                                     size_t pre2_len, uint8_t *post2, size_t post2_len, uint16_t *caps2,
                                     size_t caps2_len, uint16_t *initial2, size_t initial2_len) {
-    size_t wide, at = places;
-    struct fault found = net_fault(places, transitions, pre, pre_len, post, post_len, caps, caps_len, 1);
+    size_t wide, sources[64];
+    struct fault found = counts_fault(places, transitions, pre, pre_len, post, post_len, caps, caps_len, 1);
     if (found.number != 0)
         return (kaunorpi_answer){KAUNORPI_REFUSED, found.number, found.at};
-    wide = places + count_capped(places, caps);
-    found = first_fault(places, transitions, pre, pre_len, post, post_len, caps, caps_len, initial, initial_len,
+    wide = places + count_made(places, transitions, pre, post, caps);
+    found = marked_fault(places, transitions, pre, pre_len, post, post_len, caps, caps_len, initial, initial_len,
                         pre2_len == transitions * wide && post2_len == transitions * wide && caps2_len == wide &&
                             initial2_len == wide);
     if (found.number == 0 && wide > 64)
         found = (struct fault){10, 0};
     if (found.number != 0)
         return (kaunorpi_answer){KAUNORPI_REFUSED, found.number, found.at};
-    write_rows(places, transitions, wide, pre, post, caps, pre2);
-    write_rows(places, transitions, wide, post, pre, caps, post2);
+    find_sources(places, transitions, pre, post, caps, sources);
+    write_rows(places, transitions, wide, pre, post, sources, pre2);
+    write_rows(places, transitions, wide, post, pre, sources, post2);
     for (size_t p = 0; p < wide; p++)
         caps2[p] = 65535;
     for (size_t p = 0; p < places; p++)
         initial2[p] = initial[p];
-    for (size_t p = 0; p < places; p++)
-        if (caps[p] < 65535)
-            initial2[at++] = (uint16_t)(caps[p] - initial[p]);
+    for (size_t q = places; q < wide; q++)
+        initial2[q] = (uint16_t)(caps[sources[q]] - initial[sources[q]]);
     return (kaunorpi_answer){KAUNORPI_ANSWERED, 0, 0};
 }
 

@@ -75,16 +75,19 @@ static inline int is_absent(KAUNORPI_NET, const uint16_t *list, size_t count, co
     return index ? !find(places, list, index, room) : !is_listed(places, count, list, room);
 }
 
-/* Refusals 1, 2, 3 and 9; a cover list's own entries are free. */
+/* Refusals 1, 2, 3, 17 and 9; a cover list's own entries are free. */
 static struct fault list_fault(KAUNORPI_NET, const uint16_t *initial, size_t initial_len, const uint16_t *list,
                                size_t list_len, int cover) {
-    struct fault found = first_fault(places, transitions, pre, pre_len, post, post_len, caps, caps_len, initial,
+    struct fault found = start_fault(places, transitions, pre, pre_len, post, post_len, caps, caps_len, initial,
                                      initial_len, places > 0 && list_len % places == 0);
     if (found.number != 0)
         return found;
     for (size_t k = 0; !cover && k < list_len; k++)
         if (is_bad_token(caps[k % places], list[k]))
             return (struct fault){3, k};
+    found = loose_fault(places, transitions, pre, post);
+    if (found.number != 0)
+        return found;
     if (list_len / places < 1 || list_len / places > 4096)
         return (struct fault){9, 0};
     return found;

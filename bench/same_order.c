@@ -84,7 +84,7 @@ kaunorpi_answer same_order_logs(KAUNORPI_NET, const uint16_t *initial, size_t in
                        first_len, second,      second_len, marking, path, work};
     int fits = room_len >= first_len && room_len - first_len == second_len && work_len == WORK, is_found;
     struct fault found =
-        first_fault(places, transitions, pre, pre_len, post, post_len, caps, caps_len, initial, initial_len, fits);
+        marked_fault(places, transitions, pre, pre_len, post, post_len, caps, caps_len, initial, initial_len, fits);
     if (found.number == 0)
         found = logs_fault(transitions, first, first_len, second, second_len);
     if (found.number != 0)

@@ -18,7 +18,7 @@ static kaunorpi_replay blocked(size_t i, const uint8_t *takes, const uint8_t *pu
 kaunorpi_replay same_replay_word(KAUNORPI_NET, const uint16_t *initial, size_t initial_len, const uint8_t *word,
                                  size_t word_len, uint32_t *room, size_t room_len) {
     size_t i;
-    struct fault found = first_fault(places, transitions, pre, pre_len, post, post_len, caps, caps_len, initial,
+    struct fault found = marked_fault(places, transitions, pre, pre_len, post, post_len, caps, caps_len, initial,
                                      initial_len, room_len == places);
     if (found.number == 0)
         found = word_fault(transitions, word, word_len);

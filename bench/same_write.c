@@ -94,7 +94,7 @@ kaunorpi_length same_write_case(KAUNORPI_NET, const uint16_t *initial, size_t in
                                 size_t word_len, uint8_t *room, size_t room_len) {
     size_t at;
     struct fault found =
-        first_fault(places, transitions, pre, pre_len, post, post_len, caps, caps_len, initial, initial_len, 1);
+        marked_fault(places, transitions, pre, pre_len, post, post_len, caps, caps_len, initial, initial_len, 1);
     if (found.number == 0)
         found = word_fault(transitions, word, word_len);
     if (found.number == 0 && room_len < file_length(places, transitions, word_len))

@@ -58,10 +58,13 @@
  *   15  a log over 255 letters, after 4
  *   16  a list that is not made of as many 0s and 1s as the two logs have letters, or a step that is not below its
  *       length, after 15
- * position is 0 where nothing else is said. Of several refusals the lowest number is given, but that 15 and 16 come
- * right after 4; and of one number the lowest position, the initial marking before a list before a target, and the
+ *   17  a net in which some place or transition has no arc, after 3. position: the lowest such place, else 64 plus the
+ *       lowest such transition
+ * position is 0 where nothing else is said. Of several refusals the lowest number is given, but that 17 comes
+ * right after 3, and 15 and 16 right after 4; and of one number the lowest position, the initial marking before a list before a target, and the
  * first log before the second. A case file (kaunorpi_read_case) is
- * different: the first faulty line decides, on it 11 and 12 come before 1, 3, 4 and 5, and position is that line.
+ * different: the first faulty line decides, on it 11 and 12 come before 1, 3, 17, 4 and 5, and position is that line;
+ * 17 falls on the line of the last transition.
  */
 #ifndef KAUNORPI_H
 #define KAUNORPI_H
@@ -74,7 +77,7 @@ extern "C" {
 #endif
 
 /* Another number with every change of a function, a struct, an answer or a refusal. */
-#define KAUNORPI_VERSION 3
+#define KAUNORPI_VERSION 4
 
 #define KAUNORPI_ANSWERED 0x81
 #define KAUNORPI_REFUSED 0x82
@@ -160,7 +163,7 @@ typedef struct kaunorpi_rest {
     size_t length;
 } kaunorpi_rest;
 
-/* ---- Replay: can the letters of the word happen in this order? Refusals 1 2 3 4 5.
+/* ---- Replay: can the letters of the word happen in this order? Refusals 1 2 3 17 4 5.
  * 0x81 0: all of them. position: how many. room: the tokens of each place afterwards.
  * 0x81 1: letter `position` cannot happen, since `place` has fewer tokens than it takes; no lower place has.
  * 0x81 2: letter `position` cannot happen: no place is short, but `place` would hold more than its capacity; no
@@ -187,13 +190,13 @@ kaunorpi_replay kaunorpi_replay_stretch(KAUNORPI_NET, const uint16_t *initial, s
  * empty-left, empty-right in crates/summary_join/proofs/Meaning.antt. */
 kaunorpi_summary kaunorpi_empty_summary(size_t places, uint32_t *need, size_t need_len, uint32_t *climb,
                                         size_t climb_len, int32_t *change, size_t change_len);
-/* The summary of a word. Refusals 1 2 4 5.
+/* The summary of a word. Refusals 1 2 17 4 5.
  * Contract: crates/c_summary/src/lib.rt. Theorems: word-allowed-made in crates/summary/proofs/Exactly.antt;
  * summary-published in crates/summary_form/proofs/Meaning.antt; fires-iff in crates/summary_ask/proofs/Meaning.antt. */
 kaunorpi_summary kaunorpi_summary_word(KAUNORPI_NET, const uint8_t *word, size_t word_len, uint32_t *need,
                                        size_t need_len, uint32_t *climb, size_t climb_len, int32_t *change,
                                        size_t change_len);
-/* The same for a stretch of a word (see kaunorpi_replay_stretch). Refusals 1 2 4 5.
+/* The same for a stretch of a word (see kaunorpi_replay_stretch). Refusals 1 2 17 4 5.
  * Contract: crates/c_summary/src/lib.rt. Theorems: stretch-allowed-made in crates/summary/proofs/Exactly.antt;
  * summary-published in crates/summary_form/proofs/Meaning.antt; fires-iff in crates/summary_ask/proofs/Meaning.antt. */
 kaunorpi_summary kaunorpi_summary_stretch(KAUNORPI_NET, const uint8_t *word, size_t word_len, size_t start, size_t end,
@@ -210,7 +213,7 @@ kaunorpi_summary kaunorpi_join_summaries(size_t first_places, uint32_t first_let
                                          const int32_t *second_change, size_t second_change_len, uint32_t *need,
                                          size_t need_len, uint32_t *climb, size_t climb_len, int32_t *change,
                                          size_t change_len);
-/* Does the word of this summary fire from this marking? Refusals 1 2 3 6. room: places entries.
+/* Does the word of this summary fire from this marking? Refusals 1 2 3 17 6. room: places entries.
  * 0x81 0: yes, and room holds the tokens of each place afterwards. 0x81 1: no, and room is as it was.
  * Contract: crates/c_summary_ask/src/lib.rt. Theorems: ask-fires, fires-ask, ask-yes, ask-no in
  * crates/summary_ask/proofs/Meaning.antt. */
@@ -219,7 +222,7 @@ kaunorpi_answer kaunorpi_ask_summary(KAUNORPI_NET, const uint16_t *marking, size
                                      const uint32_t *climb, size_t climb_len, const int32_t *change, size_t change_len,
                                      uint32_t *room, size_t room_len);
 
-/* ---- Weightings. Refusals 1 2 8.
+/* ---- Weightings. Refusals 1 2 17 8.
  * y: places entries. 0x81 0: invariant: every firing keeps the sum of y x tokens. 0x81 1: not invariant; position: the
  * lowest transition that changes the sum.
  * Contract: crates/c_weighting/src/lib.rt. Theorems: place-invariant-exactly, place-no-exactly, accepted-keeps-sum
@@ -230,7 +233,7 @@ kaunorpi_answer kaunorpi_place_weighting(KAUNORPI_NET, const int16_t *y, size_t 
  * Contract: crates/c_weighting/src/lib.rt. Theorems: transition-proper-exactly, transition-invariant-exactly,
  * transition-no-exactly, proper-returns in crates/weighting/proofs/Promise.antt. */
 kaunorpi_answer kaunorpi_transition_weighting(KAUNORPI_NET, const int16_t *x, size_t x_len);
-/* What y bounds the tokens of `place` by. Refusals 1 2 3 8 13.
+/* What y bounds the tokens of `place` by. Refusals 1 2 3 17 8 13.
  * 0x81 0: bound: the place never holds more. 0x81 1: no bound, since position: 1 y is not invariant, 2 it has a negative
  * entry, 3 y(place) is not positive.
  * Contract: crates/c_weighting/src/lib.rt. Theorems: bounded-holds in crates/weighting_bound/proofs/Promise.antt;
@@ -238,7 +241,7 @@ kaunorpi_answer kaunorpi_transition_weighting(KAUNORPI_NET, const int16_t *x, si
 kaunorpi_bound kaunorpi_place_bound(KAUNORPI_NET, const uint16_t *initial, size_t initial_len, const int16_t *y,
                                     size_t y_len, size_t place);
 
-/* ---- Sets of places. set: places bytes, 0 for out. Refusals 1 2 8.
+/* ---- Sets of places. set: places bytes, 0 for out. Refusals 1 2 17 8.
  * 0x81 0: yes. 0x81 1: no; position: the lowest transition that breaks it. */
 
 /* Siphon: every transition that puts into the set takes from it; empty, it stays empty.
@@ -250,7 +253,7 @@ kaunorpi_answer kaunorpi_siphon_set(KAUNORPI_NET, const uint8_t *set, size_t set
  * crates/sets/proofs/Promise.antt. */
 kaunorpi_answer kaunorpi_trap_set(KAUNORPI_NET, const uint8_t *set, size_t set_len);
 
-/* ---- Marking lists. list: the markings one after another, places entries each. Refusals 1 2 3 9.
+/* ---- Marking lists. list: the markings one after another, places entries each. Refusals 1 2 3 17 9.
  * 0x81 1: the list is not accepted: the initial marking is missing from it (or not covered).
  * 0x81 2: the list is not accepted: the result of firing `transition` at listed marking number `position` is missing
  *         from it (or not covered). It is the first such marking, and in it the lowest such transition. */
@@ -283,14 +286,15 @@ kaunorpi_list kaunorpi_cover_target(KAUNORPI_NET, const uint16_t *initial, size_
                                     size_t list_len, const uint16_t *target, size_t target_len);
 
 /* ---- The complement net: the same net without capacities, which fires the very same words.
- * 0x81 0: places: how many places it has. Refusals 1 2 10.
+ * 0x81 0: places: how many places it has. Refusals 1 2 17 10.
  * Contract: crates/c_net/src/lib.rt. Theorems: told-places, told-rooms in crates/complement/proofs/Promise.antt. */
 kaunorpi_places kaunorpi_complement_places(KAUNORPI_NET);
 /* 0x81 0: the rooms hold it: transitions * n weights in pre2 and in post2, n capacities and n tokens, where n is what
  * kaunorpi_complement_places answers. The old places come first, with their arcs and tokens; then one place for each
- * place that has a capacity, in order of number: a transition that adds k to the old place takes k from it, one that
- * takes k away puts k there, and it starts with capacity minus tokens. Every capacity is 65,535, none. Where n is over 64,
- * rooms of another length than n says are 2, and rooms of that length 10. Refusals 1 2 3 10.
+ * place that has a capacity and that some transition changes (Pre and Post differ), in order of number: a transition that
+ * adds k to the old place takes k from it, one that takes k away puts k there, and it starts with capacity minus tokens.
+ * Every capacity is 65,535, none. Where n is over 64, rooms of another length than n says are 2, and rooms of that length
+ * 10. Refusals 1 2 3 17 10.
  * Contract: crates/c_net/src/lib.rt. Theorems: made-net, made-initial, made-fires-same, made-blocked-same in
  * crates/complement/proofs/Promise.antt. */
 kaunorpi_answer kaunorpi_complement_net(KAUNORPI_NET, const uint16_t *initial, size_t initial_len, uint8_t *pre2,
@@ -314,14 +318,14 @@ kaunorpi_case kaunorpi_read_case(const uint8_t *file, size_t file_len, uint16_t 
 /* the longest file there is: 64 places, 64 transitions and 65,535 letters, line feeds included */
 #define KAUNORPI_FILE_LIMIT 151371
 
-/* How many bytes the file has, so that a room of that length can be lent. Refusals 1 2 3 4 5.
+/* How many bytes the file has, so that a room of that length can be lent. Refusals 1 2 3 17 4 5.
  * 0x81 0: length.
  * Contract: crates/c_write/src/lib.rt. Theorems: told-length, told-few, told-is-written, short-refused in
  * crates/file_write/proofs/Meaning.antt. */
 kaunorpi_length kaunorpi_case_length(KAUNORPI_NET, const uint16_t *initial, size_t initial_len, const uint8_t *word,
                                      size_t word_len);
 /* Writes the file to the front of room. A room of as many bytes as kaunorpi_case_length tells is long enough, one of
- * KAUNORPI_FILE_LIMIT for every file; a shorter one is refusal 14, given last. Refusals 1 2 3 4 5 14.
+ * KAUNORPI_FILE_LIMIT for every file; a shorter one is refusal 14, given last. Refusals 1 2 3 17 4 5 14.
  * 0x81 0: length: the file is the first `length` bytes of room; what lies behind them is as it was. No zero byte is put at
  * its end.
  * Contract: crates/c_write/src/lib.rt. Theorems: written-length, written-file, written-rest in
@@ -339,7 +343,7 @@ kaunorpi_length kaunorpi_write_case(KAUNORPI_NET, const uint16_t *initial, size_
 #define KAUNORPI_MOST_LOG 255
 #define KAUNORPI_WORK_SPACE 65536
 
-/* Is there an order of the two logs that fires? Refusals 1 2 3 4 15 5. room: first_len + second_len bytes. work:
+/* Is there an order of the two logs that fires? Refusals 1 2 3 17 4 15 5. room: first_len + second_len bytes. work:
  * KAUNORPI_WORK_SPACE bytes, which may hold anything.
  * 0x81 0: yes, and room holds it; of several the one that takes from the first log at the earliest step where two differ.
  * 0x81 1: no order of the two logs fires, and room is as it was.

@@ -80,6 +80,7 @@ say_refused() {
         5) rule='an event names no transition' cause=$(cause_of_event "$2") ;;
         11) rule='the line breaks the digit rules or lacks its line feed' cause=$(cause_of_digits "$2") ;;
         12) rule='unknown kind, wrong order, length or index, or frames missing at the end' cause=$(cause_of_frame "$2") ;;
+        17) rule='a place or a transition has no arc' cause=$(read_names "$names"; cause_of_loose) ;;
     esac
     printf 'the file is refused at line %d and nothing was played: %s (refusal %d).' "$2" "$rule" "$1"
     [ -z "$cause" ] || printf ' Likely cause: %s.' "$cause"
@@ -100,6 +101,24 @@ cause_of_tokens() {
             printf '%s is to start with %d, and its capacity is %d' "${place_names[p]}" "$tokens" "$capacity"
             return
         fi
+    done
+}
+
+# The first place that no transition has an arc with, else the first transition without one.
+cause_of_loose() {
+    local p t row
+    for ((p = 0; p < places; p++)); do
+        for ((t = 0; t < transitions; t++)); do
+            row=${frames[3 + t]}
+            [ "${row:4 + 2 * p:2}${row:4 + 2 * (places + p):2}" = 0000 ] || continue 2
+        done
+        printf 'no transition takes from %s or puts there' "${place_names[p]}"
+        return
+    done
+    for ((t = 0; t < transitions; t++)); do
+        [[ ${frames[3 + t]:4} =~ ^0*$ ]] || continue
+        printf '%s takes nothing and puts nothing' "${transition_names[t]}"
+        return
     done
 }
 

@@ -1,5 +1,5 @@
 #!/usr/bin/env python3
-"""Case files and the line that each must answer, from document 01's "Case file lines" and DECISIONS 48 and 98.
+"""Case files and the line that each must answer, from document 01's "Case file lines", 02's E4 and DECISIONS 48 and 98.
 
   tests/cases/make.py          writes NAME.case and NAME.line beside itself
   tests/cases/make.py --check  says nothing where the files are those that it would write
@@ -64,7 +64,11 @@ def frame(want, net, piece, line):
             raise Refused(12, line)
         net["pre"].append(rest[1:1 + places])
         net["post"].append(rest[1 + places:])
-        return "05" if len(net["pre"]) == net["T"] else "04"
+        if len(net["pre"]) < net["T"]:
+            return "04"
+        if is_loose(net):
+            raise Refused(17, line)
+        return "05"
     if not 1 <= len(rest) <= 64 or len(net["word"]) % 64:
         raise Refused(12, line)
     if len(net["word"]) + len(rest) > 65535:
@@ -75,13 +79,14 @@ def frame(want, net, piece, line):
     return "05"
 
 
-def answer(data):
-    """The verdict line of a file."""
-    try:
-        net = judge(data)
-    except Refused as refusal:
-        number, line = refusal.args
-        return "82%02X%08X\n" % (number, line)
+def is_loose(net):
+    """Document 02, E4: "some place or transition has no arc"; "in a file, on the line of the last transition"."""
+    rows = [[a + b for a, b in zip(pre, post)] for pre, post in zip(net["pre"], net["post"])]
+    return not all(map(any, rows)) or not all(map(any, zip(*rows)))
+
+
+def replayed(net):
+    """The verdict line of a net, marking and word, loose or not."""
     marking = list(net["initial"])
     for at, letter in enumerate(net["word"]):
         pre, post = net["pre"][letter], net["post"][letter]
@@ -94,6 +99,16 @@ def answer(data):
             return "8102%08X%02X\n" % (at, over[0])
         marking = after
     return "8100%08X%s\n" % (len(net["word"]), "".join("%08X" % m for m in marking))
+
+
+def answer(data):
+    """The verdict line of a file."""
+    try:
+        net = judge(data)
+    except Refused as refusal:
+        number, line = refusal.args
+        return "82%02X%08X\n" % (number, line)
+    return replayed(net)
 
 
 def lines_of(places, transitions, caps, initial, pre, post, word):
@@ -121,8 +136,69 @@ def big(places, transitions, letters, rng):
     post = [[0] * places for _ in range(transitions)]
     for t in range(transitions):
         pre[t][t % places], post[t][(t + 1) % places] = 1, 1
+    for p in range(transitions + 1, places):  # what no transition has reached yet
+        post[0][p] = 1
     word = [t % transitions for t in range(letters)]
     return text(lines_of(places, transitions, [NONE] * places, [1] + [0] * (places - 1), pre, post, word))
+
+
+def wire(held):
+    """Gives each loose node a loop of weight 1, the first that leaves the line as it is."""
+    line, cells = replayed(held), [(p, t) for t in range(held["T"]) for p in range(held["P"])]
+    has_arc = lambda p, t: held["pre"][t][p] or held["post"][t][p]
+    for node in [(p, None) for p in range(held["P"])] + [(None, t) for t in range(held["T"])]:
+        touching = [(p, t) for p, t in cells if node in ((p, None), (None, t))]
+        if any(has_arc(*cell) for cell in touching):
+            continue
+        for p, t in touching:
+            held["pre"][t][p] = held["post"][t][p] = 1
+            if replayed(held) == line:
+                break
+            held["pre"][t][p] = held["post"][t][p] = 0
+    assert not is_loose(held)
+
+
+def loose_cases():
+    """Nodes without an arc: 17, on the line of the last transition."""
+    row = {0: "0400010000000100", 1: "0401000100010002", 2: "0402000003000000"}
+    for name, rows in (
+        ("place-0", ["0400000000000100", "0401000100000002", row[2]]),
+        ("place-1", ["0400010000000000", "0401000000010002", row[2]]),
+        ("place-2", [row[0], "0401000100010000", "0402010000000000"]),
+        ("transition-0", ["0400000000000000", row[1], row[2]]),
+        ("transition-1", ["0400010000000102", "0401000000000000", row[2]]),
+        ("transition-2", [row[0], row[1], "0402000000000000"]),
+        ("both", ["0400000000000000", "0401000100010000", "0402010000000000"]),
+        ("all", ["0400000000000000", "0401000000000000", "0402000000000000"]),
+    ):
+        yield "loose-" + name, text(WHOLE[:3] + rows + WHOLE[6:])
+    for name, rows in (
+        ("takes", ["0400010100000100", "0401000100000000", row[2]]),  # nothing is put into place 0 or 2
+        ("puts", ["0400000100010000", "0401000100000002", "0402000100000000"]),  # nothing is taken from place 0 or 2
+        ("loop", [row[0], row[1], "0402000001000001"]),  # transition 2 changes nothing
+    ):
+        yield "wired-" + name, text(WHOLE[:3] + rows + WHOLE[6:])
+    first = ["0400000000000000", row[1], row[2]]  # transition 0 is loose
+    last = [row[0], row[1], "0402000000000000"]
+    yield "loose-then-letter-3", text(WHOLE[:3] + first + ["050003"])
+    yield "loose-then-no-letter", text(WHOLE[:3] + first + ["05"])
+    yield "loose-then-too-many", text(["010102", "02FFFF", "030000", "04000001", "04010000"] + ["05" + "00" * 64] * 1024)
+    yield "loose-no-word", text(WHOLE[:3] + last)
+    yield "loose-no-feed", text(WHOLE[:3] + last)[:-1]
+    yield "loose-then-no-feed", text(WHOLE[:3] + last + WHOLE[6:])[:-1]
+    yield "loose-and-tokens", text(WHOLE[:2] + ["03000100000006"] + first + WHOLE[6:])
+    yield "loose-and-counts", text(["010003"] + WHOLE[1:3] + first + WHOLE[6:])
+    yield "loose-and-index", text(WHOLE[:3] + last[:2] + ["0403000000000000"] + WHOLE[6:])
+    yield "loose-and-length", text(WHOLE[:3] + last[:2] + ["040200000000000000"] + WHOLE[6:])
+    yield "loose-and-digit", text(WHOLE[:3] + last[:2] + ["040200000000000G"] + WHOLE[6:])
+    yield "loose-and-missing", text(WHOLE[:3] + first[:2])
+    yield "loose-and-index-before", text(WHOLE[:3] + [first[0], "0400000100010002", first[2]] + WHOLE[6:])
+    yield "loose-one", text(["010101", "02FFFF", "030000", "04000000", "0500"])
+    rows = lambda loose: [[0 if p == loose else 1 for p in range(64)]] * 64
+    nothing = [[0] * 64] * 64
+    yield "loose-place-63", text(lines_of(64, 64, [NONE] * 64, [1] * 64, rows(63), nothing, [0]))
+    yield "loose-transition-63", text(lines_of(64, 64, [NONE] * 64, [1] * 64, rows(None)[:63] + [[0] * 64], nothing, [0]))
+    yield "wired-64", text(lines_of(64, 64, [NONE] * 64, [1] * 64, [[int(p == t) for p in range(64)] for t in range(64)], nothing, [0]))
 
 
 def cases():
@@ -194,6 +270,7 @@ def cases():
     yield "carriage-returns", text(WHOLE).replace(b"\n", b"\r\n")
     yield "feeds", b"\n" * 5
     yield "high-bytes", b"\xff\xfe\n"
+    yield from loose_cases()
     # blocks short and over on believable nets, by chance
     for k in range(30):
         p, t = rng.randint(1, 9), rng.randint(1, 6)
@@ -202,6 +279,7 @@ def cases():
         pre = [[rng.choice([0, 0, 1, 2]) for _ in range(p)] for _ in range(t)]
         post = [[rng.choice([0, 0, 1, 2, rng.choice([0, 255])]) for _ in range(p)] for _ in range(t)]
         word = [rng.randrange(t) for _ in range(rng.choice([0, 1, 5, 64, 100, 300]))]
+        wire({"P": p, "T": t, "caps": caps, "initial": initial, "pre": pre, "post": post, "word": word})
         data = text(lines_of(p, t, caps, initial, pre, post, word))
         yield "chance-%02d" % k, data
         if k % 3 == 0:

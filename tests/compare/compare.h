@@ -1,7 +1,7 @@
 /* The comparer: the library and the reference are asked the same questions, and must agree in everything.
  *
  * An input is drawn from a seed, its question and its number alone (random.c), with the faults that plan.c plans for it,
- * into lent memory with guard bytes around each piece (lend.c). What is drawn is up to net.c, word.c, complement.c,
+ * into lent memory with guard bytes around each piece (lend.c). What is drawn is up to net.c, wire.c, word.c, complement.c,
  * summary.c, weighting.c, lists.c, file.c, damage.c, write.c and order.c; ask.c puts the question to both sides; compare.c
  * compares, counts what came, and reports; faults.c and lines.c find which lent thing a refusal comes from, decided.c counts
  * those, and edges.c knows the edges that must come. every.c asks without chance: all short logs of some small nets.
@@ -52,7 +52,7 @@ void print_input(void);
 /* ---- plan.c, faults.c, lines.c */
 
 /* Refusals are numbered from 1 up to, and without, this. */
-enum { REFUSALS = 17 };
+enum { REFUSALS = 18 };
 
 /* Every fault that a lent thing can have, by the refusal that it gives; the table in faults.c has their names. */
 enum fault {
@@ -76,6 +76,8 @@ enum fault {
     OVER_LOG, OVER_LOG_1,
     /* 16 */
     ORDER_SPLIT, ORDER_BYTE, ORDER_LENGTH, BAD_STEP,
+    /* 17 */
+    LOOSE_PLACE, LOOSE_TRANSITION, FILE_LOOSE_PLACE, FILE_LOOSE_TRANSITION,
     FAULTS
 };
 
@@ -104,6 +106,21 @@ void look_at_line(size_t line);
 int line_feed(void), line_empty(void), line_odd(void), line_long(void), line_digit(void);
 int frame_kind(void), frame_order(void), frame_length(void), frame_index(void), frame_short(void), frame_missing(void);
 int file_places(void), file_transitions(void), file_full(void), file_over(void);
+int file_loose_place(void), file_loose_transition(void);
+
+/* ---- wire.c */
+
+/* A net's weights, where an input, a file or a summary has them. */
+struct weights {
+    size_t places, transitions;
+    uint8_t *pre, *post;
+};
+size_t count_loose(const struct weights *net, int transitions);
+void wire(const struct weights *net, int with_loops);
+void loosen(const struct weights *net, int places, int transitions);
+int has_loose_place(void), has_loose_transition(void);
+void wire_net(int with_loops);
+void break_net(void);
 
 /* ---- net.c */
 size_t draw_count(void);
@@ -119,6 +136,9 @@ int enabled_now(const int64_t *m, size_t t);
 void fire_now(int64_t *m, size_t t);
 int64_t change_now(size_t p, size_t t);
 uint16_t within(size_t p, uint16_t tokens);
+
+/* ---- complement.c */
+int has_capped_loop(void);
 
 /* ---- word.c */
 void draw_word(uint8_t *word, size_t length, size_t from);

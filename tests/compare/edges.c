@@ -106,6 +106,31 @@ static int byte_instead(const struct given *g) {
     return refused(g, 16) && is_alone() && breaks(ORDER_BYTE) && in.order.count == in.log[0].count + in.log[1].count;
 }
 
+/* Where loose nodes are. */
+static int last_loose(const struct given *g) { return refused(g, 17) && g->field[0] + 1 == in.places && in.places > 1; }
+static int between_loose(const struct given *g) {
+    return refused(g, 17) && g->field[0] > 0 && g->field[0] + 1 < in.places;
+}
+static int first_loose_after(const struct given *g) { return refused(g, 17) && g->field[0] == 64 && in.transitions > 1; }
+static int last_loose_after(const struct given *g) {
+    return refused(g, 17) && g->field[0] == 63 + in.transitions && in.transitions > 1;
+}
+static int between_loose_after(const struct given *g) {
+    return refused(g, 17) && g->field[0] > 64 && g->field[0] < 63 + in.transitions;
+}
+static int both_loose(const struct given *g) { return refused(g, 17) && has_loose_place() && has_loose_transition(); }
+static int loose_before_letter(const struct given *g) { return refused(g, 17) && breaks(FILE_LETTER); }
+static int capped_loop(const struct given *g) { return answered(g, 0) && has_capped_loop(); }
+static int capped_loop_full(const struct given *g) { return full_complement(g) && has_capped_loop(); }
+
+/* The edges of loose nodes, for a question that is lent a net. */
+#define LOOSE(question) \
+    {question, "the last place loose", last_loose, 0}, {question, "a place between loose", between_loose, 0}, \
+        {question, "the first transition loose", first_loose_after, 0}, \
+        {question, "the last transition loose", last_loose_after, 0}, \
+        {question, "a transition between loose", between_loose_after, 0}, \
+        {question, "a place and a transition loose", both_loose, 0}
+
 /* A question's edge, and how often it came. */
 static struct edge {
     const char *question, *what;
@@ -174,6 +199,30 @@ static struct edge {
     {"unread_rest", "a step at the order's length", step_at_end, 0},
     {"unread_rest", "another byte beside all 0s and 1s", byte_beside, 0},
     {"unread_rest", "another byte instead of a 0 or 1", byte_instead, 0},
+    {"complement_places", "a capped place that only loops touch", capped_loop, 0},
+    {"complement_places", "the same with 64 places in all", capped_loop_full, 0},
+    {"complement_net", "a capped place that only loops touch", capped_loop, 0},
+    {"read_case", "a wrong letter after a loose net", loose_before_letter, 0},
+    LOOSE("replay_word"),
+    LOOSE("replay_stretch"),
+    LOOSE("summary_word"),
+    LOOSE("summary_stretch"),
+    LOOSE("ask_summary"),
+    LOOSE("place_weighting"),
+    LOOSE("transition_weighting"),
+    LOOSE("place_bound"),
+    LOOSE("siphon_set"),
+    LOOSE("trap_set"),
+    LOOSE("closed_list"),
+    LOOSE("closed_target"),
+    LOOSE("closed_stall"),
+    LOOSE("cover_list"),
+    LOOSE("cover_target"),
+    LOOSE("complement_places"),
+    LOOSE("complement_net"),
+    LOOSE("case_length"),
+    LOOSE("write_case"),
+    LOOSE("order_logs"),
 };
 
 /* Counts the edges that this input and answer meet. */

@@ -185,4 +185,8 @@ const struct fault_kind faults[FAULTS] = {
     [ORDER_BYTE] = {16, "a step that is neither 0 nor 1", 0, order_byte},
     [ORDER_LENGTH] = {16, "an order of another length", 0, order_length},
     [BAD_STEP] = {16, "a step that the order does not have", 0, bad_step},
+    [LOOSE_PLACE] = {17, "a place without an arc", 0, has_loose_place},
+    [LOOSE_TRANSITION] = {17, "a transition without an arc", 0, has_loose_transition},
+    [FILE_LOOSE_PLACE] = {17, "a place of the file without an arc", 0, file_loose_place},
+    [FILE_LOOSE_TRANSITION] = {17, "a transition of the file without an arc", 0, file_loose_transition},
 };

@@ -49,17 +49,34 @@ static void add_head(size_t places, size_t transitions) {
     add_frame(tokens, 1 + 2 * places);
 }
 
-/* Frames 04, then 05 for the letters; where that is planned, with a wrong one on one of their lines, on that of letter
- * 65,536, and now and then on another. */
-static void add_rows_and_letters(size_t places, size_t transitions, size_t letters) {
-    size_t lines = (letters + 63) / 64, faulty = letters > 65535 ? 65472 : lines > 0 ? 64 * below(lines) : 0;
-    uint8_t frame[MOST_FRAME];
+/* Frames 04: weights by chance, or few of them; loose nodes only where they are planned. */
+static void add_rows(size_t places, size_t transitions) {
+    static uint8_t pre[4096], post[4096];
+    struct weights net = {places, transitions, pre, post};
+    uint8_t frame[MOST_FRAME] = {4};
+    size_t one_in = chance(2) ? 1 : 2 + below(12);
+    fill_random(pre, places * transitions);
+    fill_random(post, places * transitions);
+    for (size_t i = 0; one_in > 1 && i < places * transitions; i++) {
+        pre[i] = chance(one_in) ? pre[i] : 0;
+        post[i] = chance(one_in) ? post[i] : 0;
+    }
+    wire(&net, 0);
+    if (breaks(FILE_LOOSE_PLACE) || breaks(FILE_LOOSE_TRANSITION))
+        loosen(&net, breaks(FILE_LOOSE_PLACE), breaks(FILE_LOOSE_TRANSITION));
     for (size_t t = 0; t < transitions; t++) {
-        fill_random(frame, sizeof frame);
-        frame[0] = 4;
         frame[1] = (uint8_t)t;
+        memcpy(frame + 2, pre + t * places, places);
+        memcpy(frame + 2 + places, post + t * places, places);
         add_frame(frame, 2 + 2 * places);
     }
+}
+
+/* Frames 05 for the letters; where that is planned, with a wrong one on one of their lines, on that of letter 65,536, and now
+ * and then on another. */
+static void add_all_letters(size_t transitions, size_t letters) {
+    size_t lines = (letters + 63) / 64, faulty = letters > 65535 ? 65472 : lines > 0 ? 64 * below(lines) : 0;
+    uint8_t frame[MOST_FRAME];
     for (size_t at = 0; at < letters; at += 64) {
         size_t count = letters - at < 64 ? letters - at : 64;
         frame[0] = 5;
@@ -99,9 +116,12 @@ static size_t draw_letter_count(void) {
 static void draw_text(void) {
     size_t places = draw_count();
     f->transitions = draw_count();
+    places += is_alone() && breaks(FILE_LOOSE_PLACE) && places == 1;
+    f->transitions += is_alone() && breaks(FILE_LOOSE_TRANSITION) && f->transitions == 1;
     f->lines = 0;
     add_head(places, f->transitions);
-    add_rows_and_letters(places, f->transitions, draw_letter_count());
+    add_rows(places, f->transitions);
+    add_all_letters(f->transitions, draw_letter_count());
     damage_frames();
     write_text();
     damage_text();

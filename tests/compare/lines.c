@@ -90,9 +90,9 @@ int frame_length(void) {
     return size != (kind == 1 ? 3 : kind == 4 ? 2 + 2 * places : 1 + 2 * places);
 }
 
-/* Has the row of a transition another number than is due? */
+/* Has the row of a transition another number than is due? One that is too short to have a number has none. */
 int frame_index(void) {
-    return here.at != NULL && due() == 4 && byte_of(&here, 0) == 4 && byte_of(&here, 1) != number - 4;
+    return here.size >= 4 && due() == 4 && byte_of(&here, 0) == 4 && byte_of(&here, 1) != number - 4;
 }
 
 /* Do letters follow a frame that is not full? */
@@ -105,6 +105,23 @@ int frame_missing(void) { return here.at == NULL; }
 
 int file_places(void) { return byte_of(&here, 1) < 1 || byte_of(&here, 1) > 64; }
 int file_transitions(void) { return byte_of(&here, 2) < 1 || byte_of(&here, 2) > 64; }
+
+/* How many places, or transitions, of the file have no arc; the rows of all transitions are right. */
+static size_t loose_in_file(int transitions) {
+    static uint8_t pre[4096], post[4096];
+    struct weights net = {count_of(1), count_of(2), pre, post};
+    for (size_t t = 0; t < net.transitions; t++) {
+        struct line row = line_of(4 + t);
+        for (size_t p = 0; p < net.places; p++) {
+            pre[t * net.places + p] = (uint8_t)byte_of(&row, 2 + p);
+            post[t * net.places + p] = (uint8_t)byte_of(&row, 2 + net.places + p);
+        }
+    }
+    return count_loose(&net, transitions);
+}
+
+int file_loose_place(void) { return loose_in_file(0) > 0; }
+int file_loose_transition(void) { return loose_in_file(1) > 0; }
 
 /* Has a place 65,535 tokens? */
 int file_full(void) {

@@ -69,6 +69,7 @@ static void draw_list_net(void) {
     if (chance(4))
         for (size_t i = 0; i < in.pre.count && i < in.post.count; i++)
             pre[i] = (uint8_t)below(2), post[i] = (uint8_t)below(2);
+    wire_net(0);
 }
 
 /* A place that counts up, and down again: a list of many different markings. */
@@ -199,6 +200,7 @@ static void lend_target(void) {
 void make_closed(void) {
     make_list(0);
     break_marking();
+    break_net();
 }
 
 /* Net, marking, closed list, target. */
@@ -206,12 +208,14 @@ void make_closed_target(void) {
     make_list(0);
     lend_target();
     break_marking();
+    break_net();
 }
 
 /* Net, marking, cover list. */
 void make_cover(void) {
     make_list(1);
     break_marking();
+    break_net();
 }
 
 /* Net, marking, cover list, target. */
@@ -219,4 +223,5 @@ void make_cover_target(void) {
     make_list(1);
     lend_target();
     break_marking();
+    break_net();
 }

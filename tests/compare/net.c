@@ -51,14 +51,16 @@ static uint16_t draw_cap(size_t style) {
     return style == 1 ? (uint16_t)below(8) : edges[below(7)];
 }
 
-/* A net of these counts; its lists fit them unless another length is planned. */
+/* A wired net of these counts; its lists fit them unless another length is planned. Where one kind of nodes alone is to be
+ * loose, it has two of them: else the others would be loose too. */
 void draw_net_of(size_t places, size_t transitions) {
-    size_t p = places < 80 ? places : 80, t = transitions < 80 ? transitions : 80;
-    size_t style = below(7), cap_style = below(4);
+    size_t p, t, style = below(7), cap_style = below(4);
     uint8_t *pre, *post;
     uint16_t *caps;
-    in.places = places;
-    in.transitions = transitions;
+    in.places = places + (is_alone() && breaks(LOOSE_PLACE) && places == 1);
+    in.transitions = transitions + (is_alone() && breaks(LOOSE_TRANSITION) && transitions == 1);
+    p = in.places < 80 ? in.places : 80;
+    t = in.transitions < 80 ? in.transitions : 80;
     pre = lend(&in.pre, 1, p * t);
     post = lend(&in.post, 1, p * t);
     caps = lend(&in.caps, 2, p);
@@ -70,6 +72,7 @@ void draw_net_of(size_t places, size_t transitions) {
         if (i < in.post.count)
             post[i] = puts;
     }
+    wire_net(0);
     for (size_t i = 0; i < in.caps.count; i++)
         caps[i] = draw_cap(cap_style);
 }

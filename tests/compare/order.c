@@ -70,6 +70,7 @@ static void begin(int64_t *m, int is_tight) {
             tighten();
         if (is_tight && chance(2))
             pair_up();
+        wire_net(0);
         for (size_t p = 0; p < in.places; p++)
             m[p] = initial[p];
         if (!is_tight || draw_enabled(m) != NOWHERE)
@@ -191,6 +192,7 @@ void make_order_logs(void) {
     lend_room(&in.room, 1, in.log[0].count + in.log[1].count);
     lend_work();
     break_marking();
+    break_net();
 }
 
 /* Puts an order of the two logs there, and answers its steps: at each any letter that is left is as likely. Logs that are far

@@ -5,7 +5,15 @@
 #include <stdio.h>
 #include <string.h>
 
-enum { NAMED = 9 };
+enum { NAMED = 24 };
+
+/* The questions that are lent a net and a marking, and those that are lent a net alone. */
+#define MARKED \
+    "replay_word", "replay_stretch", "ask_summary", "place_bound", "closed_list", "closed_target", "closed_stall", \
+        "cover_list", "cover_target", "complement_net", "case_length", "write_case", "order_logs"
+#define UNMARKED \
+    "summary_word", "summary_stretch", "place_weighting", "transition_weighting", "siphon_set", "trap_set", \
+        "complement_places"
 
 /* The rules by number, what is broken, and where it must show. */
 static const struct {
@@ -96,6 +104,24 @@ static const struct {
     {77, "0s are counted for the second log and 1s for the first", {"rest_fault", "unread_rest"}},
     {78, "16 comes before 15", {"rest_fault", "unread_rest"}},
     {79, "a refused rest is not empty", {"unread_rest"}},
+    {80, "17 comes before 3", {MARKED}},
+    {81, "transitions are looked at before places", {MARKED, UNMARKED}},
+    {82, "the position of a loose transition lacks its 64", {MARKED, UNMARKED}},
+    {83, "a node is loose if nothing is taken there", {MARKED, UNMARKED, "read_case"}},
+    {84, "a node is loose if nothing is put there", {MARKED, UNMARKED, "read_case"}},
+    {85, "a capped place that only loops touch has a complement place", {"complement_places", "complement_net"}},
+    {86, "17 in a file falls on the line of the loose transition", {"read_case"}},
+    {87, "places are not looked at for arcs", {MARKED, UNMARKED, "read_case"}},
+    {88, "transitions are not looked at for arcs", {MARKED, UNMARKED, "read_case"}},
+    {89, "4 comes before 17",
+     {"replay_word", "replay_stretch", "summary_word", "summary_stretch", "case_length", "write_case", "order_logs"}},
+    {90, "6 comes before 17", {"ask_summary"}},
+    {91, "8 comes before 17", {"place_weighting", "transition_weighting", "place_bound", "siphon_set", "trap_set"}},
+    {92, "9 comes before 17", {"closed_list", "closed_target", "closed_stall", "cover_list", "cover_target"}},
+    {93, "15 comes before 17", {"order_logs"}},
+    {94, "10 comes before 17", {"complement_places", "complement_net"}},
+    {95, "17 in a file comes after all its letters", {"read_case"}},
+    {96, "a capped place that is only taken from has no complement place", {"complement_places", "complement_net"}},
 };
 
 /* Must the rule show in this question? */

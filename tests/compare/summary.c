@@ -13,11 +13,13 @@ struct drawn {
 static void draw_from_word(struct drawn *s, size_t places) {
     uint8_t pre[64 * 3], post[64 * 3], word[40];
     uint16_t caps[64] = {0};
+    struct weights net = {places, 3, pre, post};
     size_t length = below(41), most = chance(3) ? 256 : 4;
     for (size_t i = 0; i < places * 3; i++) {
         pre[i] = (uint8_t)below(most);
         post[i] = (uint8_t)below(most);
     }
+    wire(&net, 0);
     for (size_t i = 0; i < length; i++)
         word[i] = (uint8_t)below(3);
     s->letters = (uint32_t)length;
@@ -165,4 +167,5 @@ void make_ask(void) {
     lend_summary(0, &s, places, said);
     lend_room(&in.room, 4, in.places < 80 ? in.places : 80);
     break_marking();
+    break_net();
 }

@@ -74,18 +74,21 @@ static void bend_net(const int16_t *weights, int along_rows) {
     }
     if (chance(3))
         add_change(below(cells), chance(2) ? 1 : -1);
+    wire_net(1);
 }
 
 /* Net, place weighting. */
 void make_place_weighting(void) {
     draw_net();
     bend_net(draw_weights(in.places < 80 ? in.places : 80), 1);
+    break_net();
 }
 
 /* Net, transition weighting. */
 void make_transition_weighting(void) {
     draw_net();
     bend_net(draw_weights(in.transitions < 80 ? in.transitions : 80), 0);
+    break_net();
 }
 
 /* Net, marking, place weighting, place number. */
@@ -97,6 +100,7 @@ void make_bound(void) {
     break_marking();
     if (breaks(BAD_PLACE))
         in.place = chance(3) ? (size_t)-1 : in.places + below(3);
+    break_net();
 }
 
 /* Net, set: members are any byte but 0; none only where that is planned. */
@@ -110,4 +114,5 @@ void make_set(void) {
         set[i] = breaks(ALL_ZERO) || !chance(one_in) ? 0 : members[below(5)];
     if (in.set.count > 0 && !breaks(ALL_ZERO))
         set[below(in.set.count)] = members[below(5)];
+    break_net();
 }

@@ -57,7 +57,7 @@ static void draw_net_for(int is_long) {
  * that they move away from. Either nothing ever blocks, or a place runs empty, or full, near the word's end. */
 static void bend_for_long_words(void) {
     size_t kind = below(4);
-    uint8_t takes = kind == 1 ? 1 : kind == 3 ? (uint8_t)draw() : 0;
+    uint8_t takes = kind == 1 ? 1 : kind == 3 ? (uint8_t)(1 + below(255)) : 0;
     uint8_t puts = kind == 0 ? 255 : kind == 2 ? 1 : kind == 3 ? takes : 0;
     uint8_t *pre = own(&in.pre), *post = own(&in.post);
     uint16_t *caps = own(&in.caps), *initial = own(&in.initial);
@@ -87,6 +87,7 @@ void make_replay(void) {
     lend_word(is_long ? 65535 : draw_length());
     lend_room(&in.room, 4, in.places < 80 ? in.places : 80);
     break_marking();
+    break_net();
 }
 
 /* Makes the ends wrong where that is planned: the start past the end, the end past the word, or both. */
@@ -138,6 +139,7 @@ void make_replay_stretch(void) {
     draw_word_and_stretch(is_long);
     lend_room(&in.room, 4, in.places < 80 ? in.places : 80);
     break_marking();
+    break_net();
 }
 
 /* The three rooms of a summary. */
@@ -159,6 +161,7 @@ void make_summary(void) {
     draw_net_for(is_long);
     lend_word(is_long ? 65535 : draw_length());
     lend_summary_rooms();
+    break_net();
 }
 
 /* Net, word, stretch, rooms. */
@@ -167,4 +170,5 @@ void make_summary_stretch(void) {
     draw_net_for(is_long);
     draw_word_and_stretch(is_long);
     lend_summary_rooms();
+    break_net();
 }

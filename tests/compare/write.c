@@ -24,6 +24,7 @@ void make_case_length(void) {
     draw_marking();
     lend_word(draw_letters());
     break_marking();
+    break_net();
 }
 
 /* How long the room is: exactly as long as the file, one longer, more; where that is planned one short, empty, or shorter. */

@@ -12,7 +12,7 @@ import sys
 from pathlib import Path
 
 sys.path.insert(0, str(Path(__file__).resolve().parents[1] / "cases"))
-from make import WHOLE, Refused, big, judge, text
+from make import WHOLE, Refused, big, judge, loose_cases, text
 
 from shared.calls import call, group, heading, quoted
 
@@ -95,9 +95,17 @@ def faults():
     read(65, "a lower-case digit", text([WHOLE[0], "02ffffFFFF0005"] + WHOLE[2:]))
 
 
+def loose_nodes():
+    group("nodes without an arc: refusal 17 on the line of the last transition; the files of tests/cases of that name")
+    for k, (name, data) in enumerate(loose_cases()):
+        read(101 + k, name, data)
+    read(141, "17 and rooms of another length: 2", dict(loose_cases())["loose-all"], {"pre": 4095})
+
+
 whole()
 rooms()
 digits()
 counts()
 words()
 faults()
+loose_nodes()

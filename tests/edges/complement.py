@@ -12,16 +12,17 @@ It also checks, word by word up to three letters, that each net that is written 
 
 from itertools import product
 
-from shared.calls import HUGE, NONE, call, group, heading, net as lent_net
+from shared.calls import HUGE, LOOSE, NONE, WIRED, call, group, heading, loose, net as lent_net
 
 
 def weights(P, T, flat):
     return {(p, t): flat[t * P + p] for t in range(T) for p in range(P)}
 
 
-def capped(caps):
-    """The capped places, in order of number."""
-    return [p for p, c in enumerate(caps) if c != NONE]
+def capped(P, T, pre, post, caps):
+    """The places that get a new one, in order of number: "only for a capped place that some transition changes" (02, E4)."""
+    changed = {p for t in range(T) for p in range(P) if pre[t * P + p] != post[t * P + p]}
+    return [p for p, c in enumerate(caps) if c != NONE and p in changed]
 
 
 def net_refusal(P, T, pre, post, caps):
@@ -34,9 +35,10 @@ def net_refusal(P, T, pre, post, caps):
 
 def places_answer(P, T, pre, post, caps):
     refused = net_refusal(P, T, pre, post, caps)
-    if refused is None and P + len(capped(caps)) > 64:
-        refused = 10, 0  # "old plus complement places over 64"
-    return [130, *refused] if refused else [129, 0, 0, P + len(capped(caps))]
+    refused = refused or loose(P, T, pre, post)
+    if refused is None and P + len(capped(P, T, pre, post, caps)) > 64:
+        refused = 10, 0  # "old plus complement places over 64", which "counts only those made"
+    return [130, *refused] if refused else [129, 0, 0, P + len(capped(P, T, pre, post, caps))]
 
 
 def net_answer(P, T, pre, post, caps, initial, lengths):
@@ -44,20 +46,22 @@ def net_answer(P, T, pre, post, caps, initial, lengths):
     rooms = [[7] * n for n in lengths]
     refused = net_refusal(P, T, pre, post, caps)
     if refused is None:
-        new = P + len(capped(caps))
+        new = P + len(capped(P, T, pre, post, caps))
         if len(initial) != P or list(lengths) != [T * new, T * new, new, new]:
             refused = 2, 0
         else:
             bad = [p for p in range(P) if initial[p] == 65535 or (caps[p] != NONE and initial[p] > caps[p])]
             if bad:
                 refused = 3, min(bad)
+            elif loose(P, T, pre, post):
+                refused = loose(P, T, pre, post)
             elif new > 64:
                 refused = 10, 0
     if refused:
         return [130, *refused], rooms  # "A refusal leaves lent memory as found."
     Pre, Post = weights(P, T, pre), weights(P, T, post)
     start = dict(enumerate(initial))
-    for k, p in enumerate(capped(caps)):  # "gets a new place after the old ones"
+    for k, p in enumerate(capped(P, T, pre, post, caps)):  # "gets a new place after the old ones"
         start[P + k] = caps[p] - initial[p]  # "starting with capacity minus tokens"
         for t in range(T):
             change = Post[p, t] - Pre[p, t]
@@ -66,6 +70,7 @@ def net_answer(P, T, pre, post, caps, initial, lengths):
     flat = lambda arcs: [arcs[p, t] for t in range(T) for p in range(new)]
     made = [flat(Pre), flat(Post), [NONE] * new, [start[p] for p in range(new)]]
     same_words(P, T, pre, post, caps, initial, new, *made)
+    assert loose(new, T, *made[:2]) is None, "the complement of an accepted net is accepted"
     return [129, 0], made
 
 
@@ -95,7 +100,7 @@ def same_words(P, T, pre, post, caps, initial, new, pre2, post2, caps2, initial2
             two, m2 = replay(new, T, pre2, post2, caps2, initial2, word)
             assert (one[1] == 0) == (two[1] == 0) and (one[1] == 0 or one[2] == two[2]), word
             assert m2[:P] == m, "old places agree"
-            assert m2[P:] == [caps[p] - m[p] for p in capped(caps)], "each new place holds capacity minus tokens"
+            assert m2[P:] == [caps[p] - m[p] for p in capped(P, T, pre, post, caps)], "each new place holds capacity minus tokens"
 
 
 ROOMS = "pre2", "post2", "caps2", "initial2"
@@ -144,14 +149,15 @@ def samples():
 def one_place():
     group("one place and two transitions, with rooms for a capped place")
     for case, edge, pre, post, cap, tokens in [
-        (31, "capacity 0, nothing put, one token put", [0, 0], [0, 1], 0, 0),
+        (31, "capacity 0, a loop, one token put", [1, 0], [1, 1], 0, 0),
         (32, "capacity 0, a loop, two tokens taken", [1, 2], [1, 0], 0, 0),
         (33, "the largest weights, full", [0, 255], [255, 0], 65534, 65534),
         (34, "the largest capacity, empty", [5, 4], [4, 5], 65534, 0),
-        (35, "loops have no arc at the new place", [7, 7], [7, 7], 9, 4),
+        (35, "a loop has no arc at the new place", [7, 7], [7, 8], 9, 4),
         (36, "tokens above capacity 0", [0, 1], [1, 0], 0, 1),
         (37, "65,535 tokens", [0, 1], [1, 0], 65534, 65535),
         (38, "no capacity: the rooms are too long", [0, 1], [1, 0], NONE, 0),
+        (39, "only loops: no new place, and the rooms are too long", [7, 7], [7, 7], 9, 4),
     ]:
         heading(edge)
         ask_net(case, 1, 2, pre, post, [cap], [tokens], [4, 4, 2, 2])
@@ -226,9 +232,68 @@ def counts():
         ask_net(f"{case}.2", P, T, [], [], [], [], [0, 0, 0, 0])
 
 
+def ask_both(case, net, initial):
+    """How many places there are, and the net, with rooms as long as they must be."""
+    P, T = net[:2]
+    new = P + len(capped(*net))
+    ask_places(f"{case}.1", *net)
+    return ask_net(f"{case}.2", *net, initial, [T * new, T * new, new, new])
+
+
+def loops():
+    group("capped places that no transition changes have no new place")
+    for case, edge, pre, post, caps, initial in [
+        (101, "one place, only loops", [7, 7], [7, 7], [9], [4]),
+        (102, "one place, only loops, full", [1, 2], [1, 2], [9], [9]),
+        (103, "one place, only loops, capacity 0", [1, 2], [1, 2], [0], [0]),
+        (104, "the first of two", [1, 1, 1, 0], [1, 0, 1, 1], [9, 9], [1, 2]),
+        (105, "the second of two", [1, 1, 0, 1], [0, 1, 1, 1], [9, 9], [1, 2]),
+        (106, "the middle one of three", [1, 2, 0, 0, 3, 1], [0, 2, 1, 1, 3, 0], [4, 5, 6], [1, 5, 3]),
+        (107, "the middle one is changed, the others are not", [1, 2, 3, 1, 0, 3], [1, 0, 3, 1, 2, 3], [4, 5, 6], [1, 5, 3]),
+        (108, "a place that is only taken from has one", [1, 1], [0, 0], [9], [4]),
+        (109, "a place that is only put into has one", [0, 0], [1, 1], [9], [4]),
+        (110, "one that the last transition alone changes", [1, 1], [1, 2], [9], [4]),
+    ]:
+        heading(edge)
+        made = ask_both(case, (len(caps), 2, pre, post, caps), initial)
+        for k, word in enumerate([[0], [1], [0, 1], [1, 0, 1]]):
+            ask_replay(f"{case}.{3 + 2 * k}", len(caps), 2, pre, post, caps, initial, word)
+            ask_replay(f"{case}.{4 + 2 * k}", len(made[2]), 2, *made, word)
+    group("refusal 10 counts only the places made: capped places, of which the last ones have only loops")
+    for case, edge, P, still in [(121, "64 places in all", 64, 64), (122, "65 in all", 64, 63), (123, "64 in all", 40, 16), (124, "65 in all", 40, 15)]:
+        heading(edge)
+        ask_both(case, (P, 1, [1] * P, [2] * (P - still) + [1] * still, [9] * P), [5] * P)
+    heading("66 places if those with loops counted, 64 without: rooms for 66 are too long")
+    net = 33, 1, [1] * 33, [2] * 31 + [1] * 2, [9] * 33
+    ask_both(125, net, [5] * 33)
+    ask_net("125.3", *net, [5] * 33, [66, 66, 66, 66])
+
+
+def loose_nodes():
+    group("nodes without an arc: refusal 17; then nets that hang together by one arc")
+    for k, (edge, P, T, pre, post) in enumerate(LOOSE + WIRED):
+        heading(edge)
+        ask_both(201 + k, (P, T, pre, post, [9] * P if P < 64 else [NONE] * P), [1] * P)
+    group("17 and another refusal")
+    bare = 2, 1, [0, 1], [0, 0], [9, NONE]
+    heading("1 and 17")
+    ask_places("221.1", 1, 65, [0] * 65, [0] * 65, [9])
+    heading("2 and 17: Post; a room for a place that is loose and so not changed")
+    ask_places("222.1", 1, 1, [0], [0, 0], [9])
+    ask_net("222.2", *bare, [1, 1], [3, 3, 3, 3])
+    heading("3 and 17")
+    ask_net("223", *bare, [10, 1], [2, 2, 2, 2])
+    heading("17 and 10")
+    ask_both(224, (64, 1, [0] + [1] * 63, [0] + [2] * 63, [9] * 64), [5] * 64)
+    heading("3, 17 and 10")
+    ask_both(225, (64, 1, [0] + [1] * 63, [0] + [2] * 63, [4] * 64), [5] * 64)
+
+
 samples()
 one_place()
 three_places()
 many_places()
 lengths()
 counts()
+loops()
+loose_nodes()

@@ -12,7 +12,7 @@ rest_fault 129 0, 130 refusal 0; unread_rest 129 0 0 log start length, 130 refus
 from functools import cache
 from itertools import product
 
-from shared.calls import HUGE, NONE, call, group, heading, net as lent_net
+from shared.calls import HUGE, LOOSE, NONE, WIRED, call, group, heading, loose, net as lent_net
 
 WORK = 65536
 
@@ -55,6 +55,8 @@ def refusal(P, T, pre, post, caps, initial, first, second, room, work):
     bad = [p for p in range(P) if initial[p] == 65535 or (caps[p] != NONE and initial[p] > caps[p])]
     if bad:
         return 3, bad[0]
+    if loose(P, T, pre, post):
+        return loose(P, T, pre, post)
     wrong = [k for log in (first, second) for k, letter in enumerate(log) if letter >= T]  # the first log's come first
     return long_refusal(first, second) or ((5, wrong[0]) if wrong else None)
 
@@ -88,9 +90,9 @@ def none(case, edge, *asked, **lent):
 
 # A baton is handed from place to place, by transition t from t to t + 1: one word fires, 0 1 2 3 4 5.
 BATON = 7, 6, [int(p == t) for t in range(6) for p in range(7)], [int(p == t + 1) for t in range(6) for p in range(7)], [NONE] * 7, [1] + [0] * 6
-# One token: 0 takes it, 1 looks at it, 2 is free, 3 puts it back; 4 takes two, which are never there.
+# One token: 0 takes it, 1 looks at it, 3 puts it back; 4 takes two, which are never there; 2 is free, it only puts onto a heap.
 TAKE, LOOK, FREE, BACK, NEVER = range(5)
-TOKEN = 1, 5, [1, 1, 0, 0, 2], [0, 1, 0, 1, 0], [1], [1]
+TOKEN = 2, 5, [1, 0, 1, 0, 0, 0, 0, 0, 2, 0], [0, 0, 1, 0, 0, 1, 1, 0, 0, 0], [1, NONE], [1, 0]
 # A buffer of one: 0 puts, 1 takes.
 BUFFER = 1, 2, [0, 1], [1, 0], [1], [0]
 PUTS, TAKES = [0], [1]
@@ -200,7 +202,7 @@ def one_refusal():
     for k, bytes_ in enumerate([65535, 65537, 0, 1, 131072]):
         refuse(331 + k, f"2: a work space of {bytes_:,} bytes", 2, TOKEN, [FREE], [FREE], work=[9] * bytes_)
     for k, (edge, initial) in enumerate([("65,535 tokens", [65535, 0, 0]), ("above capacity", [1, 0, 6]), ("both, the lower place", [1, 65535, 6])]):
-        refuse(341 + k, f"3: {edge}", 3, (3, 1, [0] * 3, [0] * 3, [NONE, NONE, 5], initial), [0], [0])
+        refuse(341 + k, f"3: {edge}", 3, (3, 1, [1] * 3, [0] * 3, [NONE, NONE, 5], initial), [0], [0])
     refuse(351, "4: 65,536 letters in the first log", 4, TOKEN, [FREE] * 65536, [])
     refuse(352, "4: 65,536 letters in the second log", 4, TOKEN, [], [FREE] * 65536)
     refuse(353, "4: in both", 4, TOKEN, [FREE] * 65536, [FREE] * 65536)
@@ -219,24 +221,42 @@ def one_refusal():
 
 
 def two_refusals():
-    group("several refusals at once: 1 2 3 4 15 5, in this order")
+    group("several refusals at once: 1 2 3 17 4 15 5, in this order")
     refuse(371, "1 and 2", 1, (0, *TOKEN[1:]), [FREE], [FREE], room=3)
     refuse(372, "1 and 4, 15, 5", 1, (1, 0, *TOKEN[2:]), [255] * 65536, [255])
-    refuse(373, "2 and 3: the room", 2, (*TOKEN[:5], [2]), [FREE], [FREE], room=1)
-    refuse(374, "2 and 3: the work space", 2, (*TOKEN[:5], [2]), [FREE], [FREE], work=[9] * 65535)
+    refuse(373, "2 and 3: the room", 2, (*TOKEN[:5], [2, 0]), [FREE], [FREE], room=1)
+    refuse(374, "2 and 3: the work space", 2, (*TOKEN[:5], [2, 0]), [FREE], [FREE], work=[9] * 65535)
     refuse(375, "2, 4 and 15: a room one longer than over-long logs", 2, TOKEN, [FREE] * 65536, [FREE] * 256, room=65793)
     refuse(376, "2, 4 and 15: a room for the longest that may be", 2, TOKEN, [FREE] * 65536, [FREE] * 256, room=510)
     refuse(377, "2 and 15", 2, TOKEN, [FREE] * 256, [], room=255)
     refuse(378, "2 and 5", 2, TOKEN, [5], [5], work=[9] * 65537)
-    refuse(379, "3 and 4", 3, (*TOKEN[:5], [2]), [FREE] * 65536, [])
-    refuse(380, "3 and 15", 3, (*TOKEN[:5], [2]), [FREE] * 256, [])
-    refuse(381, "3 and 5", 3, (*TOKEN[:5], [2]), [5], [])
+    refuse(379, "3 and 4", 3, (*TOKEN[:5], [2, 0]), [FREE] * 65536, [])
+    refuse(380, "3 and 15", 3, (*TOKEN[:5], [2, 0]), [FREE] * 256, [])
+    refuse(381, "3 and 5", 3, (*TOKEN[:5], [2, 0]), [5], [])
     refuse(382, "4 and 15: the first log over 65,535, the second over 255", 4, TOKEN, [FREE] * 65536, [FREE] * 256)
     refuse(383, "4 and 15: the first log over 255, the second over 65,535", 4, TOKEN, [FREE] * 256, [FREE] * 65536)
     refuse(384, "4 and 5", 4, TOKEN, [5] * 65536, [5])
     refuse(385, "15 and 5: the letter in the log that is too long", 15, TOKEN, [5] * 256, [FREE])
     refuse(386, "15 and 5: the letter in the other log", 15, TOKEN, [5], [FREE] * 256)
     refuse(387, "15 and 5: letter 255 of the second log", 15, TOKEN, [FREE], [FREE] * 255 + [5])
+
+
+def loose_nodes():
+    group("nodes without an arc: refusal 17; then nets that hang together by one arc")
+    for k, (edge, P, T, pre, post) in enumerate(LOOSE):
+        refuse(501 + k, edge, 17, (P, T, pre, post, [9] * P, [1] * P), [0], [0])
+    for k, (edge, P, T, pre, post) in enumerate(WIRED):
+        found(521 + k, edge, [0, 1], (P, T, pre, post, [9], [2]), [0], [0])
+    group("17 and another refusal")
+    bare = 1, 1, [0], [0], [4], [0]
+    refuse(531, "1 and 17", 1, (1, 65, [0] * 65, [0] * 65, [4], [0]), [0], [0])
+    refuse(532, "2 and 17: the work space", 2, bare, [0], [0], work=[9] * 65535)
+    refuse(533, "3 and 17", 3, (*bare[:5], [5]), [0], [0])
+    refuse(534, "17 and 4", 17, bare, [0] * 65536, [0])
+    refuse(535, "17 and 15", 17, bare, [0], [0] * 256)
+    refuse(536, "17 and 5", 17, bare, [0], [1])
+    refuse(537, "17, 4, 15 and 5", 17, bare, [0] * 65535 + [1], [0] * 256)
+    refuse(538, "17 and two empty logs", 17, bare, [], [])
 
 
 def rest(case, edge, first, second, order, step):
@@ -308,3 +328,4 @@ one_refusal()
 two_refusals()
 rests()
 rest_refusals()
+loose_nodes()

@@ -8,11 +8,11 @@ weight, the numbers are unbounded, and every rule is spelled out as 01 words it.
 position place, short; 129 2 position place, over; 130 refusal position. The room holds 7s at entry.
 """
 
-from shared.calls import HUGE, NONE, call, group, heading, net
+from shared.calls import HUGE, LOOSE, NONE, WIRED, call, group, heading, loose, net
 
 
 def refusal(P, T, pre, post, caps, initial, word, stretch, room):
-    """The first refusal in number order as (number, position), or None. `stretch` is None for a whole word."""
+    """The first refusal in order, 17 after 3, as (number, position), or None. `stretch` is None for a whole word."""
     # 1: a place or transition count outside 1..64
     if not (1 <= P <= 64 and 1 <= T <= 64):
         return 1, 0
@@ -28,6 +28,9 @@ def refusal(P, T, pre, post, caps, initial, word, stretch, room):
     for p in range(P):
         if initial[p] == 65535 or (caps[p] != NONE and initial[p] > caps[p]):
             return 3, p
+    # 17: a place or transition without an arc
+    if loose(P, T, pre, post):
+        return loose(P, T, pre, post)
     # 4: a word over 65,535 letters; 5: a letter names no transition
     if len(word) > 65535:
         return 4, 0
@@ -129,17 +132,16 @@ def one_place():
         (31, "exactly at capacity", 0, 2, 5, 3, [0]),
         (32, "one above", 0, 2, 4, 3, [0]),
         (33, "the capacity rule adds Change; with Post it would stop", 3, 4, 5, 4, [0]),
-        (34, "capacity 0, nothing put", 0, 0, 0, 0, [0]),
         (35, "capacity 0, one token put", 0, 1, 0, 0, [0]),
-        (36, "capacity 0, one token there", 0, 0, 0, 1, [0]),
+        (36, "capacity 0, one token there", 1, 0, 0, 1, [0]),
         (37, "no capacity: past 65,535", 0, 255, NONE, 65534, [0]),
         (38, "the largest capacity, full, a loop", 1, 1, 65534, 65534, [0]),
         (39, "the largest capacity, full, one more", 0, 1, 65534, 65534, [0]),
-        (40, "65,534 tokens are allowed", 0, 0, NONE, 65534, []),
-        (41, "65,535 are not, without capacity", 0, 0, NONE, 65535, []),
-        (42, "nor with one", 0, 0, 65534, 65535, []),
-        (43, "tokens at capacity", 0, 0, 5, 5, []),
-        (44, "tokens above capacity", 0, 0, 5, 6, []),
+        (40, "65,534 tokens are allowed", 1, 0, NONE, 65534, []),
+        (41, "65,535 are not, without capacity", 1, 0, NONE, 65535, []),
+        (42, "nor with one", 1, 0, 65534, 65535, []),
+        (43, "tokens at capacity", 1, 0, 5, 5, []),
+        (44, "tokens above capacity", 1, 0, 5, 6, []),
         (45, "a loop on a full place", 1, 1, 5, 5, [0, 0]),
         (46, "a loop on an empty place", 1, 1, 5, 0, [0]),
         (47, "the largest weight, just enough", 255, 0, NONE, 255, [0]),
@@ -149,21 +151,22 @@ def one_place():
         (51, "letter 1 with one transition", 0, 1, NONE, 0, [1]),
     ]:
         say(case, edge, 1, 1, [takes], [puts], [cap], [tokens], word)
+    say(34, "capacity 0, nothing put there: beside it", 2, 2, [0, 0, 0, 0], [0, 1, 1, 0], [0, NONE], [0, 0], [0])
 
 
 def three_places():
     group("three places and one transition: which place and cause are named")
     for case, edge, pre, post, caps, initial in [
-        (61, "short at 2, though 0 is over", [0, 0, 1], [1, 0, 0], [4, 9, 9], [4, 0, 0]),
-        (62, "short at 1 and 2", [0, 2, 2], [0, 0, 0], [9, 9, 9], [5, 1, 1]),
-        (63, "over at 1 and 2", [0, 0, 0], [0, 1, 1], [9, 3, 3], [0, 3, 3]),
-        (64, "short and over at 1", [0, 3, 0], [0, 9, 0], [9, 4, 9], [0, 2, 0]),
+        (61, "short at 2, though 0 is over", [0, 0, 1], [1, 1, 0], [4, 9, 9], [4, 0, 0]),
+        (62, "short at 1 and 2", [0, 2, 2], [1, 0, 0], [9, 9, 9], [5, 1, 1]),
+        (63, "over at 1 and 2", [0, 0, 0], [1, 1, 1], [9, 3, 3], [0, 3, 3]),
+        (64, "short and over at 1", [0, 3, 0], [1, 9, 1], [9, 4, 9], [0, 2, 0]),
         (65, "short at 1, over at 0 and 2", [0, 1, 0], [5, 0, 5], [4, 4, 4], [0, 0, 0]),
         (66, "over at 2 alone", [1, 1, 0], [0, 1, 1], [9, 9, 6], [1, 1, 6]),
         (67, "fires, each place just so", [1, 1, 1], [2, 0, 1], [2, 1, 3], [1, 1, 3]),
-        (68, "two bad markings: the lowest", [0, 0, 0], [0, 0, 0], [9, NONE, 9], [0, 65535, 10]),
-        (69, "above capacity at the last place", [0, 0, 0], [0, 0, 0], [9, 9, 9], [9, 9, 10]),
-        (70, "above capacity at the first place", [0, 0, 0], [0, 0, 0], [9, 0, 9], [10, 1, 0]),
+        (68, "two bad markings: the lowest", [1, 1, 1], [0, 0, 0], [9, NONE, 9], [0, 65535, 10]),
+        (69, "above capacity at the last place", [1, 1, 1], [0, 0, 0], [9, 9, 9], [9, 9, 10]),
+        (70, "above capacity at the first place", [1, 1, 1], [0, 0, 0], [9, 0, 9], [10, 1, 0]),
     ]:
         say(case, edge, 3, 1, pre, post, caps, initial, [0])
 
@@ -248,7 +251,7 @@ def pairs():
         (149, "3 and 5", 1, 1, 5, [1]),
         (150, "4 and 5", 1, 1, 0, LONG),
     ]:
-        say(case, edge, 1, T, [0] * arcs, [0] * arcs, [4], [tokens], word)
+        say(case, edge, 1, T, [1] * arcs, [0] * arcs, [4], [tokens], word)
     for case, edge, T, tokens, start, end in [
         (151, "1, and 2 for a reversed stretch", 65, 0, 2, 1),
         (152, "2 for a reversed stretch, and 3", 1, 5, 2, 1),
@@ -256,7 +259,33 @@ def pairs():
         (154, "3, and 5 in the stretch", 1, 5, 1, 2),
         (155, "2 for a stretch past the end, and 5 in the word", 1, 0, 1, 3),
     ]:
-        say(case, edge, 1, T, [0] * T, [0] * T, [4], [tokens], [9, 9], (start, end))
+        say(case, edge, 1, T, [1] * T, [0] * T, [4], [tokens], [9, 9], (start, end))
+
+
+def loose_nodes():
+    group("nodes without an arc: refusal 17; then nets that hang together by one arc")
+    for k, (edge, P, T, pre, post) in enumerate(LOOSE):
+        asked = P, T, pre, post, [9] * P, [1] * P, [0]
+        say(200 + 2 * k, edge, *asked)
+        say(201 + 2 * k, "the same, asked for a stretch", *asked, (0, 1))
+    for k, (edge, P, T, pre, post) in enumerate(WIRED):
+        say(230 + 2 * k, edge, P, T, pre, post, [9], [1], [0])
+        say(231 + 2 * k, "the same, asked for a stretch", P, T, pre, post, [9], [1], [0], (0, 1))
+    group("17 and another refusal")
+    for case, edge, P, T, arcs, tokens, word in [
+        (241, "1 and 17", 1, 65, 65, 0, [0]),
+        (242, "2 and 17", 1, 2, 1, 0, [0]),
+        (243, "3 and 17", 1, 1, 1, 5, [0]),
+        (244, "17 and 4", 1, 1, 1, 0, LONG[:65536]),
+        (245, "17 and 5", 1, 1, 1, 0, [1]),
+        (246, "17, 4 and 5", 1, 1, 1, 0, LONG),
+        (247, "17 and no letter", 1, 1, 1, 0, []),
+    ]:
+        asked = P, T, [0] * arcs, [0] * arcs, [4], [tokens], word
+        say(case, edge, *asked)
+        say(case + 10, "the same, asked for a stretch", *asked, (0, len(word)))
+    say(261, "17, and 5 outside the stretch", 1, 1, [0], [0], [4], [0], [0, 9], (0, 1))
+    say(262, "2 for a stretch past the end, and 17", 1, 1, [0], [0], [4], [0], [0], (0, 2))
 
 
 def long_words():
@@ -293,3 +322,4 @@ if __name__ == "__main__":
     lengths()
     pairs()
     long_words()
+    loose_nodes()

@@ -11,7 +11,7 @@ it, as .1 and .2 of its number.
 
 from itertools import accumulate
 
-from shared.calls import HUGE, NONE, call, group, heading, net
+from shared.calls import HUGE, LOOSE, NONE, WIRED, call, group, heading, loose, net
 
 
 class Summary:
@@ -37,6 +37,8 @@ def summarise(P, T, pre, post, caps, word, stretch=None):
         if end < start or end > len(word):
             return (2, 0), NOTHING
         word = word[start:end]
+    if loose(P, T, pre, post):
+        return loose(P, T, pre, post), NOTHING
     if len(word) > 65535:
         return (4, 0), NOTHING
     for position, t in enumerate(word):
@@ -95,6 +97,8 @@ def ask(P, T, pre, post, caps, marking, s, room):
     for p in range(P):
         if marking[p] == 65535 or marking[p] > caps[p]:
             return [130, 3, p], room
+    if loose(P, T, pre, post):
+        return [130, *loose(P, T, pre, post)], room
     if ill(s) is not None:
         return [130, 6, ill(s)], room
     for p in range(P):
@@ -194,7 +198,7 @@ def weights():
         (24, "the largest weight, put", 0, 255, [0] * 2),
         (25, "more put than taken", 2, 5, [0] * 2),
         (26, "more taken than put", 5, 2, [0] * 2),
-        (27, "a letter that names no transition", 0, 0, [0, 0, 1, 1]),
+        (27, "a letter that names no transition", 0, 1, [0, 0, 1, 1]),
         (131, "the most that a word needs", 255, 0, [0] * 65535),
         (132, "the most that a word climbs", 0, 255, [0] * 65535),
     ]:
@@ -311,7 +315,38 @@ def rooms():
         (117, "Pre and Post too short", 1, 2, 2, 1),
     ]:
         heading(edge)
-        asked(case, odd(1, 1, 0, 1, 2, 2), P, T, [0], [0], [4], [tokens], space)
+        asked(case, odd(1, 1, 0, 1, 2, 2), P, T, [1], [3], [4], [tokens], space)
+
+
+def loose_nodes():
+    group("nodes without an arc: refusal 17; then nets that hang together by one arc")
+    for k, (edge, P, T, pre, post) in enumerate(LOOSE + WIRED):
+        heading(edge)
+        lent, caps = {**net(P, T, pre, post, [9] * P), "word": [0]}, [9] * P
+        made_word(f"{201 + k}.1", P, T, pre, post, caps, [0])
+        made(f"{201 + k}.2", "summary_stretch", {**lent, "start": 0, "end": 1}, summarise(P, T, pre, post, caps, [0], (0, 1)))
+        asked(f"{201 + k}.3", odd(P, 1, 0, 1, 0, 0), P, T, pre, post, caps, [1] * P, P)
+    group("17 and another refusal")
+    for case, edge, T, arcs, word in [
+        (221, "1 and 17", 65, 65, [0]),
+        (222, "2 and 17", 1, 2, [0]),
+        (223, "17 and 4", 1, 1, [0] * 65536),
+        (224, "17 and 5", 1, 1, [1]),
+        (225, "17, 4 and 5", 1, 1, [0] * 65535 + [1]),
+    ]:
+        heading(edge)
+        bare = 1, T, [0] * arcs, [0] * arcs, [4]
+        made_word(f"{case}.1", *bare, word)
+        lent = {**net(*bare), "word": word, "start": 0, "end": len(word)}
+        made(f"{case}.2", "summary_stretch", lent, summarise(*bare, word, (0, len(word))))
+    for case, edge, form, tokens in [
+        (231, "2, a summary of two places, and 17", (2, 1, 0, 1, 2, 2), 2),
+        (232, "3 and 17", (1, 1, 0, 1, 2, 2), 5),
+        (233, "17 and 6", (1, 1, 0, 256, 0, 0), 2),
+        (234, "17, where the answer would be no", (1, 1, 0, 3, 0, 0), 2),
+    ]:
+        heading(edge)
+        asked(case, odd(*form), 1, 1, [0], [0], [4], [tokens], 1)
 
 
 def list_lengths():
@@ -363,3 +398,4 @@ asks()
 rooms()
 list_lengths()
 long_words()
+loose_nodes()

@@ -9,7 +9,7 @@ lowest failing transition or place, or with the number of the cause for which th
 entry, 3 y(p) not positive); 129 2 (proper); 130 refusal position.
 """
 
-from shared.calls import HUGE, NONE, call, group, heading, net
+from shared.calls import HUGE, LOOSE, NONE, WIRED, call, group, heading, loose, net
 
 
 class Refused(Exception):
@@ -25,6 +25,12 @@ def check_net(P, T, pre, post, caps, *lengths):
             raise Refused(2, 0)
 
 
+def check_arcs(P, T, pre, post):
+    """Refusal 17."""
+    if loose(P, T, pre, post):
+        raise Refused(*loose(P, T, pre, post))
+
+
 def changes(P, T, pre, post):
     """Change(p,t) = Post - Pre."""
     return {(p, t): post[t * P + p] - pre[t * P + p] for p in range(P) for t in range(T)}
@@ -37,6 +43,7 @@ def failing_transitions(P, T, pre, post, y):
 
 def place_weighting(P, T, pre, post, caps, y):
     check_net(P, T, pre, post, caps, (y, P))
+    check_arcs(P, T, pre, post)
     if not any(y):
         raise Refused(8, 0)
     failing = failing_transitions(P, T, pre, post, y)
@@ -45,6 +52,7 @@ def place_weighting(P, T, pre, post, caps, y):
 
 def transition_weighting(P, T, pre, post, caps, x):
     check_net(P, T, pre, post, caps, (x, T))
+    check_arcs(P, T, pre, post)
     if not any(x):
         raise Refused(8, 0)
     change = changes(P, T, pre, post)
@@ -59,6 +67,7 @@ def place_bound(P, T, pre, post, caps, initial, y, place):
     for p in range(P):
         if initial[p] == 65535 or (caps[p] != NONE and initial[p] > caps[p]):
             raise Refused(3, p)
+    check_arcs(P, T, pre, post)
     if not any(y):
         raise Refused(8, 0)
     if place >= P:
@@ -86,6 +95,7 @@ def arcs_of(P, T, table, members):
 
 def checked_set(P, T, pre, post, caps, lent):
     check_net(P, T, pre, post, caps, (lent, P))
+    check_arcs(P, T, pre, post)
     members = {p for p in range(P) if lent[p] != 0}
     if not members:
         raise Refused(8, 0)
@@ -232,13 +242,16 @@ def extremes():
     both_weightings(61, one(255, 255), [-32768])
     both_weightings(63, one(255, 0), [-32768])
     both_weightings(65, one(0, 255), [32767])
-    both_weightings(67, one(0, 0), [1])
+    both_weightings(67, one(1, 1), [1])
     both_weightings(69, one(1, 2), [0])
     heading("its place as a siphon and as a trap")
     one_set(71, 255, 255)
     one_set(73, 255, 0)
     one_set(75, 0, 255)
-    one_set(77, 0, 0)
+    heading("a transition that does not touch it, and a loop")
+    beside = 2, 2, [0, 0, 1, 0], [0, 1, 1, 0], [NONE, NONE]
+    case(77, siphon_set, *beside, [1, 0])
+    case(78, trap_set, *beside, [255, 0])
     group("64 places and 64 transitions")
     heading("every sum is 0")
     sixty_four(81, -32768, -32768, 255)
@@ -296,7 +309,36 @@ def refusals():
     faulty_set(146, 1, 2, [1, 0], [1, 1], [7])
 
 
+def loose_nodes():
+    def all_questions(number, P, T, pre, post, caps, initial, y, x, lent, place):
+        case(f"{number}.1", place_weighting, P, T, pre, post, caps, y)
+        case(f"{number}.2", transition_weighting, P, T, pre, post, caps, x)
+        case(f"{number}.3", place_bound, P, T, pre, post, caps, initial, y, place)
+        case(f"{number}.4", siphon_set, P, T, pre, post, caps, lent)
+        case(f"{number}.5", trap_set, P, T, pre, post, caps, lent)
+
+    group("nodes without an arc: refusal 17; then nets that hang together by one arc")
+    for k, (edge, P, T, pre, post) in enumerate(LOOSE + WIRED):
+        heading(edge)
+        all_questions(201 + k, P, T, pre, post, [9] * P, [1] * P, [1] * P, [1] * T, [1] * P, 0)
+    group("17 and another refusal")
+    bare = 1, 1, [0], [0], [9]
+    heading("1 and 17")
+    all_questions(221, 1, 65, [0] * 65, [0] * 65, [9], [1], [1], [1] * 65, [1], 0)
+    heading("2 and 17: Pre, Post; the weighting, the set")
+    all_questions(222, 1, 1, [0, 0], [0, 0], [9], [1], [1], [1], [1], 0)
+    all_questions(223, *bare, [1], [1, 1], [1, 1], [1, 1], 0)
+    heading("17 and 8")
+    all_questions(224, *bare, [1], [0], [0], [0], 0)
+    heading("3 and 17; 17 and 13; 17, 8 and 13; 3, 17 and 8")
+    case(225, place_bound, *bare, [10], [1], 0)
+    case(226, place_bound, *bare, [1], [1], 1)
+    case(227, place_bound, *bare, [1], [0], 1)
+    case(228, place_bound, *bare, [10], [0], 0)
+
+
 samples()
 bounds()
 extremes()
 refusals()
+loose_nodes()

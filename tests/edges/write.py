@@ -14,7 +14,7 @@ from pathlib import Path
 sys.path.insert(0, str(Path(__file__).resolve().parents[1] / "cases"))
 from make import lines_of, text
 
-from shared.calls import HUGE, NONE, call, group, heading, net as lent_net, quoted
+from shared.calls import HUGE, LOOSE, NONE, WIRED, call, group, heading, loose, net as lent_net, quoted
 
 
 def refusal(P, T, pre, post, caps, initial, word):
@@ -25,6 +25,8 @@ def refusal(P, T, pre, post, caps, initial, word):
     bad = [p for p in range(P) if initial[p] == 65535 or (caps[p] != NONE and initial[p] > caps[p])]
     if bad:
         return 3, min(bad)
+    if loose(P, T, pre, post):
+        return loose(P, T, pre, post)
     if len(word) > 65535:
         return 4, 0
     wrong = [k for k, letter in enumerate(word) if letter >= T]
@@ -87,8 +89,8 @@ def words():
 def counts():
     group("counts")
     write(21, "one place, one transition, no letter: the shortest file", *ONE, [])
-    write(22, "64 places: rows of 260 digits", 64, 1, [0] * 63 + [9], [8] + [0] * 63, [NONE] * 64, [3] * 64, [0])
-    write(23, "64 transitions", 1, 64, [0] * 63 + [9], [8] + [0] * 63, [NONE], [3], [63, 0, 62])
+    write(22, "64 places: rows of 260 digits", 64, 1, [0] * 63 + [9], [8] + [1] * 63, [NONE] * 64, [3] * 64, [0])
+    write(23, "64 transitions", 1, 64, [0] * 63 + [9], [8] + [1] * 63, [NONE], [3], [63, 0, 62])
     write(24, "the longest file: 64 places, 64 transitions, 65,535 letters", 64, 64, [1] * 4096, [255] * 4096, [NONE] * 64, [65534] * 64, [63] * 65535)
 
 
@@ -98,7 +100,7 @@ def numbers():
     weights = [0, 1, 9, 10, 15, 16, 159, 160, 171, 255]
     write(31, "each digit, in both halves of a byte", 10, 1, weights, weights[::-1], caps, tokens, [0])
     write(32, "Pre before Post", 2, 2, [1, 2, 3, 4], [5, 6, 7, 8], [NONE, 9], [0, 9], [1, 0])
-    write(33, "tokens exactly at capacity 0", 1, 1, [0], [0], [0], [0], [])
+    write(33, "tokens exactly at capacity 0", 1, 1, [1], [0], [0], [0], [])
 
 
 def one_refusal():
@@ -131,8 +133,25 @@ def two_refusals():
     refuse(77, "4 and 5", *ONE, [0] * 65535 + [1], room=151371)
 
 
+def loose_nodes():
+    group("nodes without an arc: refusal 17, and with 14; then nets that hang together by one arc")
+    for k, (edge, P, T, pre, post) in enumerate(LOOSE):
+        refuse(201 + k, edge, P, T, pre, post, [9] * P, [1] * P, [0], room=18000)
+    for k, (edge, P, T, pre, post) in enumerate(WIRED):
+        write(221 + k, edge, P, T, pre, post, [9], [1], [0])
+    group("17 and another refusal, and with 14")
+    bare = 1, 1, [0], [0], [4]
+    refuse(231, "1 and 17", 1, 65, [0] * 65, [0] * 65, [4], [0], [0])
+    refuse(232, "2 and 17", 1, 1, [0, 0], [0], [4], [0], [0])
+    refuse(233, "3 and 17", *bare, [5], [0])
+    refuse(234, "17 and 4", *bare, [0], [0] * 65536, room=151371)
+    refuse(235, "17 and 5", *bare, [0], [1])
+    refuse(236, "17, 4 and 5", *bare, [0], [0] * 65535 + [1], room=151371)
+
+
 words()
 counts()
 numbers()
 one_refusal()
 two_refusals()
+loose_nodes()

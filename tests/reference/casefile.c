@@ -58,16 +58,27 @@ static int read_numbers(struct reading *r, const uint8_t *frame, size_t size) {
     return 0;
 }
 
-/* 04 t, P Pre bytes, P Post bytes; one for each t in order from 0. */
+/* Is the net loose that was read? */
+static int is_loose(const struct reading *r) {
+    struct net net = {r->places, r->transitions, r->pre, r->places * r->transitions, r->post, r->places * r->transitions,
+                      r->caps, r->places};
+    return reference_loose_fault(&net) != NOWHERE;
+}
+
+/* 04 t, P Pre bytes, P Post bytes; one for each t in order from 0. Refusal 17 "in a file, on the line of the last transition". */
 static int read_row(struct reading *r, const uint8_t *frame, size_t size) {
+    size_t sum = 0;
     if (size != 2 + 2 * r->places || RULE(44, frame[1] != r->next, 0))
         return 12;
     for (size_t p = 0; p < r->places; p++) {
         r->pre[r->next * r->places + p] = frame[2 + p];
         r->post[r->next * r->places + p] = frame[2 + r->places + p];
+        sum += frame[2 + p] + frame[2 + r->places + p];
     }
     r->next++;
-    return 0;
+    if (RULE(86, 0, 1) && sum == 0)
+        return 17;
+    return r->next == r->transitions && RULE(95, 1, 0) && is_loose(r) ? 17 : 0;
 }
 
 /* 05 with 1 to 64 letters; all but the last hold 64, else the next 05 is faulty. */
@@ -130,7 +141,9 @@ static int read_lines(struct reading *r, const uint8_t *file, size_t file_len) {
         at = end + 1;
     }
     r->line++;
-    return r->line <= 4 || r->next < r->transitions ? 12 : 0;
+    if (r->line <= 4 || r->next < r->transitions)
+        return 12;
+    return RULE(95, 0, is_loose(r)) ? 17 : 0;
 }
 
 /* Refusal 2 for the rooms, then the file; the rooms are written once the whole file is found right. */

@@ -1,22 +1,34 @@
 /* The complement net. */
 #include "reference.h"
 
-/* Old places and one more for each capped place. */
+/* Has place p a complement place? "only for a capped place that some transition changes" */
+static int is_made(const struct net *net, size_t p) {
+    size_t changing = 0;
+    for (size_t t = 0; t < net->transitions; t++)
+        changing += RULE(96, reference_change(net, p, t) != 0, reference_change(net, p, t) > 0);
+    return reference_capped(net, p) && RULE(85, changing > 0, 1) && RULE(21, 1, net->caps[p] > 0);
+}
+
+/* Old places and those that are made. */
 static size_t new_places(const struct net *net) {
     size_t count = net->places;
     for (size_t p = 0; p < net->places; p++)
-        if (reference_capped(net, p) && RULE(21, 1, net->caps[p] > 0))
+        if (is_made(net, p))
             count++;
     return count;
 }
 
-/* How many places the complement net has. Refusals 1 2 10. */
+/* How many places the complement net has. Refusals 1 2 17 10. */
 kaunorpi_places reference_complement_places(KAUNORPI_NET) {
     struct net net = LENT_NET;
+    size_t at;
     if (reference_counts_fault(&net))
         return (kaunorpi_places){KAUNORPI_REFUSED, 1, 0, 0};
     if (reference_lengths_fault(&net))
         return (kaunorpi_places){KAUNORPI_REFUSED, 2, 0, 0};
+    at = reference_loose_fault(&net);
+    if (at != NOWHERE && RULE(94, 1, new_places(&net) <= 64))
+        return (kaunorpi_places){KAUNORPI_REFUSED, 17, at, 0};
     if (RULE(41, new_places(&net) > 64, 0))
         return (kaunorpi_places){KAUNORPI_REFUSED, 10, 0, 0};
     return (kaunorpi_places){KAUNORPI_ANSWERED, 0, 0, new_places(&net)};
@@ -30,7 +42,7 @@ static void write_arcs(const struct net *net, size_t t, uint8_t *pre2, uint8_t *
         int64_t change = reference_change(net, p, t);
         pre2[p] = (uint8_t)reference_pre(net, p, t);
         post2[p] = (uint8_t)reference_post(net, p, t);
-        if (reference_capped(net, p)) {
+        if (is_made(net, p)) {
             pre2[next] = (uint8_t)(change > 0 ? change : 0);
             post2[next] = (uint8_t)(change < 0 ? -change : 0);
             next++;
@@ -44,7 +56,7 @@ static void write_tokens(const struct net *net, const uint16_t *initial, uint16_
     for (size_t p = 0; p < net->places; p++) {
         initial2[p] = initial[p];
         caps2[p] = 65535;
-        if (reference_capped(net, p)) {
+        if (is_made(net, p)) {
             initial2[next] = (uint16_t)(net->caps[p] - initial[p]);
             caps2[next] = 65535;
             next++;
@@ -52,7 +64,7 @@ static void write_tokens(const struct net *net, const uint16_t *initial, uint16_
     }
 }
 
-/* The complement net into rooms of its own lengths. Refusals 1 2 3 10. */
+/* The complement net into rooms of its own lengths. Refusals 1 2 3 17 10. */
 kaunorpi_answer reference_complement_net(KAUNORPI_NET, const uint16_t *initial, size_t initial_len, uint8_t *pre2,
                                          size_t pre2_len, uint8_t *post2, size_t post2_len, uint16_t *caps2,
                                          size_t caps2_len, uint16_t *initial2, size_t initial2_len) {
@@ -69,6 +81,9 @@ kaunorpi_answer reference_complement_net(KAUNORPI_NET, const uint16_t *initial, 
     at = reference_tokens_fault(&net, initial);
     if (at != NOWHERE)
         return (kaunorpi_answer){KAUNORPI_REFUSED, 3, at};
+    at = reference_loose_fault(&net);
+    if (at != NOWHERE && RULE(94, 1, count <= 64))
+        return (kaunorpi_answer){KAUNORPI_REFUSED, 17, at};
     if (RULE(41, count > 64, 0))
         return (kaunorpi_answer){KAUNORPI_REFUSED, 10, 0};
     for (size_t t = 0; t < transitions; t++)

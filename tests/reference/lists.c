@@ -36,9 +36,10 @@ static kaunorpi_list tokens_refusal(const struct net *net, const struct lists *q
     return fine;
 }
 
-/* The refusals 1 2 3 9 in this order. */
+/* The refusals 1 2 3 17 9 in this order. */
 static kaunorpi_list refusal(const struct net *net, const struct lists *q, int cover) {
     kaunorpi_list tokens;
+    size_t at, count;
     if (reference_counts_fault(net))
         return refused(1, 0);
     if (reference_lengths_fault(net) || q->initial_len != net->places || q->list_len % net->places != 0 ||
@@ -47,7 +48,11 @@ static kaunorpi_list refusal(const struct net *net, const struct lists *q, int c
     tokens = tokens_refusal(net, q, cover);
     if (tokens.kind == KAUNORPI_REFUSED)
         return tokens;
-    if (RULE(34, q->list_len / net->places < 1, 0) || RULE(35, q->list_len / net->places > 4096, 0))
+    at = reference_loose_fault(net);
+    count = q->list_len / net->places;
+    if (at != NOWHERE && RULE(92, 1, count >= 1 && count <= 4096))
+        return refused(17, at);
+    if (RULE(34, count < 1, 0) || RULE(35, count > 4096, 0))
         return refused(9, 0);
     return fine;
 }

@@ -62,10 +62,50 @@ int reference_lengths_fault(const struct net *net) {
 
 /* Refusal 3 for a marking: the lowest place with 65,535 tokens or tokens above capacity. */
 size_t reference_tokens_fault(const struct net *net, const uint16_t *marking) {
+    if (RULE(80, 0, reference_loose_fault(net) != NOWHERE))
+        return NOWHERE;
     for (size_t p = 0; p < net->places; p++)
         if (RULE(32, marking[p] == 65535, 0) || RULE(33, reference_capped(net, p) && marking[p] > net->caps[p], 0))
             return p;
     return NOWHERE;
+}
+
+/* Is there an arc between place p and transition t? */
+static int is_arc(const struct net *net, size_t p, size_t t) {
+    return RULE(84, reference_pre(net, p, t) > 0, 0) || RULE(83, reference_post(net, p, t) > 0, 0);
+}
+
+/* The lowest place without an arc. */
+static size_t loose_place(const struct net *net) {
+    for (size_t p = 0; p < net->places; p++) {
+        size_t arcs = 0;
+        for (size_t t = 0; t < net->transitions; t++)
+            arcs += is_arc(net, p, t);
+        if (arcs == 0)
+            return p;
+    }
+    return NOWHERE;
+}
+
+/* 64 plus the lowest transition without an arc. */
+static size_t loose_transition(const struct net *net) {
+    for (size_t t = 0; t < net->transitions; t++) {
+        size_t arcs = 0;
+        for (size_t p = 0; p < net->places; p++)
+            arcs += is_arc(net, p, t);
+        if (arcs == 0)
+            return RULE(82, 64, 0) + t;
+    }
+    return NOWHERE;
+}
+
+/* Refusal 17, from request E4 of document 02: "a net in which some place or transition has no arc is refused"; "position the
+ * lowest loose place, else 64 plus the lowest loose transition". */
+size_t reference_loose_fault(const struct net *net) {
+    size_t place = RULE(87, loose_place(net), NOWHERE), transition = RULE(88, loose_transition(net), NOWHERE);
+    if (RULE(81, place, transition) != NOWHERE)
+        return RULE(81, place, transition);
+    return RULE(81, transition, place);
 }
 
 /* Refusal 5 for a stretch: the first letter that names no transition, counted from the stretch's first. */

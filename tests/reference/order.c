@@ -123,7 +123,7 @@ static size_t bad_letter(const struct net *net, const uint8_t *first, size_t fir
     return RULE(67, then, at);
 }
 
-/* The refusals 1 2 3 4 15 5; number 0 is none. "2 for room or work space of another length" */
+/* The refusals 1 2 3 17 4 15 5; number 0 is none. "2 for room or work space of another length" */
 static kaunorpi_answer fault_of(const struct net *net, const uint16_t *initial, size_t initial_len, const uint8_t *first,
                                 size_t first_len, const uint8_t *second, size_t second_len, size_t room_len,
                                 size_t work_len) {
@@ -137,6 +137,9 @@ static kaunorpi_answer fault_of(const struct net *net, const uint16_t *initial, 
     at = reference_tokens_fault(net, initial);
     if (at != NOWHERE)
         return (kaunorpi_answer){KAUNORPI_REFUSED, 3, at};
+    at = reference_loose_fault(net);
+    if (at != NOWHERE && RULE(93, 1, number == 0) && RULE(89, 1, number != 4))
+        return (kaunorpi_answer){KAUNORPI_REFUSED, 17, at};
     at = bad_letter(net, first, first_len, second, second_len);
     if (number != 0 && RULE(70, 1, number == 4 || at == NOWHERE))
         return (kaunorpi_answer){KAUNORPI_REFUSED, number, 0};

@@ -71,6 +71,7 @@ void reference_fire(const struct net *net, int64_t *m, size_t t);
 int reference_counts_fault(const struct net *net);
 int reference_lengths_fault(const struct net *net);
 size_t reference_tokens_fault(const struct net *net, const uint16_t *marking);
+size_t reference_loose_fault(const struct net *net);
 size_t reference_letters_fault(const struct net *net, const uint8_t *word, size_t start, size_t end);
 
 /* ---- The two ways of order.c, for logs that are right: is there an order that fires, and if so, the one to be given. */

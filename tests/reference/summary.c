@@ -40,7 +40,7 @@ static void one_place(const struct net *net, size_t p, const uint8_t *word, size
     *change = (int32_t)so_far;
 }
 
-/* The refusals 1 2 4 5 in this order, then each place; slots past the place count are zero. */
+/* The refusals 1 2 17 4 5 in this order, then each place; slots past the place count are zero. */
 kaunorpi_summary reference_summary_stretch(KAUNORPI_NET, const uint8_t *word, size_t word_len, size_t start, size_t end,
                                            uint32_t *need, size_t need_len, uint32_t *climb, size_t climb_len,
                                            int32_t *change, size_t change_len) {
@@ -59,6 +59,9 @@ kaunorpi_summary reference_summary_stretch(KAUNORPI_NET, const uint8_t *word, si
         start = 0;
     if (RULE(29, 0, 1))
         end = word_len;
+    at = reference_loose_fault(&net);
+    if (at != NOWHERE && RULE(89, 1, end - start <= 65535))
+        return refused(17, at);
     if (end - start > 65535)
         return refused(4, 0);
     at = reference_letters_fault(&net, word, start, end);
@@ -140,7 +143,7 @@ static int fires_from(const struct net *net, const uint16_t *marking, const uint
     return 1;
 }
 
-/* Yes with the end marking, or no, which leaves the room untouched. Refusals 1 2 3 6. */
+/* Yes with the end marking, or no, which leaves the room untouched. Refusals 1 2 3 17 6. */
 kaunorpi_answer reference_ask_summary(KAUNORPI_NET, const uint16_t *marking, size_t marking_len, size_t summary_places,
                                       uint32_t summary_letters, const uint32_t *need, size_t need_len,
                                       const uint32_t *climb, size_t climb_len, const int32_t *change, size_t change_len,
@@ -155,6 +158,9 @@ kaunorpi_answer reference_ask_summary(KAUNORPI_NET, const uint16_t *marking, siz
     at = reference_tokens_fault(&net, marking);
     if (at != NOWHERE)
         return (kaunorpi_answer){KAUNORPI_REFUSED, 3, at};
+    at = reference_loose_fault(&net);
+    if (at != NOWHERE && RULE(90, 1, summary_fault(summary_places, summary_letters, need, climb, change) == NOWHERE))
+        return (kaunorpi_answer){KAUNORPI_REFUSED, 17, at};
     at = RULE(39, summary_fault(summary_places, summary_letters, need, climb, change), NOWHERE);
     if (at != NOWHERE)
         return (kaunorpi_answer){KAUNORPI_REFUSED, 6, at};

@@ -41,14 +41,17 @@ static size_t failing_place(const struct net *net, const int16_t *x) {
     return NOWHERE;
 }
 
-/* Is the place weighting invariant? Refusals 1 2 8. */
+/* Is the place weighting invariant? Refusals 1 2 17 8. */
 kaunorpi_answer reference_place_weighting(KAUNORPI_NET, const int16_t *y, size_t y_len) {
     struct net net = LENT_NET;
-    size_t t;
+    size_t t, at;
     if (reference_counts_fault(&net))
         return (kaunorpi_answer){KAUNORPI_REFUSED, 1, 0};
     if (reference_lengths_fault(&net) || y_len != places)
         return (kaunorpi_answer){KAUNORPI_REFUSED, 2, 0};
+    at = reference_loose_fault(&net);
+    if (at != NOWHERE && RULE(91, 1, !all_zero(y, places)))
+        return (kaunorpi_answer){KAUNORPI_REFUSED, 17, at};
     if (RULE(40, all_zero(y, places), 0))
         return (kaunorpi_answer){KAUNORPI_REFUSED, 8, 0};
     t = failing_transition(&net, y);
@@ -59,14 +62,17 @@ kaunorpi_answer reference_place_weighting(KAUNORPI_NET, const int16_t *y, size_t
     return (kaunorpi_answer){KAUNORPI_ANSWERED, 0, 0};
 }
 
-/* Is the transition weighting invariant, and proper? Refusals 1 2 8. */
+/* Is the transition weighting invariant, and proper? Refusals 1 2 17 8. */
 kaunorpi_answer reference_transition_weighting(KAUNORPI_NET, const int16_t *x, size_t x_len) {
     struct net net = LENT_NET;
-    size_t p;
+    size_t p, at;
     if (reference_counts_fault(&net))
         return (kaunorpi_answer){KAUNORPI_REFUSED, 1, 0};
     if (reference_lengths_fault(&net) || x_len != transitions)
         return (kaunorpi_answer){KAUNORPI_REFUSED, 2, 0};
+    at = reference_loose_fault(&net);
+    if (at != NOWHERE && RULE(91, 1, !all_zero(x, transitions)))
+        return (kaunorpi_answer){KAUNORPI_REFUSED, 17, at};
     if (RULE(40, all_zero(x, transitions), 0))
         return (kaunorpi_answer){KAUNORPI_REFUSED, 8, 0};
     p = failing_place(&net, x);
@@ -75,7 +81,7 @@ kaunorpi_answer reference_transition_weighting(KAUNORPI_NET, const int16_t *x, s
     return (kaunorpi_answer){KAUNORPI_ANSWERED, has_negative(x, transitions) ? 0 : RULE(14, 2, 0), 0};
 }
 
-/* The whole part of (sum of y x initial marking) / y(place), or why there is none. Refusals 1 2 3 8 13. */
+/* The whole part of (sum of y x initial marking) / y(place), or why there is none. Refusals 1 2 3 17 8 13. */
 kaunorpi_bound reference_place_bound(KAUNORPI_NET, const uint16_t *initial, size_t initial_len, const int16_t *y,
                                      size_t y_len, size_t place) {
     struct net net = LENT_NET;
@@ -88,6 +94,9 @@ kaunorpi_bound reference_place_bound(KAUNORPI_NET, const uint16_t *initial, size
     at = reference_tokens_fault(&net, initial);
     if (at != NOWHERE)
         return (kaunorpi_bound){KAUNORPI_REFUSED, 3, at, 0};
+    at = reference_loose_fault(&net);
+    if (at != NOWHERE && RULE(91, 1, !all_zero(y, places)))
+        return (kaunorpi_bound){KAUNORPI_REFUSED, 17, at, 0};
     if (RULE(40, all_zero(y, places), 0))
         return (kaunorpi_bound){KAUNORPI_REFUSED, 8, 0, 0};
     if (place >= places)
@@ -119,9 +128,9 @@ static int puts_into(const struct net *net, const uint8_t *set, size_t t) {
     return 0;
 }
 
-/* Is the set a siphon (or, with trap, a trap)? Refusals 1 2 8. */
+/* Is the set a siphon (or, with trap, a trap)? Refusals 1 2 17 8. */
 static kaunorpi_answer set_answer(const struct net *net, const uint8_t *set, size_t set_len, int trap) {
-    size_t members = 0;
+    size_t members = 0, at;
     if (reference_counts_fault(net))
         return (kaunorpi_answer){KAUNORPI_REFUSED, 1, 0};
     if (reference_lengths_fault(net) || set_len != net->places)
@@ -129,6 +138,9 @@ static kaunorpi_answer set_answer(const struct net *net, const uint8_t *set, siz
     for (size_t p = 0; p < net->places; p++)
         if (set[p] != 0)
             members++;
+    at = reference_loose_fault(net);
+    if (at != NOWHERE && RULE(91, 1, members > 0))
+        return (kaunorpi_answer){KAUNORPI_REFUSED, 17, at};
     if (RULE(40, members == 0, 0))
         return (kaunorpi_answer){KAUNORPI_REFUSED, 8, 0};
     for (size_t t = 0; t < net->transitions; t++) {

@@ -76,7 +76,7 @@ static void write_file(struct writing *w, const struct net *net, const uint16_t 
     write_letters(w, word, letters);
 }
 
-/* Refusals 1 2 3 4 5, else the file. */
+/* Refusals 1 2 3 17 4 5, else the file. */
 static kaunorpi_length judge(struct writing *w, const struct net *net, const uint16_t *initial, size_t initial_len,
                              const uint8_t *word, size_t word_len) {
     size_t at;
@@ -87,6 +87,9 @@ static kaunorpi_length judge(struct writing *w, const struct net *net, const uin
     at = reference_tokens_fault(net, initial);
     if (at != NOWHERE)
         return (kaunorpi_length){KAUNORPI_REFUSED, 3, at, 0};
+    at = reference_loose_fault(net);
+    if (at != NOWHERE && RULE(89, 1, word_len <= 65535))
+        return (kaunorpi_length){KAUNORPI_REFUSED, 17, at, 0};
     if (word_len > 65535)
         return (kaunorpi_length){KAUNORPI_REFUSED, 4, 0, 0};
     at = reference_letters_fault(net, word, 0, word_len);

@@ -11,18 +11,18 @@ use native.Mathlib.Decide.{decLt}
 use lib.ListN.{length, getD, take, length-append, List·getD-append}
 use lib.Seq.{sets, getD-append-add}
 use lib.Dec.{eqb}
-use borrow.Author.Tests.{lt-ltb, le-ltb, ltb-false, eqb-true, eqb-false, eq-eqb, not-true, not-false}
+use borrow.Author.Tests.{lt-ltb, le-ltb, ltb-false, eqb-true, eq-eqb, not-true, not-false}
 use Rattle.ground.specs.Limits.{countLimit, noCapacity}
 use Rattle.ground.specs.Lists.{table}
 use Rattle.ground.proofs.Tests.{never, and-true}
 use Rattle.net.specs.Net.{Net, riseOf, rise, capacity, Sized}
 use Rattle.net.specs.Letter.{row}
 use Rattle.net.proofs.Rows.{row-at, row-end, row-length}
-use Rattle.refusals.specs.Given.{orElse, sizedNet, countsFault, netFault, startFault, markedFault}
+use Rattle.refusals.specs.Given.{orElse, sizedNet, netFault, markedFault}
 use Rattle.refusals.specs.declared.Fault.{Fault}
 use Rattle.refusals.specs.declared.Fault.the-variants.{Sound, Faulty}
 use Rattle.refusals.proofs.Chains.{or-sound, sound-or, refuse-sound, chain-first, not-sound}
-use Rattle.refusals.proofs.Refusals.{sized-true, counts-met, net-met, met-net, marked-met, met-marked, marked-is, marked-unfit, unsized-unfit, start-misfit, start-faulty}
+use Rattle.refusals.proofs.Refusals.{sized-true, net-met, met-net, marked-met, met-marked, marked-unfit, marked-unsized}
 use Rattle.ground.proofs.Fill.{table-length, table-at}
 use Rattle.complement.specs.Complement.{made, madePlaces, complementPlaces, fallOf, fall, joined, preRow, postRow, complementMarking}
 use Rattle.complement.specs.Told.{limitFault, placesFault, Told, Countable}
@@ -69,16 +69,6 @@ test-sized net r e q = sized-true net (sym e ∙ not-false r q)
 pub found-sized : (net : Net) (found : Fault) → found ≡ netFault net true → found ≡ Sound → Sized net
 found-sized net found e q = net-met net true (sym e ∙ q) .sized
 
--- where the net is not sized, 1 or 2 is given whatever else is lent
-unsized-marked : (net : Net) (initial : List ℕ) (fits : Bool) → sizedNet net ≡ false → countsFault net false ≡ markedFault net initial fits
-unsized-marked net initial fits u = marked-is net initial fits (countsFault net false) (go (eqb (length initial) (net .places)) refl (countsFault net false) refl)
-  where
-    go : (b : Bool) → eqb (length initial) (net .places) ≡ b → (f : Fault) → countsFault net false ≡ f → countsFault net false ≡ startFault net initial fits
-    go false e f q = start-misfit net initial fits (countsFault net false) (eqb-false _ _ e) refl
-    go true e Sound q = never (sym (counts-met net false q .fitting))
-    go true e (Faulty n at) q =
-        q ∙ start-faulty net initial fits (countsFault net fits) (eqb-true _ _ e) refl n at (unsized-unfit net fits u ∙ q)
-
 -- which refusal
 module _ (net : Net) (initial : List ℕ) where
   pub fault-unsized : (fits s : Bool) (r : Fault) → s ≡ sizedNet net → not s ≡ true → r ≡ markedFault net initial false → r ≡ complementFault net initial fits
@@ -89,7 +79,7 @@ module _ (net : Net) (initial : List ℕ) where
       unsized = sym e ∙ not-true s q
 
       same : markedFault net initial fits ≡ markedFault net initial false
-      same = sym (unsized-marked net initial fits unsized) ∙ sym (marked-unfit net initial)
+      same = marked-unsized net initial fits unsized ∙ sym (marked-unfit net initial)
 
       go : (f : Fault) → markedFault net initial false ≡ f → markedFault net initial false ≡ orElse (markedFault net initial fits) (limitFault (complementPlaces net))
       go Sound p = never (sym (marked-met net initial false p .fitting))
@@ -217,13 +207,13 @@ module _ (net : Net) (initial : List ℕ) (rooms : Rooms) where
   allowed-of e =
       let a = or-sound (markedFault net initial (roomsFit net rooms)) (limitFault (complementPlaces net)) e in
       let m = marked-met net initial (roomsFit net rooms) (a .0) in
-      record { sized = m .sized; marked = m .marked; roomy = roomy-of net rooms (m .fitting); fine = m .fine; few = limit-sound (complementPlaces net) (a .1) }
+      record { sized = m .sized; marked = m .marked; roomy = roomy-of net rooms (m .fitting); fine = m .fine; wired = m .wired; few = limit-sound (complementPlaces net) (a .1) }
 
   pub of-allowed : Allowed net initial rooms → complementFault net initial (roomsFit net rooms) ≡ Sound
   unfolding complementFault
   of-allowed a =
       sound-or _ _
-      (met-marked net initial (roomsFit net rooms) (record { sized = a .sized; marked = a .marked; fitting = of-roomy net rooms (a .roomy); fine = a .fine }))
+      (met-marked net initial (roomsFit net rooms) (record { sized = a .sized; marked = a .marked; fitting = of-roomy net rooms (a .roomy); fine = a .fine; wired = a .wired }))
       (sym (limit-none (complementPlaces net) (a .few)))
 
   module _ (found : Fault) (e : found ≡ complementFault net initial (roomsFit net rooms)) where
@@ -242,8 +232,9 @@ pub countable-of : (net : Net) → placesFault net ≡ Sound → Countable net
 unfolding placesFault
 countable-of net e =
     let a = or-sound (netFault net true) (limitFault (complementPlaces net)) e in
-    record { sized = net-met net true (a .0) .sized; few = limit-sound (complementPlaces net) (a .1) }
+    let m = net-met net true (a .0) in
+    record { sized = m .sized; wired = m .wired; few = limit-sound (complementPlaces net) (a .1) }
 
 pub of-countable : (net : Net) → Countable net → placesFault net ≡ Sound
 unfolding placesFault
-of-countable net c = sound-or _ _ (met-net net true (record { sized = c .sized; fitting = refl })) (sym (limit-none (complementPlaces net) (c .few)))
+of-countable net c = sound-or _ _ (met-net net true (record { sized = c .sized; fitting = refl; wired = c .wired })) (sym (limit-none (complementPlaces net) (c .few)))

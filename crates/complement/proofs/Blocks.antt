@@ -54,7 +54,7 @@ module _ (net : Net) (sized : Sized net) (m m′ : List ℕ) (within : Within ne
       go true q = chosen-has (made net) 0 (net .places) p (record { from = zero-le; below = omega arith; passes = q })
       go false q =
           let x = moved-lt (tokens m p) (Post net p t) (Pre net p t) (capacity net p) .0 (o .1) in
-          let f = unmade-flat net p t (o .0) q in
+          let f = unmade-flat net p t named (o .0) q in
           let w = within .at p h (o .0) in
           absurd (omega arith)
 
@@ -99,7 +99,8 @@ hold-alike to from f (holds x k) = holds (to x) (f k)
 
 pub refusal-same : (net net′ : Net) (m m′ w : List ℕ) (within : Bool) (room room′ : List ℕ) → net′ .transitions ≡ net .transitions → Ready net m room → Ready net′ m′ room′ → (n at : ℕ) → Refusal net m w within room n at → Refusal net′ m′ w within room′ n at
 refusal-same net net′ m m′ w within room room′ e a b n at =
-    both-hold (ready-counts a) (ready-counts b) (hold-alike (λ l. lengths b (l .others .1 .1)) (λ l. lengths a (l .others .1 .1)) (both-hold (a .fine) (b .fine) (λ x. rw e x)))
+    both-hold (ready-counts a) (ready-counts b) (hold-alike (λ l. lengths b (l .others .1 .1)) (λ l. lengths a (l .others .1 .1)) (both-hold (a .fine) (b .fine)
+    (both-hold (a .wired .places) (b .wired .places) (both-hold (a .wired .transitions) (b .wired .transitions) (λ x. rw e x)))))
   where
     lengths : {k : Net} {u v : List ℕ} → Ready k u v → within ≡ true → Lengths k ((length u ≡ k .places) × ((length v ≡ k .places) × (within ≡ true)))
     lengths c i = record { pres = c .sized .pres; posts = c .sized .posts; capped = c .sized .capped; others = (c .marked, (c .roomy, i)) }

@@ -1,17 +1,19 @@
--- Laws of the chosen numbers, for any test: how many, which, and where each stands among them; and three of the test in force. Assumes nothing.
+-- Laws of the chosen numbers, for any test: how many, which, and where each stands among them; and those of the test in force. Assumes nothing.
 use Prim.Native.Nat.{ℕ, zero, suc, _+_, _≤_, _<_, zero-le, suc-le-suc}
 use mathlib.Core.Path.{_≡_, refl, sym, _∙_}
 use mathlib.Core.Bool.{Bool, true, false, cond}
 use mathlib.Core.List.{List, [], _∷_, map}
-use mathlib.Core.Logic.{_⊎_, inl, inr}
+use mathlib.Core.Logic.{_⊎_, inl, inr, _↔_}
 use native.Mathlib.Omega.{arith}
 use native.Mathlib.Nat.{not-suc-le-zero, le-of-suc-le-suc, eq-or-lt-of-le}
 use lib.ListN.{length, getD}
+use lib.Dec.{ltb}
 use borrow.Author.Tests.{ltb-true, lt-ltb}
 use Rattle.ground.specs.Limits.{noCapacity}
-use Rattle.ground.proofs.Tests.{never}
+use Rattle.ground.proofs.Tests.{never, and-true}
 use Rattle.net.specs.Net.{Net, rise, capacity, Capped}
-use Rattle.complement.specs.Complement.{made, chosenFrom}
+use Rattle.complement.specs.Complement.{Changed, made, chosenFrom}
+use Rattle.complement.proofs.Changes.{unchanged-flat, changed-means, means-changed}
 
 -- k is one of the n numbers from p on, and passes the test
 pub record Chosen (f : ℕ → Bool) (p n k : ℕ) : Type 0 where
@@ -87,17 +89,25 @@ map-at g [] j h = absurd (not-suc-le-zero h)
 map-at g (x ∷ l) zero h = refl
 map-at g (x ∷ l) (suc j) h = map-at g l j (le-of-suc-le-suc h)
 
--- The test in force, by what the theorems use of it: a new place stands for a place that has a capacity,
+-- The test in force, by what the theorems use of it: a new place stands for a place that has a capacity, and that some transition
+-- changes,
 pub made-capped : (net : Net) (p : ℕ) → made net p ≡ true → Capped net p
 unfolding made
-made-capped net p e = ltb-true (capacity net p) noCapacity e
+made-capped net p e = ltb-true (capacity net p) noCapacity (and-true _ _ e .0)
 
--- each place that has one gets a new place,
-pub capped-made : (net : Net) (p : ℕ) → Capped net p → made net p ≡ true
+pub made-changed : (net : Net) (p : ℕ) → made net p ≡ true → Changed net p
 unfolding made
-capped-made net p c = lt-ltb (capacity net p) noCapacity c
+made-changed net p e = changed-means net p (and-true (ltb (capacity net p) noCapacity) _ e .1)
 
--- and a place that has one, but no new place, never rises
-pub unmade-flat : (net : Net) (p t : ℕ) → Capped net p → made net p ≡ false → rise net p t ≡ 0
+-- each such place gets a new place,
+pub changed-made : (net : Net) (p : ℕ) → Capped net p → Changed net p → made net p ≡ true
 unfolding made
-unmade-flat net p t c e = never (sym (lt-ltb (capacity net p) noCapacity c) ∙ e)
+changed-made net p c d = rw (lt-ltb (capacity net p) noCapacity c, means-changed net p d)
+
+pub made-exactly : (net : Net) (p : ℕ) → made net p ≡ true ↔ (Capped net p × Changed net p)
+made-exactly net p = (λ e. (made-capped net p e, made-changed net p e), λ c. changed-made net p (c .0) (c .1))
+
+-- and a place that has a capacity, but no new place, never rises
+pub unmade-flat : (net : Net) (p t : ℕ) → t < net .transitions → Capped net p → made net p ≡ false → rise net p t ≡ 0
+unfolding made
+unmade-flat net p t h c e = let x = unchanged-flat net p (rw (lt-ltb (capacity net p) noCapacity c) at e) t h in omega arith

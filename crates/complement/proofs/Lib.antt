@@ -1,3 +1,4 @@
+pub mod Changes
 pub mod Choice
 pub mod Written
 pub mod Answers

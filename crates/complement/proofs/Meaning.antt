@@ -18,6 +18,7 @@ use Rattle.net.specs.Firing.{Keeps, Enabled, Gives, Firing, Fires, nothing, let
 use Rattle.net.specs.Letter.{firedAt}
 use Rattle.net.proofs.Judged.{gives-fired}
 use Rattle.net.proofs.Meaning.{keeps-rise, gives-plain, gives-one, firing-within}
+use Rattle.wiring.specs.Wired.{Arc, PlaceWired, TransitionWired, Wired}
 use Rattle.refusals.proofs.Exactly.{Chain, Reads, tells-test, reads-test, reads-both, reads-all, net-reads, marked-reads, Answers, fault-is, exactly-refused, is-answered, is-allowed}
 use Rattle.refusals.specs.Given.{Fine}
 use Rattle.refusals.specs.First.{First, Given}
@@ -27,15 +28,16 @@ use Rattle.replay.specs.Entry.{Replayed, Allowed as Replayable}
 use Rattle.replay.specs.declared.Replay.{Replay}
 use Rattle.replay.specs.declared.Replay.the-variants.{Fired}
 use Rattle.replay.proofs.Meaning.{answered-allowed as replayable, fired-means, fires-fired}
-use Rattle.complement.specs.Complement.{made, madePlaces, atMade, complementPlaces, fall, complementNet, complementMarking, Related}
+use Rattle.complement.specs.Complement.{Changed, made, madePlaces, atMade, complementPlaces, fall, complementNet, complementMarking, Related}
 use Rattle.complement.specs.Told.{limitFault, placesFault, placesOf, placesNumbers, Told, Countable, PlacesRefusal}
 use Rattle.complement.specs.Entry.{Rooms, roomsFit, complementFault, written, complementOf, numbers, Complemented, Allowed, Refusal}
 use Rattle.complement.specs.declared.ComplementPlaces.{ComplementPlaces}
 use Rattle.complement.specs.declared.ComplementPlaces.the-variants.{Places, Refused as NotTold}
 use Rattle.complement.specs.declared.ComplementNet.{ComplementNet}
 use Rattle.complement.specs.declared.ComplementNet.the-variants.{Made, Refused}
+use Rattle.complement.proofs.Changes.{zero-change}
 use Rattle.complement.proofs.Answers.{roomy-of, of-roomy, allowed-of, of-allowed, countable-of, of-countable}
-use Rattle.complement.proofs.Choice.{chosen-is, chosen-has, map-at, made-capped, unmade-flat}
+use Rattle.complement.proofs.Choice.{chosen-is, chosen-has, map-at, made-capped, made-changed, unmade-flat}
 use Rattle.complement.proofs.Entries.{pre-long, post-long, pre-old, post-old, pre-new, post-new, never-capped}
 
 -- "Change > 0 becomes an arc from it": what is taken from a new place
@@ -58,13 +60,16 @@ place net q h = go (decLt q (net .places))
     go (yes b) = old b
     go (no n) = new (q - net .places) (omega arith) (omega arith)
 
--- the place that new place j stands for is one of the net's, and has a capacity
+-- the place that new place j stands for is one of the net's, has a capacity, and some transition changes it
 module _ (net : Net) (j : ℕ) (h : j < length (madePlaces net)) where
   pub made-place : getD (madePlaces net) j 0 < net .places
   made-place = omega (arith, chosen-is (made net) 0 (net .places) j h .below)
 
   pub made-cap : Capped net (getD (madePlaces net) j 0)
   made-cap = made-capped net (getD (madePlaces net) j 0) (chosen-is (made net) 0 (net .places) j h .passes)
+
+  pub made-change : Changed net (getD (madePlaces net) j 0)
+  made-change = made-changed net (getD (madePlaces net) j 0) (chosen-is (made net) 0 (net .places) j h .passes)
 
 -- a marking within capacities has one related marking, the one that is written
 module _ (net : Net) where
@@ -107,13 +112,14 @@ module _ (net : Net) (sized : Sized net) (m m′ : List ℕ) (within : Within ne
   enabled-from : Enabled (complementNet net) m′ t → Enabled net m t
   enabled-from e = record { covers = λ p h. omega (arith, pre-old net sized t named p h, related .old p h, e .covers p (omega arith)); keeps = λ p h. kept p h }
     where
-      -- there is room for the rise: the new place covers it, or there is none and nothing rises
+      -- there is room for the rise: the new place covers it; or there is none, since no transition changes the place, and then nothing
+      -- rises and the tokens are within the capacity as they are
       room : (p : ℕ) → p < net .places → Capped net p → (b : Bool) → made net p ≡ b → tokens m p + rise net p t ≤ capacity net p
       room p h c true q =
           let f = chosen-has (made net) 0 (net .places) p (record { from = zero-le; below = omega arith; passes = q }) in
           let x : getD (madePlaces net) (f .0) 0 ≡ p = f .2 in
           omega (arith, rw x at (pre-new net sized t named (f .0) (f .1)), rw x at (related .new (f .0) (f .1)), e .covers (net .places + f .0) (omega (arith, f .1)))
-      room p h c false q = omega (arith, unmade-flat net p t c q, within .at p h c)
+      room p h c false q = omega (arith, unmade-flat net p t named c q, within .at p h c)
 
       kept : (p : ℕ) → p < net .places → Keeps net m t p
       kept p h = keeps-rise net m t p (within .at p h) .1 (λ c. room p h c (made net p) refl)
@@ -146,7 +152,9 @@ module _ (net : Net) (sized : Sized net) (m m′ : List ℕ) (within : Within ne
       let q = gives-one (gives-to (firedAt net t m) (complementMarking net (firedAt net t m)) (g .gives) r) (f .gives) in
       (firedAt net t m, g, rw q at r)
 
--- so a word fires in the one exactly when in the other, with the same marking on old places
+-- So a word fires in the one exactly when in the other, with the same marking on old places. Of a capped place without a new place the
+-- complement net knows no limit, and needs none: no transition changes it, so it keeps its tokens (`unchanged-stays`), and those of the
+-- first marking are within its capacity (`Within`, which an initial marking that may be given has: `fine-within`).
 module _ (net : Net) (sized : Sized net) where
   pub word-to : {m w n : List ℕ} (m′ : List ℕ) → Within net m → Related net m m′ → Fires net m w n → (n′ : List ℕ) × Fires (complementNet net) m′ w n′ × Related net n n′
   word-to m′ i r nothing = (m′, nothing, r)
@@ -178,6 +186,30 @@ module _ (net : Net) (sized : Sized net) where
         posts = post-long net sized;
         capped = table-length (λ p. noCapacity) (complementPlaces net);
       }
+
+  -- nothing hangs loose in it, where nothing did: a new place has an arc with each transition that changes the place it stands for
+  pub complement-wired : Wired net → Wired (complementNet net)
+  complement-wired w = record { places = λ q h. go q (place net q h); transitions = λ t h. old-arc t h (w .transitions t h) }
+    where
+      old-arc : (t : ℕ) → t < net .transitions → TransitionWired net t → TransitionWired (complementNet net) t
+      old-arc t h a =
+          record { place = a .place; here = omega (arith, a .here); arc = omega (arith, a .arc, pre-old net sized t h (a .place) (a .here), post-old net sized t h (a .place) (a .here)) }
+
+      go : (q : ℕ) → Place net q → PlaceWired (complementNet net) q
+      go q (old b) =
+          let a = w .places q b in
+          record { transition = a .transition; named = a .named; arc = omega (arith, a .arc, pre-old net sized (a .transition) (a .named) q b, post-old net sized (a .transition) (a .named) q b) }
+      go q (new j b e) =
+          let c = made-change net j b in
+          rw e (record { transition = c .transition; named = c .named; arc = changed-arc j b c })
+        where
+          changed-arc : (j : ℕ) (b : j < length (madePlaces net)) (c : Changed net (getD (madePlaces net) j 0)) → Arc (complementNet net) (net .places + j) (c .transition)
+          changed-arc j b c =
+              let p = getD (madePlaces net) j 0 in
+              let x = pre-new net sized (c .transition) (c .named) j b in
+              let y = post-new net sized (c .transition) (c .named) j b in
+              let z : Pre net p (c .transition) ≡ Post net p (c .transition) → ⊥ = λ d. c .changes (zero-change net p (c .transition) .1 d) in
+              omega arith
 
   module _ (m : List ℕ) (marked : length m ≡ net .places) (fine : Fine (net .caps) m) where
     pub fine-within : Within net m
@@ -221,13 +253,14 @@ module _ (net : Net) (initial : List ℕ) (rooms : Rooms) (allowed : Allowed net
         roomy = long′;
         inside = refl;
         fine = fine-stays net (allowed .sized) initial (allowed .marked) (allowed .fine);
+        wired = complement-wired net (allowed .sized) (allowed .wired);
         short = a .short;
         letters = a .letters;
       }
 
   pub from-other : Replayable (complementNet net) (complementMarking net initial) w true room′ → Replayable net initial w true room
   from-other a =
-      record { sized = allowed .sized; marked = allowed .marked; roomy = long; inside = refl; fine = allowed .fine; short = a .short; letters = a .letters }
+      record { sized = allowed .sized; marked = allowed .marked; roomy = long; inside = refl; fine = allowed .fine; wired = allowed .wired; short = a .short; letters = a .letters }
 
   fired-to : (n : ℕ) → r ≡ Fired n → (r′ ≡ Fired n) × Related net left left′
   fired-to n e =

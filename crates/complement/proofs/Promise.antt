@@ -1,5 +1,5 @@
 -- Demand 2, from the promise: what is true, over the published relation, of the net that the rooms hold where `complement_net` has answered made. Assumes nothing.
-use Prim.Native.Nat.{ℕ, _+_, _<_, zero-le}
+use Prim.Native.Nat.{ℕ, _+_, _≤_, _<_, zero-le}
 use mathlib.Core.Path.{_≡_, refl, sym, ap, _∙_}
 use mathlib.Core.Bool.{Bool, true}
 use mathlib.Core.List.{List}
@@ -8,38 +8,45 @@ use native.Mathlib.Omega.{arith}
 use lib.ListN.{length, getD}
 use Rattle.ground.specs.Limits.{noCapacity}
 use Rattle.ground.proofs.Fill.{table-length, table-at}
-use Rattle.net.specs.Net.{Net, capacity}
+use Rattle.net.specs.Net.{Net, Pre, Post, capacity, tokens}
 use Rattle.net.specs.Firing.{Fires, Within}
 use Rattle.net.specs.declared.Cause.{Cause}
 use Rattle.net.specs.declared.Cause.the-variants.{Short, Over}
 use Rattle.net.proofs.Meaning.{deterministic}
 use Rattle.refusals.specs.Given.{Fine}
+use Rattle.complement.proofs.Meaning.{complement-wired}
 use Rattle.replay.specs.Entry.{Replayed, Refusal as ReplayRefusal}
 use Rattle.replay.specs.declared.Replay.{Replay}
 use Rattle.replay.specs.declared.Replay.the-variants.{Fired, Blocked, Refused as NotReplayed}
 use Rattle.replay.proofs.Meaning.{answered-allowed as replayable, refused-exactly as replay-refused-exactly, blocked-cause}
-use Rattle.complement.specs.Complement.{made, madePlaces, complementPlaces, complementNet, complementMarking, Related}
+use Rattle.complement.specs.Complement.{Changed, made, madePlaces, complementPlaces, complementNet, complementMarking, Related}
 use Rattle.complement.specs.Told.{Told, Countable}
 use Rattle.complement.specs.Entry.{Rooms, written, Complemented, Allowed}
-use Rattle.complement.specs.Held.{heldNet, OldPlace, NewPlace, CappedInOrder, NewOf, Tied, TiedBlock, Ready, RoomsFor}
+use Rattle.complement.specs.Held.{heldNet, OldPlace, NewPlace, ChangedInOrder, NewOf, Tied, TiedBlock, Ready, RoomsFor}
 use Rattle.complement.specs.declared.ComplementPlaces.{ComplementPlaces}
 use Rattle.complement.specs.declared.ComplementPlaces.the-variants.{Places}
 use Rattle.complement.specs.declared.ComplementNet.{ComplementNet}
 use Rattle.complement.specs.declared.ComplementNet.the-variants.{Made}
-use Rattle.complement.proofs.Choice.{chosen-has, chosen-order, capped-made}
+use Rattle.complement.proofs.Changes.{loop-unchanged, unchanged-stays}
+use Rattle.complement.proofs.Choice.{chosen-has, chosen-order, changed-made}
 use Rattle.complement.proofs.Entries.{pre-old, post-old, pre-new, post-new}
-use Rattle.complement.proofs.Meaning.{arc-from, arc-to, made-place, made-cap, answered-allowed, allowed-made, fine-within, starts-related, sized-stays, fine-stays, word-to, word-from, replay-same, places-answered-allowed, places-told}
+use Rattle.complement.proofs.Meaning.{arc-from, arc-to, made-place, made-cap, made-change, answered-allowed, allowed-made, fine-within, starts-related, sized-stays, fine-stays, word-to, word-from, replay-same, places-answered-allowed, places-told}
 use Rattle.complement.proofs.Blocks.{refusal-same, answered-related, blocks-tied, blocks-tied-only}
 
--- "Each capped place, in order of number, gets a new place": these do, and no other
-pub made-in-order : (net : Net) → CappedInOrder net (madePlaces net)
+-- "Each capped place, in order of number, gets a new place", if "some transition changes" it: these do, and no other
+pub made-in-order : (net : Net) → ChangedInOrder net (madePlaces net)
 made-in-order net =
     record {
       here = made-place net;
       capped = made-cap net;
-      each = λ p h c. chosen-has (made net) 0 (net .places) p (record { from = zero-le; below = omega arith; passes = capped-made net p c });
+      changed = made-change net;
+      each = λ p h c d. chosen-has (made net) 0 (net .places) p (record { from = zero-le; below = omega arith; passes = changed-made net p c d });
       order = chosen-order (made net) 0 (net .places);
     }
+
+-- a capped place that only loops touch, each of which puts back what it takes, gets none: it would hang loose
+pub loop-no-place : (net : Net) (p : ℕ) → ((t : ℕ) → t < net .transitions → Pre net p t ≡ Post net p t) → (q : ℕ) → NewOf net p q → ⊥
+loop-no-place net p same q x = loop-unchanged net p same (rw (← x .stands) (made-change net (x .number) (x .here)))
 
 -- a replay that fired or is blocked is no refusal
 fired-answered : {s : Replay} (k : ℕ) → s ≡ Fired k → (n at : ℕ) → s ≡ NotReplayed n at → ⊥
@@ -83,6 +90,13 @@ module _ (net : Net) (initial : List ℕ) (rooms : Rooms) (r : ComplementNet) (r
   pub made-fires-related : (w m m′ : List ℕ) → Fires net initial w m → Fires (heldNet (net .transitions) rooms′) (rooms′ .initial) w m′ → Related net m m′
   made-fires-related w m m′ f g = let a = made-fires w m f in rw (deterministic g (a .1)) (a .2)
 
+  -- a place that no transition changes holds its first tokens after every word of the made net too: within its capacity, if it has one
+  pub made-unchanged-stays : (p : ℕ) → p < net .places → (Changed net p → ⊥) → (w m′ : List ℕ) → Fires (heldNet (net .transitions) rooms′) (rooms′ .initial) w m′ → (tokens m′ p ≡ tokens initial p) × (tokens m′ p ≤ capacity net p)
+  made-unchanged-stays p h u w m′ f =
+      let a = made-fires-only w m′ f in
+      let e : tokens m′ p ≡ tokens initial p = a .2 .old p h ∙ unchanged-stays net p h u (a .1) in
+      (e, rw e (made-allowed .fine .within p (omega (arith, made-allowed .marked))))
+
   -- what the complement net has, the held net has
   held-has : (Q : Net → Type 0) → Q (complementNet net) → Q (heldNet (net .transitions) rooms′)
   held-has Q q = rw made-net q
@@ -122,6 +136,7 @@ module _ (net : Net) (initial : List ℕ) (rooms : Rooms) (r : ComplementNet) (r
         marked = start .long;
         roomy = l;
         fine = fine-stays net (made-allowed .sized) initial (made-allowed .marked) (made-allowed .fine);
+        wired = complement-wired net (made-allowed .sized) (made-allowed .wired);
       } in
       rw (made-net, made-initial) x
 
@@ -158,7 +173,7 @@ module _ (net : Net) (initial : List ℕ) (rooms : Rooms) (r : ComplementNet) (r
         held = heldNet (net .transitions) rooms′
 
         ready : Ready net initial room
-        ready = record { sized = made-allowed .sized; marked = made-allowed .marked; roomy = long; fine = made-allowed .fine }
+        ready = record { sized = made-allowed .sized; marked = made-allowed .marked; roomy = long; fine = made-allowed .fine; wired = made-allowed .wired }
 
         one : (s ≡ NotReplayed n at) ↔ ReplayRefusal net initial w within room n at
         one = replay-refused-exactly net initial w within room s left p n at
@@ -261,4 +276,4 @@ module _ (net : Net) (r : ComplementPlaces) (promise : Told net r) (n : ℕ) (e 
         back y =
             let z = rw (← told-is) at y in
             allowed-made net initial rooms a rooms′ answer
-            (record { sized = told-countable .sized; marked = marked; roomy = record { pres = z .pres; posts = z .posts; capped = z .caps; initials = z .initials }; fine = fine; few = told-countable .few }) .0
+            (record { sized = told-countable .sized; marked = marked; roomy = record { pres = z .pres; posts = z .posts; capped = z .caps; initials = z .initials }; fine = fine; wired = told-countable .wired; few = told-countable .few }) .0

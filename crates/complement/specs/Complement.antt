@@ -1,18 +1,33 @@
--- To be believed: document 01, "Complement net": from 001, extended to capacity 0.
+-- To be believed: document 01, "Complement net": from 001, extended to capacity 0; which places get a new one is document 02's, E4.
 use Prim.Native.Nat.{ℕ, zero, suc, _+_, _-_, _<_}
 use mathlib.Core.Path.{_≡_}
-use mathlib.Core.Bool.{Bool, cond}
+use mathlib.Core.Bool.{Bool, not, cond, _&&_}
 use mathlib.Core.List.{List, [], _∷_, _++_, map}
 use lib.ListN.{length, getD}
-use lib.Dec.{ltb}
+use lib.Dec.{ltb, eqb}
+use lib.IntN.{pos}
 use Rattle.ground.specs.Limits.{noCapacity}
-use Rattle.ground.specs.Lists.{table}
-use Rattle.net.specs.Net.{Net, Pre, Post, riseOf, rise, capacity, tokens}
+use Rattle.ground.specs.Lists.{first, table}
+use Rattle.net.specs.Net.{Net, Pre, Post, Change, riseOf, rise, capacity, tokens}
 use Rattle.net.specs.Letter.{row}
 
--- "Each capped place .. gets a new place": whether place p does. Here and in `is_made` alone stands which places do.
+-- "some transition changes" place p: Change is not 0
+pub record Changed (net : Net) (p : ℕ) : Type 0 where
+  pub transition : ℕ
+  pub named : transition < net .transitions
+  pub changes : Change net p transition ≡ pos 0 → ⊥
+
+-- The same by tests: a transition that takes and puts so much does; some transition does.
+abbrev pub changeOf : ℕ → ℕ → Bool
+changeOf takes puts = not (eqb takes puts)
+
+unfoldable pub changed : Net → ℕ → Bool
+changed net p = ltb (first (λ t. changeOf (Pre net p t) (Post net p t)) (net .transitions)) (net .transitions)
+
+-- 02, E4: "A complement place is made only for a capped place that some transition changes, as the others would hang loose": whether
+-- place p gets one (`made-exactly` in proofs/Choice.antt). Here and in `is_made` alone stands which places do.
 unfoldable pub made : Net → ℕ → Bool
-made net p = ltb (capacity net p) noCapacity
+made net p = ltb (capacity net p) noCapacity && changed net p
 
 -- of the n numbers from p on, those that pass a test, in order
 unfoldable pub chosenFrom : (ℕ → Bool) → ℕ → ℕ → List ℕ

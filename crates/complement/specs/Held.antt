@@ -8,8 +8,9 @@ use Rattle.net.specs.Net.{Net, netOf, Pre, Post, Change, capacity, Capped, toke
 use Rattle.net.specs.Firing.{Names}
 use Rattle.net.specs.declared.Cause.{Cause}
 use Rattle.net.specs.declared.Cause.the-variants.{Short, Over}
+use Rattle.wiring.specs.Wired.{Wired}
 use Rattle.refusals.specs.Given.{Fine}
-use Rattle.complement.specs.Complement.{madePlaces, Related}
+use Rattle.complement.specs.Complement.{Changed, madePlaces, Related}
 use Rattle.complement.specs.Entry.{Rooms}
 
 -- the net that four rooms hold: a place for each capacity, and so many transitions
@@ -28,11 +29,13 @@ pub record NewPlace (net : Net) (initial : List ℕ) (held : Net) (start : List 
   pub puts : (t : ℕ) → t < net .transitions → Post held q t ≡ dn (Change net p t)
   pub holds : tokens start q + tokens initial p ≡ capacity net p
 
--- "Each capped place, in order of number": the list has each of them and no other number, ascending
-pub record CappedInOrder (net : Net) (l : List ℕ) : Type 0 where
+-- "Each capped place, in order of number", of those "that some transition changes": the list has each of them and no other number,
+-- ascending
+pub record ChangedInOrder (net : Net) (l : List ℕ) : Type 0 where
   pub here : (j : ℕ) → j < length l → getD l j 0 < net .places
   pub capped : (j : ℕ) → j < length l → Capped net (getD l j 0)
-  pub each : (p : ℕ) → p < net .places → Capped net p → (j : ℕ) × (j < length l) × (getD l j 0 ≡ p)
+  pub changed : (j : ℕ) → j < length l → Changed net (getD l j 0)
+  pub each : (p : ℕ) → p < net .places → Capped net p → Changed net p → (j : ℕ) × (j < length l) × (getD l j 0 ≡ p)
   pub order : (i j : ℕ) → i < j → j < length l → getD l i 0 < getD l j 0
 
 -- q is the new place of p: "after the old ones"
@@ -58,12 +61,13 @@ pub record TiedBlock (net held : Net) (w m m′ : List ℕ) (i : ℕ) (why why�
   pub named′ : Names held m′ (getD w i 0) why′
   pub causes : Tied net why why′
 
--- a net, its marking and a room for one, of which nothing is refused by 1, 2 or 3
+-- a net, its marking and a room for one, of which nothing is refused by 1, 2, 3 or 17
 pub record Ready (net : Net) (m room : List ℕ) : Type 0 where
   pub sized : Sized net
   pub marked : length m ≡ net .places
   pub roomy : length room ≡ net .places
   pub fine : Fine (net .caps) m
+  pub wired : Wired net
 
 -- rooms for a net of so many transitions and places
 pub record RoomsFor (transitions places : ℕ) (rooms : Rooms) : Type 0 where

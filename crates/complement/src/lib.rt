@@ -13,7 +13,7 @@ ghost use Rattle.ground.specs.Limits.{countLimit, noCapacity};
 ghost use Rattle.ground.specs.Lists.{table};
 ghost use Rattle.net.specs.Net.{netOf, Sized};
 ghost use Rattle.refusals.specs.Given.{orElse, markedFault, Fine};
-ghost use Rattle.complement.specs.Complement.{made, madePlaces, complementPlaces, joined};
+ghost use Rattle.complement.specs.Complement.{changeOf, changed, made, madePlaces, complementPlaces, joined};
 ghost use Rattle.complement.specs.Told.{limitFault, Told};
 ghost use Rattle.complement.specs.Entry.{roomsOf, lengthsFit, netFits, complementFault, Complemented};
 ghost use Rattle.complement.specs.Walk.{Inside, takenFrom, putTo, tokensAt, takenRow, putRow, newPre, newPost, tokensRow};
@@ -30,8 +30,49 @@ pub enum ComplementNet {
     Refused(u8, usize),
 }
 
-// Whether a place gets a complement place: it has a capacity. Here and in `made` alone stands which
-// places do, so it is lent the whole net.
+// Whether a transition changes a place: it puts there another number than it takes.
+fn is_change(takes: Weight, puts: Weight) -> bool
+    ensures { λ r. ⌜ r ≡ changeOf takes puts ⌝ }
+{
+    takes != puts
+}
+
+// Whether some transition changes this place: a loop that puts back what it takes does not.
+fn is_changed(
+    places: usize,
+    transitions: usize,
+    pre: &[Weight],
+    post: &[Weight],
+    caps: &[u16],
+    p: usize,
+) -> bool
+    requires { ⌜ Sized (netOf places transitions (now pre) (now post) (now caps)) ⌝ }
+    requires { ⌜ p < places ⌝ }
+    ensures { λ r. ⌜ r ≡ changed (netOf places transitions (now (pre .entry)) (now (post .entry)) (now (caps .entry))) p ⌝ }
+{
+    let mut t = 0;
+    while t < transitions {
+        let at = t * places + p;
+        let takes = pre[at];
+        let puts = post[at];
+        if is_change(takes, puts) {
+            return true;
+        }
+        t += 1;
+    }
+    false
+}
+
+// Whether a place has a capacity.
+fn is_capped(cap: u16) -> bool
+    ensures { λ r. ⌜ r ≡ ltb cap noCapacity ⌝ }
+{
+    cap < NO_CAPACITY
+}
+
+// Whether a place gets a complement place: it has a capacity, and some transition changes it, as its
+// complement place would hang loose otherwise. Here and in `made` alone stands which places do, so it
+// is lent the whole net.
 fn is_made(
     places: usize,
     transitions: usize,
@@ -44,7 +85,11 @@ fn is_made(
     requires { ⌜ p < places ⌝ }
     ensures { λ r. ⌜ r ≡ made (netOf places transitions (now (pre .entry)) (now (post .entry)) (now (caps .entry))) p ⌝ }
 {
-    caps[p] < NO_CAPACITY
+    let cap = caps[p];
+    if is_capped(cap) {
+        return is_changed(places, transitions, pre, post, caps, p);
+    }
+    false
 }
 
 // How many places get one.
@@ -259,7 +304,7 @@ fn limit_fault(wide: usize) -> Fault
     }
 }
 
-// Refusals 1, 2 and 3, then 10, once the number of places is known.
+// Refusals 1, 2, 3 and 17, then 10, once the number of places is known.
 fn later_fault(
     places: usize,
     transitions: usize,
@@ -279,7 +324,7 @@ fn later_fault(
     }
 }
 
-// Refusals 1, 2, 3 and 10, from the rooms' lengths. It is not lent the rooms, so a refusal cannot
+// Refusals 1, 2, 3, 17 and 10, from the rooms' lengths. It is not lent the rooms, so a refusal cannot
 // touch them. Places are counted only where counts and lengths agree, so nothing overflows; where
 // they do not, 1 or 2 is given whatever the rooms are.
 fn find_fault(

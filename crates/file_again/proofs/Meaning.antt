@@ -7,12 +7,12 @@ use lib.ListN.{length}
 use lib.Seq.{sets}
 use Rattle.net.specs.Net.{Net}
 use Rattle.file_line.specs.declared.Reading.{Reading}
-use Rattle.file_line.specs.Read.{Rooms}
+use Rattle.file_line.specs.Read.{Rooms, netIn}
 use Rattle.file_line.specs.Walk.{Large}
 use Rattle.file_parts.specs.declared.Case.{Case}
 use Rattle.file_parts.specs.declared.Case.the-variants as file
 use Rattle.file_parts.specs.File.{readOf, caseOf}
-use Rattle.file_text.specs.Text.{Limited, fileOf, netIn, markingIn, wordIn}
+use Rattle.file_text.specs.Text.{Limited, fileOf, markingIn, wordIn}
 use Rattle.file_text.proofs.Meaning.{read-file}
 use Rattle.file_out.specs.Length.{fileLimit}
 use Rattle.file_out.proofs.Length.{file-length, longest-file}
@@ -31,7 +31,7 @@ limited-few net initial w m =
     omega (arith, file-length net initial w (m .sized) (m .marked))
 
 limited-writable : (net : Net) (initial w : List ℕ) → Limited net initial w → Writable net initial w
-limited-writable net initial w m = record { sized = m .sized; marked = m .marked; fine = m .fine; short = m .short; letters = m .letters }
+limited-writable net initial w m = record { sized = m .sized; marked = m .marked; fine = m .fine; wired = m .wired; short = m .short; letters = m .letters }
 
 -- the promise determines the answer and the room
 pub unique : (c : Case) (x : Rooms) (out : List ℕ) (r r′ : WriteCase) (a b : List ℕ) → WrittenAgain c x out r a → WrittenAgain c x out r′ b → (r ≡ r′) × (a ≡ b)

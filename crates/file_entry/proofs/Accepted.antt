@@ -1,21 +1,25 @@
 -- Accepted exactly if the file is the frames of a net and word within the limits, and then net and word are those, for `read_case`. Assumes nothing.
-use Prim.Native.Nat.{ℕ, _*_}
+use Prim.Native.Nat.{ℕ, _+_, _*_}
 use mathlib.Core.Path.{_≡_, refl, sym, ap, _∙_}
 use mathlib.Core.List.{List}
 use mathlib.Core.Logic.{_↔_}
 use lib.ListN.{length, take}
-use Rattle.net.specs.Net.{Net, netOf}
+use Rattle.ground.specs.Limits.{noCapacity}
+use Rattle.net.specs.Net.{Net, netOf, Sized, Light}
+use Rattle.net.specs.Letter.{Small}
+use Rattle.wiring.specs.Wired.{Wired}
+use Rattle.refusals.specs.Given.{Fine}
 use Rattle.file_line.specs.Read.{Rooms}
 use Rattle.file_line.specs.Walk.{Large}
 use Rattle.file_parts.specs.declared.Case.{Case}
 use Rattle.file_parts.specs.File.{readOf, caseOf}
 use Rattle.file_text.specs.Text.{fileOf, Limited, Written, markingIn, wordIn, endOf, filled}
-use Rattle.file_text.proofs.Meaning.{accepted-exactly, those, file-read, filled-net, filled-marking, filled-word}
+use Rattle.file_text.proofs.Meaning.{accepted-exactly, those, loose-refused, file-read, filled-net, filled-marking, filled-word}
 use Rattle.file_entry.specs.declared.CaseFile.{CaseFile}
-use Rattle.file_entry.specs.declared.CaseFile.the-variants.{Read}
+use Rattle.file_entry.specs.declared.CaseFile.the-variants.{Read, Refused}
 use Rattle.file_entry.specs.Entry.{Came, came, Largest, blank, readAll, laid, answered, CaseRead}
 use Rattle.file_entry.proofs.Ends.{blank-large}
-use Rattle.file_entry.proofs.Meaning.{reads-the-fold, whole-read, read-whole, read-front}
+use Rattle.file_entry.proofs.Meaning.{reads-the-fold, refused-exactly, whole-read, read-whole, read-front}
 
 module _ (file : List ℕ) (x : Rooms) (r : CaseFile) (x′ : Rooms) (p : CaseRead file x r x′) where
   -- read exactly where the file is one that document 01 describes
@@ -76,3 +80,9 @@ module _ (net : Net) (initial w : List ℕ) (m : Limited net initial w) (x : Roo
       let h : came r x′ ≡ came (Read (net .places) (net .transitions) (length w)) (filled x net initial w)
       = reads-the-fold (fileOf net initial w) x r x′ p l ∙ answered-file blank (blank-large blank refl) in
       (ap (λ (z : Came). z .answer) h, ap (λ (z : Came). z .left) h)
+
+-- and the file of a net that is within the limits but for a loose node is refused with 17, on the line of its last transition, whatever its word is
+pub loose-file : (net : Net) (initial w : List ℕ) → Sized net → Light net → Small noCapacity (net .caps) → length initial ≡ net .places → Fine (net .caps) initial → (Wired net → ⊥)
+    → (x : Rooms) (r : CaseFile) (x′ : Rooms) → Largest x → CaseRead (fileOf net initial w) x r x′ → r ≡ Refused 17 (3 + net .transitions)
+loose-file net initial w sized weights capacities marked fine loose x r x′ l p =
+    refused-exactly (fileOf net initial w) x r x′ p l 17 (3 + net .transitions) .1 (loose-refused blank (blank-large blank refl) net initial w sized weights capacities marked fine loose)

@@ -21,7 +21,8 @@ use Rattle.file_parts.specs.declared.Case.the-variants as case
 use Rattle.file_parts.specs.File.{Run, going, stopped, both, together, feedParts, finishOf, caseOf, NoFeed}
 use Rattle.file_parts.proofs.Line.{any-cutting, large}
 use Rattle.file_text.specs.Refusal.{feeds, TakenLines, RefusedFile, faulty-line, cut-off, frames-missing, lastLine}
-use Rattle.file_text.proofs.Fronts.{cells-few, front-of, rest-of}
+use Rattle.file_line.proofs.Hanging.{cells-few}
+use Rattle.file_text.proofs.Fronts.{front-of, rest-of}
 use Rattle.file_text.proofs.Fold.{LinesCounted, fed-file}
 use Rattle.file_text.proofs.Taken.{read-taken, line-number}
 use Rattle.file_text.proofs.Refusal.{refused-means, refused-early}

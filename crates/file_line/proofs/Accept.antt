@@ -12,8 +12,9 @@ use Rattle.refusals.specs.declared.Fault.the-variants.{Sound}
 use Rattle.file_digits.specs.Frame.{byteAt}
 use Rattle.file_line.specs.declared.Reading.{Reading}
 use Rattle.file_line.specs.Read.{cellLimit, Rooms, kindOf, phaseAfter, lettersIn, judgeOf, advanced, advancedKind, storedKind}
-use Rattle.file_line.specs.Walk.{Good, Accepted}
-use Rattle.file_line.proofs.Order.{formed-kind, formed-01, formed-02, formed-03, formed-04, formed-05, taken-of}
+use Rattle.file_line.specs.Line.{Ruled, Formed, CountsInRange, WordNotOver}
+use Rattle.file_line.specs.Walk.{Good, askedOf, Accepted}
+use Rattle.file_line.proofs.Order.{formed-kind, formed-01, formed-02, formed-03, formed-04, formed-05, taken-of, asked-of-line}
 
 pub row-fits : (t p n : ℕ) → t < n → n ≤ countLimit → p ≤ countLimit → t * p + p ≤ cellLimit
 row-fits t p n h k l =
@@ -21,24 +22,30 @@ row-fits t p n h k l =
     omega (arith, suc-mul t p, mul-le-mul z l)
 
 module _ (s : Reading) (d : List ℕ) where
-  pub accepted : (x : Rooms) → judgeOf s d x ≡ Sound → Accepted s d
-  accepted x e =
-      let t = taken-of s d x e in
-      let k = formed-kind s d (t .formed) in
+  accepted-by : Ruled d → Formed s d → CountsInRange d → WordNotOver s d → Accepted s d
+  accepted-by ruled formed counts word =
+      let k = formed-kind s d formed in
       record {
-        least = t .ruled .least;
+        least = ruled .least;
         counts = λ q.
-            let f = formed-01 s d (t .formed) q in
-            let p = t .counts .places q in
-            let r = t .counts .transitions q in
+            let f = formed-01 s d formed q in
+            let p = counts .places q in
+            let r = counts .transitions q in
             (f .0, f .1, p .1, r .0, r .1, p .0);
-        caps = λ q. formed-02 s d (t .formed) q;
-        tokens = λ q. formed-03 s d (t .formed) q;
-        row = λ q. let f = formed-04 s d (t .formed) q in (f .0, f .1);
-        letters = λ q. let f = formed-05 s d (t .formed) q in (f .0, f .2, f .3, t .word .few q);
+        caps = λ q. formed-02 s d formed q;
+        tokens = λ q. formed-03 s d formed q;
+        row = λ q. let f = formed-04 s d formed q in (f .0, f .1);
+        letters = λ q. let f = formed-05 s d formed q in (f .0, f .2, f .3, word .few q);
         kind = k .1;
         kind-least = k .0;
       }
+
+  pub accepted : (x : Rooms) → judgeOf s d x ≡ Sound → Accepted s d
+  accepted x e = let t = taken-of s d x e in accepted-by (t .ruled) (t .formed) (t .counts) (t .word)
+
+  -- a line has it before it is stored
+  pub asked-accepted : (x : Rooms) → askedOf s d x ≡ Sound → Accepted s d
+  asked-accepted x e = let t = asked-of-line s d x e in accepted-by (t .0) (t .1) (t .2) (t .3)
 
   -- a good state stays good
   pub good-advanced : Good s → Accepted s d → Good (advanced s d)

@@ -1,21 +1,24 @@
 -- The chain as the code comes to it, test by test. Assumes nothing.
-use mathlib.Core.Path.{_≡_, sym, _∙_}
-use mathlib.Core.Bool.{Bool, true, false, _&&_, _||_}
+use mathlib.Core.Path.{_≡_, refl, sym, _∙_}
+use mathlib.Core.Logic.{_⊎_, inl, inr}
+use native.Mathlib.Omega.{arith}
+use mathlib.Core.Bool.{Bool, true, false, not, _&&_, _||_}
 use mathlib.Core.List.{List, []}
 use Prim.Native.Nat.{ℕ, _+_, _*_, _<_, _≤_, _%_}
 use lib.Dec.{leb, ltb, eqb}
 use lib.ListN.{length}
-use borrow.Author.Tests.{lt-ltb, le-ltb, eq-eqb, ne-eqb, lt-leb, le-leb}
+use borrow.Author.Tests.{lt-ltb, le-ltb, eq-eqb, ne-eqb, lt-leb, le-leb, eqb-true}
 use Rattle.ground.specs.Limits.{wordLimit}
 use Rattle.refusals.specs.Given.{refuse, orElse, outside, badToken, badLetter}
 use Rattle.refusals.specs.declared.Fault.{Fault}
 use Rattle.refusals.specs.declared.Fault.the-variants.{Sound, Faulty}
-use Rattle.refusals.proofs.Chains.{or-none}
+use Rattle.refusals.proofs.Chains.{fault-one, not-sound, or-none}
 use Rattle.file_digits.specs.Frame.{block, byteAt, wordsFrom}
 use Rattle.file_digits.proofs.Bytes.{words-long}
 use Rattle.file_line.specs.declared.Reading.{Reading}
-use Rattle.file_line.specs.Read.{Rooms, rooms, kindOf, expected, tokensIn, lettersIn, wordPart, lineHere, ruleOf, formedOf, formedKind, judgeOf}
-use Rattle.file_line.specs.Walk.{fitLetters}
+use Rattle.file_line.specs.declared.Took.{Took}
+use Rattle.file_line.specs.Read.{Rooms, rooms, kindOf, expected, tokensIn, lettersIn, wordPart, stored, countsBad, tokensBad, looseBad, wordOver, lettersBad, lineHere, ruleOf, formedOf, formedKind, judgeOf, advanced, tookBy, keptBy, lineOf, roomsOf}
+use Rattle.file_line.specs.Walk.{fitLetters, askedOf}
 use Rattle.file_line.proofs.Order.{formed-rest}
 use Rattle.file_line.proofs.Turns.{letters-pass}
 
@@ -66,40 +69,107 @@ module _ (s : Reading) (d : List ℕ) where
 
 pub ruleset forms = (form-other, form-01, form-02, form-03, form-04, form-05, form-rest)
 
--- the chain
+-- the chain before a line is stored
 module _ (s : Reading) (d : List ℕ) (x : Rooms) where
-  pub judge-rule : ruleOf d ≡ false → Faulty 11 (lineHere s) ≡ judgeOf s d x
-  unfolding judgeOf
+  pub judge-rule : ruleOf d ≡ false → Faulty 11 (lineHere s) ≡ askedOf s d x
+  unfolding askedOf
   judge-rule e = rw e
 
   module _ (r : ruleOf d ≡ true) where
-    pub judge-form : formedOf s d ≡ false → Faulty 12 (lineHere s) ≡ judgeOf s d x
-    unfolding judgeOf
+    pub judge-form : formedOf s d ≡ false → Faulty 12 (lineHere s) ≡ askedOf s d x
+    unfolding askedOf
     judge-form e = rw (r, e)
 
     module _ (f : formedOf s d ≡ true) where
-      pub judge-01 : (a : Fault) → kindOf d ≡ 1 → a ≡ refuse (outside (byteAt d 1) || outside (byteAt d 2)) 1 (lineHere s) → a ≡ judgeOf s d x
-      unfolding judgeOf
+      pub judge-01 : (a : Fault) → kindOf d ≡ 1 → a ≡ refuse (outside (byteAt d 1) || outside (byteAt d 2)) 1 (lineHere s) → a ≡ askedOf s d x
+      unfolding askedOf
       judge-01 a k e = rw (r, f, k) (e ∙ sym (or-none _))
 
-      pub judge-03 : (a : Fault) → kindOf d ≡ 3 → a ≡ refuse (ltb (badToken (x .caps) (tokensIn s d)) (length (tokensIn s d))) 3 (lineHere s) → a ≡ judgeOf s d x
-      unfolding judgeOf
+      pub judge-03 : (a : Fault) → kindOf d ≡ 3 → a ≡ refuse (ltb (badToken (x .caps) (tokensIn s d)) (length (tokensIn s d))) 3 (lineHere s) → a ≡ askedOf s d x
+      unfolding askedOf
       judge-03 a k e = rw (r, f, k) (e ∙ sym (or-none _))
 
       pub judge-05 : (a : Fault) → kindOf d ≡ 5
           → a ≡ orElse (refuse (ltb wordLimit (s .letters + lettersIn d)) 4 (lineHere s)) (refuse (ltb (badLetter (s .transitions) (wordPart d)) (length (wordPart d))) 5 (lineHere s))
-          → a ≡ judgeOf s d x
-      unfolding judgeOf
+          → a ≡ askedOf s d x
+      unfolding askedOf
       judge-05 a k e = rw (r, f, k) e
 
-      pub judge-rest : (kindOf d ≡ 1 → ⊥) → (kindOf d ≡ 3 → ⊥) → (kindOf d ≡ 5 → ⊥) → Sound ≡ judgeOf s d x
-      unfolding judgeOf
+      pub judge-rest : (kindOf d ≡ 1 → ⊥) → (kindOf d ≡ 3 → ⊥) → (kindOf d ≡ 5 → ⊥) → Sound ≡ askedOf s d x
+      unfolding askedOf
       judge-rest a b c = rw (r, f, ne-eqb (kindOf d) 1 a, ne-eqb (kindOf d) 3 b, ne-eqb (kindOf d) 5 c)
 
 -- only the capacities are looked at
-pub judge-caps : (s : Reading) (d : List ℕ) (x : Rooms) (a : Fault) → a ≡ judgeOf s d (rooms (x .caps) [] [] [] []) → judgeOf s d x ≡ a
-unfolding judgeOf
+judge-caps : (s : Reading) (d : List ℕ) (x : Rooms) (a : Fault) → a ≡ askedOf s d (rooms (x .caps) [] [] [] []) → askedOf s d x ≡ a
+unfolding askedOf
 judge-caps s d x a e = sym e
+
+-- 17 may be asked behind 4 and 5, since they are asked of other lines
+swap : (a b c e l w v : Fault) → (l ≡ Sound) ⊎ ((w ≡ Sound) × (v ≡ Sound))
+    → orElse a (orElse b (orElse c (orElse e (orElse l (orElse w v))))) ≡ orElse (orElse a (orElse b (orElse c (orElse e (orElse w v))))) l
+swap (Faulty n at) b c e l w v h = refl
+swap Sound (Faulty n at) c e l w v h = refl
+swap Sound Sound (Faulty n at) e l w v h = refl
+swap Sound Sound Sound (Faulty n at) l w v h = refl
+swap Sound Sound Sound Sound l w v (inl p) = rw p (sym (or-none _))
+swap Sound Sound Sound Sound l w v (inr p) = rw (p .0, p .1) (or-none _)
+
+pub judge-split : (s : Reading) (d : List ℕ) (x : Rooms) → judgeOf s d x ≡ orElse (askedOf s d x) (refuse (looseBad s d (stored s d x)) 17 (lineHere s))
+unfolding judgeOf askedOf
+judge-split s d x =
+    swap (refuse (not (ruleOf d)) 11 (lineHere s)) (refuse (not (formedOf s d)) 12 (lineHere s)) (refuse (countsBad d) 1 (lineHere s)) (refuse (tokensBad s d x) 3 (lineHere s)) _ _ _ (go (eqb (kindOf d) 4) refl)
+  where
+    go : (b : Bool) → eqb (kindOf d) 4 ≡ b
+        → (refuse (looseBad s d (stored s d x)) 17 (lineHere s) ≡ Sound) ⊎ ((refuse (wordOver s d) 4 (lineHere s) ≡ Sound) × (refuse (lettersBad s d) 5 (lineHere s) ≡ Sound))
+    go false q = inl (rw q)
+    go true q = let e = eqb-true (kindOf d) 4 q in inr (rw e, rw e)
+
+-- what is asked before has none of the numbers above 12
+record Early (f : Fault) : Type 0 where
+  few : (n at : ℕ) → f ≡ Faulty n at → n ≤ 12
+
+early-test : (b : Bool) (n at : ℕ) → n ≤ 12 → Early (refuse b n at)
+early-test true n at h = record { few = λ k p e. let q = fault-one n at k p e in omega arith }
+early-test false n at h = record { few = λ k p e. not-sound k p (sym e) }
+
+early-or : (f g : Fault) → Early f → Early g → Early (orElse f g)
+early-or Sound g p q = q
+early-or (Faulty n at) g p q = p
+
+asked-early : (s : Reading) (d : List ℕ) (x : Rooms) → Early (askedOf s d x)
+unfolding askedOf
+asked-early s d x =
+    early-or (refuse (not (ruleOf d)) 11 (lineHere s)) _ (early-test (not (ruleOf d)) 11 (lineHere s) (omega arith))
+    (early-or (refuse (not (formedOf s d)) 12 (lineHere s)) _ (early-test (not (formedOf s d)) 12 (lineHere s) (omega arith))
+    (early-or (refuse (countsBad d) 1 (lineHere s)) _ (early-test (countsBad d) 1 (lineHere s) (omega arith))
+    (early-or (refuse (tokensBad s d x) 3 (lineHere s)) _ (early-test (tokensBad s d x) 3 (lineHere s) (omega arith))
+    (early-or (refuse (wordOver s d) 4 (lineHere s)) _ (early-test (wordOver s d) 4 (lineHere s) (omega arith))
+    (early-test (lettersBad s d) 5 (lineHere s) (omega arith))))))
+
+-- a line that is refused before it is stored, and one that is not: a is what `judge` found
+module _ (s : Reading) (d : List ℕ) (x : Rooms) (a : Fault) (e : a ≡ askedOf s d (rooms (x .caps) [] [] [] [])) where
+  pub asked-refused : (n at : ℕ) → a ≡ Faulty n at → (judgeOf s d x ≡ Faulty n at) × (eqb n 17 ≡ false)
+  asked-refused n at q =
+      let f = judge-caps s d x a e ∙ q in
+      (judge-split s d x ∙ rw f, ne-eqb n 17 (λ o. let l = asked-early s d x .few n at f in omega arith))
+
+  module _ (q : a ≡ Sound) where
+    asked-sound : judgeOf s d x ≡ refuse (looseBad s d (stored s d x)) 17 (lineHere s)
+    asked-sound = let f = judge-caps s d x a e ∙ q in judge-split s d x ∙ rw f
+
+    -- its numbers are in the rooms y, which 17 is asked of
+    module _ (y : Rooms) (h : y ≡ stored s d x) where
+      pub stored-took : (r : Took) → r ≡ tookBy (refuse (looseBad s d y) 17 (lineHere s)) (advanced s d) → r ≡ lineOf s d x
+      unfolding lineOf
+      stored-took r g = g ∙ rw (h, asked-sound)
+
+      pub stored-rooms : y ≡ roomsOf s d x
+      unfolding roomsOf
+      stored-rooms = h ∙ rw asked-sound (kept (looseBad s d (stored s d x)))
+        where
+          kept : (b : Bool) → stored s d x ≡ keptBy (refuse b 17 (lineHere s)) (stored s d x) x
+          kept true = refl
+          kept false = refl
 
 -- the counts of a frame 01: a and b are their tests' answers
 module _ (d : List ℕ) (here p u t v : ℕ) (a : Bool) (eu : u ≡ byteAt d 1) (ep : p ≡ u) (ev : v ≡ byteAt d 2) (et : t ≡ v) (ea : a ≡ outside p) where

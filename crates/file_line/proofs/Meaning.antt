@@ -1,6 +1,6 @@
--- What the answer to a line means: the first of document 01's demands that it breaks (in the order 11, 12, 1, 3, 4, 5: DECISIONS 48). Assumes nothing.
+-- What the answer to a line means: the first of document 01's demands that it breaks (in the order 11, 12, 1, 3, 17, 4, 5: DECISIONS 48). Assumes nothing.
 use mathlib.Core.Path.{_≡_, refl}
-use mathlib.Core.Bool.{Bool, true, false}
+use mathlib.Core.Bool.{Bool, true, false, cond}
 use mathlib.Core.Logic.{_↔_}
 use mathlib.Core.List.{List, []}
 use Prim.Native.Nat.{ℕ, _+_, _≤_, _<_, _%_}
@@ -9,14 +9,15 @@ use lib.Dec.{eqb}
 use lib.ListN.{length, getD}
 use borrow.Author.Tests.{eqb-true, eqb-false}
 use Rattle.ground.specs.Limits.{wordLimit}
+use Rattle.wiring.specs.Wired.{Wired}
 use Rattle.refusals.specs.First.{First, fails, holds, Given}
 use Rattle.refusals.specs.declared.Fault.the-variants.{Sound, Faulty}
 use Rattle.file_digits.specs.Frame.{lineLimit, block}
 use Rattle.file_line.specs.declared.Reading.{Reading}
 use Rattle.file_line.specs.declared.Took.the-variants.{Next, Refused}
-use Rattle.file_line.specs.Read.{Rooms, kindOf, expected, lettersIn, lineHere, judgeOf, advanced, advancedKind, stored, lineOf, roomsOf}
-use Rattle.file_line.specs.Line.{Digit, Ruled, Formed, Taken, Judged}
-use Rattle.file_line.proofs.Order.{no-counts, no-tokens, no-long, no-letters, formed-01, formed-03, formed-05, judged-chain, taken-of, of-taken}
+use Rattle.file_line.specs.Read.{Rooms, kindOf, expected, lettersIn, lineHere, judgeOf, advanced, advancedKind, stored, netIn, lineOf, roomsOf}
+use Rattle.file_line.specs.Line.{Digit, Ruled, Formed, NetWired, WordNotOver, LettersNamed, Taken, Judged}
+use Rattle.file_line.proofs.Order.{no-counts, no-tokens, no-net, no-long, no-letters, formed-01, formed-03, formed-05, judged-chain, taken-of, of-taken}
 
 -- another number was given, so the demand holds
 past : {Demand Next : Type 0} {k p n at : ℕ} → First Demand (Given k p n at) Next → (n ≡ k → ⊥) → Demand × Next
@@ -36,17 +37,18 @@ module _ (s : Reading) (d : List ℕ) (x : Rooms) where
   given k = record { number = refl; position = refl }
 
   -- a refusal has one of these numbers, and the line's own number, counted from 1
-  pub judged-number : (n at : ℕ) → judgeOf s d x ≡ Faulty n at → (1 ≤ n) × (n ≤ 12) × (at ≡ lineHere s)
+  pub judged-number : (n at : ℕ) → judgeOf s d x ≡ Faulty n at → (1 ≤ n) × (n ≤ 17) × (at ≡ lineHere s)
   judged-number n at e = one (judged-exactly n at .0 e)
     where
-      one : Judged s d x n at → (1 ≤ n) × (n ≤ 12) × (at ≡ lineHere s)
+      one : Judged s d x n at → (1 ≤ n) × (n ≤ 17) × (at ≡ lineHere s)
       one (fails h g) = (omega (arith, g .number), omega (arith, g .number), g .position)
       one (holds a (fails h g)) = (omega (arith, g .number), omega (arith, g .number), g .position)
       one (holds a (holds b (fails h g))) = (omega (arith, g .number), omega (arith, g .number), g .position)
       one (holds a (holds b (holds c (fails h g)))) = (omega (arith, g .number), omega (arith, g .number), g .position)
       one (holds a (holds b (holds c (holds f (fails h g))))) = (omega (arith, g .number), omega (arith, g .number), g .position)
       one (holds a (holds b (holds c (holds f (holds i (fails h g)))))) = (omega (arith, g .number), omega (arith, g .number), g .position)
-      one (holds a (holds b (holds c (holds f (holds i (holds j z)))))) = absurd z
+      one (holds a (holds b (holds c (holds f (holds i (holds j (fails h g))))))) = (omega (arith, g .number), omega (arith, g .number), g .position)
+      one (holds a (holds b (holds c (holds f (holds i (holds j (holds k z))))))) = absurd z
 
   -- a line that breaks the digit rules is 11, whatever else it breaks
   pub digits-first : (Ruled d → ⊥) → judgeOf s d x ≡ Faulty 11 (lineHere s)
@@ -67,9 +69,9 @@ module _ (s : Reading) (d : List ℕ) (x : Rooms) where
   pub over-before-letter : Ruled d → Formed s d → kindOf d ≡ 5 → wordLimit < s .letters + lettersIn d → judgeOf s d x ≡ Faulty 4 (lineHere s)
   over-before-letter r f e h =
       judged-exactly 4 (lineHere s) .1
-      (holds r (holds f (holds (no-counts s d x (λ k. omega arith)) (holds (no-tokens s d x (λ k. omega arith)) (fails (λ m. let z = m .few e in omega arith) (given 4))))))
+      (holds r (holds f (holds (no-counts s d x (λ k. omega arith)) (holds (no-tokens s d x (λ k. omega arith)) (holds (no-net s d x (λ k. omega arith)) (fails (λ m. let z = m .few e in omega arith) (given 4)))))))
 
-  -- a refusal of a frame's numbers falls on a frame of its kind, at its place: 1 on 01, 3 on 03, 4 and 5 on 05
+  -- a refusal of a frame's numbers falls on a frame of its kind, at its place: 1 on 01, 3 on 03, 17 on 04, 4 and 5 on 05
   on-kind : {Demand Next : Type 0} {n p k at : ℕ} (j : ℕ) → ((kindOf d ≡ j → ⊥) → Demand) → (Next → ⊥) → First Demand (Given n p k at) Next → kindOf d ≡ j
   on-kind j free no-more (holds p a) = absurd (no-more a)
   on-kind j free no-more (fails h e) = go (eqb (kindOf d) j) refl
@@ -78,12 +80,16 @@ module _ (s : Reading) (d : List ℕ) (x : Rooms) where
       go true q = eqb-true _ _ q
       go false q = absurd (h (free (eqb-false _ _ q)))
 
+  not-held : {Demand Next : Type 0} {n p k at : ℕ} → (Next → ⊥) → First Demand (Given n p k at) Next → Demand → ⊥
+  not-held no-more (holds p a) = λ _. no-more a
+  not-held no-more (fails h e) = h
+
   module _ (at : ℕ) where
     pub one-on-01 : judgeOf s d x ≡ Faulty 1 at → (expected s ≡ 1) × (kindOf d ≡ 1)
     one-on-01 e =
         let a = past (judged-exactly 1 at .0 e) (λ q. omega arith) in
         let b = past (a .1) (λ q. omega arith) in
-        let k = on-kind 1 (no-counts s d x) (λ f. past (past (past f (λ q. omega arith) .1) (λ q. omega arith) .1) (λ q. omega arith) .1) (b .1) in
+        let k = on-kind 1 (no-counts s d x) (λ f. past (past (past (past f (λ q. omega arith) .1) (λ q. omega arith) .1) (λ q. omega arith) .1) (λ q. omega arith) .1) (b .1) in
         (formed-01 s d (b .0) k .0, k)
 
     pub three-on-03 : judgeOf s d x ≡ Faulty 3 at → (expected s ≡ 3) × (kindOf d ≡ 3)
@@ -91,15 +97,43 @@ module _ (s : Reading) (d : List ℕ) (x : Rooms) where
         let a = past (judged-exactly 3 at .0 e) (λ q. omega arith) in
         let b = past (a .1) (λ q. omega arith) in
         let c = past (b .1) (λ q. omega arith) in
-        let k = on-kind 3 (no-tokens s d x) (λ f. past (past f (λ q. omega arith) .1) (λ q. omega arith) .1) (c .1) in
+        let k = on-kind 3 (no-tokens s d x) (λ f. past (past (past f (λ q. omega arith) .1) (λ q. omega arith) .1) (λ q. omega arith) .1) (c .1) in
         (formed-03 s d (b .0) k .0, k)
+
+    -- 17 is given exactly on the line of the last transition, where the net read with it is not wired and nothing before it is broken
+    pub wired-exactly : (judgeOf s d x ≡ Faulty 17 at)
+        ↔ (Ruled d × Formed s d × (kindOf d ≡ 4) × (s .next + 1 ≡ s .transitions) × (Wired (netIn s (stored s d x)) → ⊥) × (at ≡ lineHere s))
+    wired-exactly = (there, back)
+      where
+        last : (b : Bool) → eqb (s .next + 1) (s .transitions) ≡ b → (NetWired s d x → ⊥) → s .next + 1 ≡ s .transitions
+        last true q n = eqb-true _ _ q
+        last false q n = absurd (n (record { wired = λ k l. absurd (eqb-false _ _ q l) }))
+
+        no-more : First (WordNotOver s d) (Given 4 (lineHere s) 17 at) (First (LettersNamed s d) (Given 5 (lineHere s) 17 at) ⊥) → ⊥
+        no-more g = past (past g (λ q. omega arith) .1) (λ q. omega arith) .1
+
+        there : judgeOf s d x ≡ Faulty 17 at → Ruled d × Formed s d × (kindOf d ≡ 4) × (s .next + 1 ≡ s .transitions) × (Wired (netIn s (stored s d x)) → ⊥) × (at ≡ lineHere s)
+        there e =
+            let a = past (judged-exactly 17 at .0 e) (λ q. omega arith) in
+            let b = past (a .1) (λ q. omega arith) in
+            let f = past (past (b .1) (λ q. omega arith) .1) (λ q. omega arith) in
+            let k = on-kind 4 (no-net s d x) no-more (f .1) in
+            let n = not-held no-more (f .1) in
+            (a .0, b .0, k, last (eqb (s .next + 1) (s .transitions)) refl n, λ w. n (record { wired = λ j l. w }), judged-number 17 at e .2)
+
+        back : Ruled d × Formed s d × (kindOf d ≡ 4) × (s .next + 1 ≡ s .transitions) × (Wired (netIn s (stored s d x)) → ⊥) × (at ≡ lineHere s) → judgeOf s d x ≡ Faulty 17 at
+        back h =
+            let k = h .2 in
+            judged-exactly 17 at .1
+            (holds (h .0) (holds (h .1) (holds (no-counts s d x (λ q. omega arith)) (holds (no-tokens s d x (λ q. omega arith))
+            (fails (λ w. h .4 (w .wired (h .2) (h .3))) (record { number = refl; position = h .5 }))))))
 
     pub four-on-05 : judgeOf s d x ≡ Faulty 4 at → (expected s ≡ 5) × (kindOf d ≡ 5)
     four-on-05 e =
         let a = past (judged-exactly 4 at .0 e) (λ q. omega arith) in
         let b = past (a .1) (λ q. omega arith) in
         let c = past (b .1) (λ q. omega arith) in
-        let f = past (c .1) (λ q. omega arith) in
+        let f = past (past (c .1) (λ q. omega arith) .1) (λ q. omega arith) in
         let k = on-kind 5 (no-long s d x) (λ f. past f (λ q. omega arith) .1) (f .1) in
         (formed-05 s d (b .0) k .0, k)
 
@@ -108,7 +142,7 @@ module _ (s : Reading) (d : List ℕ) (x : Rooms) where
         let a = past (judged-exactly 5 at .0 e) (λ q. omega arith) in
         let b = past (a .1) (λ q. omega arith) in
         let c = past (b .1) (λ q. omega arith) in
-        let f = past (c .1) (λ q. omega arith) in
+        let f = past (past (c .1) (λ q. omega arith) .1) (λ q. omega arith) in
         let g = past (f .1) (λ q. omega arith) in
         let k = on-kind 5 (no-letters s d x) (λ z. z) (g .1) in
         (formed-05 s d (b .0) k .0, k)
@@ -118,7 +152,7 @@ module _ (s : Reading) (d : List ℕ) (x : Rooms) where
   unfolding lineOf roomsOf
   taken-line e = (rw e, rw e)
 
-  pub refused-line : (n at : ℕ) → judgeOf s d x ≡ Faulty n at → (lineOf s d x ≡ Refused n at) × (roomsOf s d x ≡ x)
+  pub refused-line : (n at : ℕ) → judgeOf s d x ≡ Faulty n at → (lineOf s d x ≡ Refused n at) × (roomsOf s d x ≡ cond (eqb n 17) (stored s d x) x)
   unfolding lineOf roomsOf
   refused-line n at e = (rw e, rw e)
 

@@ -4,11 +4,14 @@ use mathlib.Core.Bool.{Bool, true, false, not, _&&_}
 use mathlib.Core.List.{List}
 use Prim.Native.Nat.{ℕ, zero, suc, _+_, _*_, _≤_, _<_, _%_}
 use native.Mathlib.Omega.{arith}
-use lib.Dec.{leb, eqb}
+use lib.Dec.{leb, ltb, eqb}
 use lib.ListN.{length, getD}
 use borrow.Author.Tests.{eq-eqb, ne-eqb, eqb-true, le-ltb, ltb-false, le-leb, lt-leb, leb-true, leb-false, not-false}
 use Rattle.ground.proofs.Tests.{never, or-false, both-false, and-true}
-use Rattle.ground.proofs.Scan.{first-none, first-below}
+use Rattle.ground.proofs.Scan.{first-none, first-below, first-most}
+use Rattle.net.specs.Net.{Net}
+use Rattle.wiring.specs.Wired.{Wired, lowestLoosePlace, lowestLooseTransition, loosePlace, looseTransition}
+use Rattle.wiring.proofs.Loose.{wired-places, wired-transitions}
 use Rattle.refusals.specs.Given.{refuse, outside, markingFault, badLetter, Letters}
 use Rattle.refusals.specs.declared.Fault.the-variants.{Sound}
 use Rattle.refusals.proofs.Chains.{refuse-sound, sound-refuse, or-sound, sound-or}
@@ -16,8 +19,9 @@ use Rattle.refusals.proofs.Refusals.{inside-of, inside-is, fine-of, fine-is}
 use Rattle.refusals.proofs.Exactly.{Chain, tells-test, reads-test, reads-both, reads-all}
 use Rattle.file_digits.specs.Frame.{block, byteAt}
 use Rattle.file_line.specs.declared.Reading.{Reading}
-use Rattle.file_line.specs.Read.{Rooms, kindOf, expected, tokensIn, wordPart, lineHere, ruleOf, formedKind, formedOf, countsBad, tokensBad, wordOver, lettersBad, judgeOf}
-use Rattle.file_line.specs.Line.{Ruled, Formed, frame01, frame02, frame03, frame04, frame05, CountsInRange, TokensAllowed, WordNotOver, LettersNamed, Taken, Judged}
+use Rattle.file_line.specs.Read.{Rooms, kindOf, expected, tokensIn, wordPart, lineHere, ruleOf, formedKind, formedOf, countsBad, tokensBad, hangsLoose, looseBad, wordOver, lettersBad, stored, judgeOf}
+use Rattle.file_line.specs.Line.{Ruled, Formed, frame01, frame02, frame03, frame04, frame05, CountsInRange, TokensAllowed, NetWired, WordNotOver, LettersNamed, Taken, Judged}
+use Rattle.file_line.specs.Walk.{askedOf}
 use Rattle.file_line.proofs.Digits.{rule-exactly}
 
 -- a test that is asked of one kind only
@@ -111,6 +115,24 @@ module _ (s : Reading) (d : List ℕ) where
   formed-is (frame04 p k l i) = rw (k, p, eq-eqb (length d) (4 + 4 * s .places) l) (eq-eqb _ _ i)
   formed-is (frame05 p k q l m) = rw (k, p, eq-eqb (s .letters % block) 0 q, le-leb 4 (length d) l) (le-leb _ _ m)
 
+-- no node hangs loose exactly where the net is wired
+pub loose-none : (net : Net) → hangsLoose net ≡ false → Wired net
+unfolding hangsLoose
+loose-none net e =
+    let o = or-false (ltb (lowestLoosePlace net) (net .places)) (ltb (lowestLooseTransition net) (net .transitions)) e in
+    let p = first-most (loosePlace net) (net .places) in
+    let t = first-most (looseTransition net) (net .transitions) in
+    let a = ltb-false (lowestLoosePlace net) (net .places) (o .0) in
+    let b = ltb-false (lowestLooseTransition net) (net .transitions) (o .1) in
+    record { places = wired-places net .0 (omega arith); transitions = wired-transitions net .0 (omega arith) }
+
+pub none-loose : (net : Net) → Wired net → hangsLoose net ≡ false
+unfolding hangsLoose
+none-loose net w =
+    let p = wired-places net .1 (w .places) in
+    let t = wired-transitions net .1 (w .transitions) in
+    both-false _ _ (le-ltb (lowestLoosePlace net) (net .places) (omega arith)) (le-ltb (lowestLooseTransition net) (net .transitions) (omega arith))
+
 -- each test and its demand
 module _ (s : Reading) (d : List ℕ) (x : Rooms) where
   ruled-of : not (ruleOf d) ≡ false → Ruled d
@@ -143,6 +165,12 @@ module _ (s : Reading) (d : List ℕ) (x : Rooms) where
   unfolding markingFault
   of-tokens t = of-asked (kindOf d) 3 _ (λ h. refuse-sound _ 3 _ (fine-is (x .caps) (tokensIn s d) (t .fine h)))
 
+  net-of : looseBad s d (stored s d x) ≡ false → NetWired s d x
+  net-of e = record { wired = λ h l. loose-none _ (asked-of (s .next + 1) (s .transitions) _ (asked-of (kindOf d) 4 _ e h) l) }
+
+  of-net : NetWired s d x → looseBad s d (stored s d x) ≡ false
+  of-net w = of-asked (kindOf d) 4 _ (λ h. of-asked (s .next + 1) (s .transitions) _ (λ l. none-loose _ (w .wired h l)))
+
   word-of : wordOver s d ≡ false → WordNotOver s d
   word-of e = record { few = λ h. ltb-false _ _ (asked-of (kindOf d) 5 _ e h) }
 
@@ -172,8 +200,9 @@ module _ (s : Reading) (d : List ℕ) (x : Rooms) where
       (reads-both (reads-test (tells-test (not (formedOf s d)) 12 (lineHere s) form-of of-form))
       (reads-both (reads-test (tells-test (countsBad d) 1 (lineHere s) counts-of of-counts))
       (reads-both (reads-test (tells-test (tokensBad s d x) 3 (lineHere s) tokens-of of-tokens))
+      (reads-both (reads-test (tells-test (looseBad s d (stored s d x)) 17 (lineHere s) net-of of-net))
       (reads-both (reads-test (tells-test (wordOver s d) 4 (lineHere s) word-of of-word))
-      (reads-test (tells-test (lettersBad s d) 5 (lineHere s) letters-of of-letters)))))))
+      (reads-test (tells-test (lettersBad s d) 5 (lineHere s) letters-of of-letters))))))))
 
   -- nothing is refused exactly where all of it holds
   pub taken-of : judgeOf s d x ≡ Sound → Taken s d x
@@ -183,12 +212,14 @@ module _ (s : Reading) (d : List ℕ) (x : Rooms) where
       let b = or-sound (refuse (not (formedOf s d)) 12 (lineHere s)) _ (a .1) in
       let c = or-sound (refuse (countsBad d) 1 (lineHere s)) _ (b .1) in
       let f = or-sound (refuse (tokensBad s d x) 3 (lineHere s)) _ (c .1) in
-      let g = or-sound (refuse (wordOver s d) 4 (lineHere s)) _ (f .1) in
+      let i = or-sound (refuse (looseBad s d (stored s d x)) 17 (lineHere s)) _ (f .1) in
+      let g = or-sound (refuse (wordOver s d) 4 (lineHere s)) _ (i .1) in
       record {
         ruled = ruled-of (refuse-sound _ 11 (lineHere s) (a .0));
         formed = form-of (refuse-sound _ 12 (lineHere s) (b .0));
         counts = counts-of (refuse-sound _ 1 (lineHere s) (c .0));
         tokens = tokens-of (refuse-sound _ 3 (lineHere s) (f .0));
+        net = net-of (refuse-sound _ 17 (lineHere s) (i .0));
         word = word-of (refuse-sound _ 4 (lineHere s) (g .0));
         letters = letters-of (refuse-sound _ 5 (lineHere s) (g .1));
       }
@@ -200,7 +231,23 @@ module _ (s : Reading) (d : List ℕ) (x : Rooms) where
       (sound-or _ _ (sound-refuse _ 12 (lineHere s) (of-form (t .formed)))
       (sound-or _ _ (sound-refuse _ 1 (lineHere s) (of-counts (t .counts)))
       (sound-or _ _ (sound-refuse _ 3 (lineHere s) (of-tokens (t .tokens)))
-      (sound-or _ _ (sound-refuse _ 4 (lineHere s) (of-word (t .word))) (sound-refuse _ 5 (lineHere s) (of-letters (t .letters)))))))
+      (sound-or _ _ (sound-refuse _ 17 (lineHere s) (of-net (t .net)))
+      (sound-or _ _ (sound-refuse _ 4 (lineHere s) (of-word (t .word))) (sound-refuse _ 5 (lineHere s) (of-letters (t .letters))))))))
+
+  -- what the walk needs of a line is told before it is stored
+  pub asked-of-line : askedOf s d x ≡ Sound → Ruled d × Formed s d × CountsInRange d × WordNotOver s d
+  unfolding askedOf
+  asked-of-line e =
+      let a = or-sound (refuse (not (ruleOf d)) 11 (lineHere s)) _ e in
+      let b = or-sound (refuse (not (formedOf s d)) 12 (lineHere s)) _ (a .1) in
+      let c = or-sound (refuse (countsBad d) 1 (lineHere s)) _ (b .1) in
+      let f = or-sound (refuse (tokensBad s d x) 3 (lineHere s)) _ (c .1) in
+      let g = or-sound (refuse (wordOver s d) 4 (lineHere s)) _ (f .1) in (
+        ruled-of (refuse-sound _ 11 (lineHere s) (a .0)),
+        form-of (refuse-sound _ 12 (lineHere s) (b .0)),
+        counts-of (refuse-sound _ 1 (lineHere s) (c .0)),
+        word-of (refuse-sound _ 4 (lineHere s) (g .0)),
+      )
 
 -- a line is asked only what its kind is asked
 module _ (s : Reading) (d : List ℕ) (x : Rooms) where
@@ -209,6 +256,9 @@ module _ (s : Reading) (d : List ℕ) (x : Rooms) where
 
   pub no-tokens : (kindOf d ≡ 3 → ⊥) → TokensAllowed s d x
   no-tokens n = record { fine = λ e. absurd (n e) }
+
+  pub no-net : (kindOf d ≡ 4 → ⊥) → NetWired s d x
+  no-net n = record { wired = λ e l. absurd (n e) }
 
   pub no-long : (kindOf d ≡ 5 → ⊥) → WordNotOver s d
   no-long n = record { few = λ e. absurd (n e) }

@@ -5,11 +5,12 @@ use mathlib.Core.Logic.{_⊎_}
 use mathlib.Core.List.{List}
 use lib.ListN.{length, getD}
 use Rattle.ground.specs.Limits.{countLimit, wordLimit}
+use Rattle.wiring.specs.Wired.{Wired}
 use Rattle.refusals.specs.Given.{Fine, Letters}
 use Rattle.refusals.specs.First.{First, Given}
 use Rattle.file_digits.specs.Frame.{lineLimit, block, byteAt}
 use Rattle.file_line.specs.declared.Reading.{Reading}
-use Rattle.file_line.specs.Read.{Rooms, kindOf, expected, tokensIn, lettersIn, wordPart, lineHere}
+use Rattle.file_line.specs.Read.{Rooms, kindOf, expected, tokensIn, lettersIn, wordPart, stored, netIn, lineHere}
 
 -- "digits 0-9 and A-F"
 abbrev pub Digit : ℕ → Type 0
@@ -40,6 +41,10 @@ pub record CountsInRange (d : List ℕ) : Type 0 where
 pub record TokensAllowed (s : Reading) (d : List ℕ) (x : Rooms) : Type 0 where
   pub fine : kindOf d ≡ 3 → Fine (x .caps) (tokensIn s d)
 
+-- 17 unless, on the line of the last transition, each place and transition of the net read with it has an arc
+pub record NetWired (s : Reading) (d : List ℕ) (x : Rooms) : Type 0 where
+  pub wired : kindOf d ≡ 4 → s .next + 1 ≡ s .transitions → Wired (netIn s (stored s d x))
+
 -- 4 unless the word with its letters is not too long: "4 falls on the line of letter 65,536"
 pub record WordNotOver (s : Reading) (d : List ℕ) : Type 0 where
   pub few : kindOf d ≡ 5 → s .letters + lettersIn d ≤ wordLimit
@@ -54,15 +59,17 @@ pub record Taken (s : Reading) (d : List ℕ) (x : Rooms) : Type 0 where
   pub formed : Formed s d
   pub counts : CountsInRange d
   pub tokens : TokensAllowed s d x
+  pub net : NetWired s d x
   pub word : WordNotOver s d
   pub letters : LettersNamed s d
 
--- n and at are the refusal of a line, and its line: "on it 11 and 12 come first", then 1, 3, 4 and 5 "in number order"
+-- n and at are the refusal of a line, and its line: "on it 11 and 12 come first", then 1, 3, 4 and 5 "in number order", 17 "after 3 and before 4"
 abbrev pub Judged : Reading → List ℕ → Rooms → ℕ → ℕ → Type 0
 Judged s d x n at =
     First (Ruled d) (Given 11 (lineHere s) n at)
     (First (Formed s d) (Given 12 (lineHere s) n at)
     (First (CountsInRange d) (Given 1 (lineHere s) n at)
     (First (TokensAllowed s d x) (Given 3 (lineHere s) n at)
+    (First (NetWired s d x) (Given 17 (lineHere s) n at)
     (First (WordNotOver s d) (Given 4 (lineHere s) n at)
-    (First (LettersNamed s d) (Given 5 (lineHere s) n at) ⊥)))))
+    (First (LettersNamed s d) (Given 5 (lineHere s) n at) ⊥))))))

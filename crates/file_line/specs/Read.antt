@@ -2,10 +2,12 @@
 use Prim.Native.Nat.{ℕ, _+_, _-_, _*_, _/_, _%_}
 use mathlib.Core.Bool.{Bool, false, cond, not, _&&_, _||_}
 use mathlib.Core.List.{List}
-use lib.ListN.{length}
+use lib.ListN.{length, take}
 use lib.Seq.{sets}
 use lib.Dec.{ltb, leb, eqb}
 use Rattle.ground.specs.Limits.{countLimit, wordLimit}
+use Rattle.net.specs.Net.{Net, netOf}
+use Rattle.wiring.specs.Wired.{lowestLoosePlace, lowestLooseTransition}
 use Rattle.refusals.specs.Given.{refuse, orElse, outside, badToken, badLetter}
 use Rattle.refusals.specs.declared.Fault.{Fault}
 use Rattle.refusals.specs.declared.Fault.the-variants.{Sound, Faulty}
@@ -55,6 +57,24 @@ lettersIn d = length d / 2 - 1
 abbrev pub wordPart : List ℕ → List ℕ
 wordPart d = bytesFrom d 1 (lettersIn d)
 
+-- the rooms with the numbers of a line of kind k that is well formed
+unfoldable pub storedKind : ℕ → Reading → List ℕ → Rooms → Rooms
+storedKind k s d x =
+    cond (eqb k 2) (rooms (sets (x .caps) 0 (wordsFrom d 1 (s .places))) (x .initial) (x .pre) (x .post) (x .word))
+    (cond (eqb k 3) (rooms (x .caps) (sets (x .initial) 0 (wordsFrom d 1 (s .places))) (x .pre) (x .post) (x .word))
+    (cond (eqb k 4)
+    (rooms (x .caps) (x .initial) (sets (x .pre) (s .next * s .places) (bytesFrom d 2 (s .places)))
+    (sets (x .post) (s .next * s .places) (bytesFrom d (2 + s .places) (s .places))) (x .word))
+    (cond (eqb k 5) (rooms (x .caps) (x .initial) (x .pre) (x .post) (sets (x .word) (s .letters) (bytesFrom d 1 (lettersIn d)))) x)))
+
+abbrev pub stored : Reading → List ℕ → Rooms → Rooms
+stored s d x = storedKind (kindOf d) s d x
+
+-- what the rooms y hold at their fronts, by the counts of the state s: a net
+abbrev pub netIn : Reading → Rooms → Net
+netIn s y =
+    netOf (s .places) (s .transitions) (take (s .transitions * s .places) (y .pre)) (take (s .transitions * s .places) (y .post)) (take (s .places) (y .caps))
+
 -- 11 unless: "One frame a line: an even number, 2 to 260, of digits 0-9 and A-F"
 unfoldable pub ruleOf : List ℕ → Bool
 ruleOf d = cond (ltb (length d) 2) false (cond (ltb lineLimit (length d)) false (cond (eqb (length d % 2) 1) false (allDigits d)))
@@ -82,6 +102,13 @@ countsBad d = eqb (kindOf d) 1 && (outside (byteAt d 1) || outside (byteAt d 2))
 abbrev pub tokensBad : Reading → List ℕ → Rooms → Bool
 tokensBad s d x = eqb (kindOf d) 3 && ltb (badToken (x .caps) (tokensIn s d)) (length (tokensIn s d))
 
+-- 17: "a net in which some place or transition has no arc is refused", "in a file, on the line of the last transition", whose row y has too
+unfoldable pub hangsLoose : Net → Bool
+hangsLoose net = ltb (lowestLoosePlace net) (net .places) || ltb (lowestLooseTransition net) (net .transitions)
+
+abbrev pub looseBad : Reading → List ℕ → Rooms → Bool
+looseBad s d y = eqb (kindOf d) 4 && (eqb (s .next + 1) (s .transitions) && hangsLoose (netIn s y))
+
 -- 4: "a word over 65,535 letters"; "4 falls on the line of letter 65,536"
 abbrev pub wordOver : Reading → List ℕ → Bool
 wordOver s d = eqb (kindOf d) 5 && ltb wordLimit (s .letters + lettersIn d)
@@ -94,15 +121,16 @@ lettersBad s d = eqb (kindOf d) 5 && ltb (badLetter (s .transitions) (wordPart d
 abbrev pub lineHere : Reading → ℕ
 lineHere s = s .line + 1
 
--- the refusal of the line d, or none: "on it 11 and 12 come first", then 1, 3, 4 and 5 "in number order"; position the line
+-- the refusal of the line d, or none: "on it 11 and 12 come first", then 1, 3, 4 and 5 "in number order", 17 "after 3 and before 4"; position the line
 unfoldable pub judgeOf : Reading → List ℕ → Rooms → Fault
 judgeOf s d x =
     orElse (refuse (not (ruleOf d)) 11 (lineHere s))
     (orElse (refuse (not (formedOf s d)) 12 (lineHere s))
     (orElse (refuse (countsBad d) 1 (lineHere s))
     (orElse (refuse (tokensBad s d x) 3 (lineHere s))
+    (orElse (refuse (looseBad s d (stored s d x)) 17 (lineHere s))
     (orElse (refuse (wordOver s d) 4 (lineHere s))
-    (refuse (lettersBad s d) 5 (lineHere s))))))
+    (refuse (lettersBad s d) 5 (lineHere s)))))))
 
 -- the state after a line of kind k that is not refused
 unfoldable pub advancedKind : ℕ → Reading → List ℕ → Reading
@@ -125,27 +153,15 @@ advancedKind k s d =
 abbrev pub advanced : Reading → List ℕ → Reading
 advanced s d = advancedKind (kindOf d) s d
 
--- the rooms after it
-unfoldable pub storedKind : ℕ → Reading → List ℕ → Rooms → Rooms
-storedKind k s d x =
-    cond (eqb k 2) (rooms (sets (x .caps) 0 (wordsFrom d 1 (s .places))) (x .initial) (x .pre) (x .post) (x .word))
-    (cond (eqb k 3) (rooms (x .caps) (sets (x .initial) 0 (wordsFrom d 1 (s .places))) (x .pre) (x .post) (x .word))
-    (cond (eqb k 4)
-    (rooms (x .caps) (x .initial) (sets (x .pre) (s .next * s .places) (bytesFrom d 2 (s .places)))
-    (sets (x .post) (s .next * s .places) (bytesFrom d (2 + s .places) (s .places))) (x .word))
-    (cond (eqb k 5) (rooms (x .caps) (x .initial) (x .pre) (x .post) (sets (x .word) (s .letters) (bytesFrom d 1 (lettersIn d)))) x)))
-
-abbrev pub stored : Reading → List ℕ → Rooms → Rooms
-stored s d x = storedKind (kindOf d) s d x
-
--- what a line comes to, by its fault: the next state and the rooms after it, or the refusal with its line, which leaves the rooms as found
+-- what a line comes to, by its fault: the next state and the rooms after it, or the refusal with its line, which leaves the rooms as found;
+-- but 17 is found in the rooms when they hold the last row
 abbrev pub tookBy : Fault → Reading → Took
 tookBy Sound t = Next t
 tookBy (Faulty n at) t = Refused n at
 
 abbrev pub keptBy : Fault → Rooms → Rooms → Rooms
 keptBy Sound y x = y
-keptBy (Faulty n at) y x = x
+keptBy (Faulty n at) y x = cond (eqb n 17) y x
 
 unfoldable pub lineOf : Reading → List ℕ → Rooms → Took
 lineOf s d x = tookBy (judgeOf s d x) (advanced s d)

@@ -1,16 +1,18 @@
 -- Only for the code's walk, no answer is made of it: what holds of every state and room on the way, and of a line before it is stored.
 use Prim.Native.Nat.{ℕ, zero, suc, _+_, _*_, _≤_, _<_}
 use mathlib.Core.Path.{_≡_}
-use mathlib.Core.Bool.{Bool, true, false, cond}
+use mathlib.Core.Bool.{Bool, true, false, cond, not}
 use mathlib.Core.List.{List}
 use lib.ListN.{length}
 use lib.Dec.{leb}
 use Rattle.ground.specs.Limits.{countLimit, wordLimit}
+use Rattle.refusals.specs.Given.{refuse, orElse}
+use Rattle.refusals.specs.declared.Fault.{Fault}
 use Rattle.file_digits.specs.Frame.{block, byteAt}
 use Rattle.file_line.specs.declared.Reading.{Reading}
 use Rattle.file_line.specs.declared.Took.{Took}
 use Rattle.file_line.specs.declared.Took.the-variants.{Next, Refused}
-use Rattle.file_line.specs.Read.{cellLimit, Rooms, kindOf, expected, lettersIn}
+use Rattle.file_line.specs.Read.{cellLimit, Rooms, kindOf, expected, lettersIn, ruleOf, formedOf, countsBad, tokensBad, wordOver, lettersBad, lineHere}
 
 -- what holds of every state of a reading
 pub record Good (s : Reading) : Type 0 where
@@ -35,10 +37,26 @@ pub record Large (x : Rooms) : Type 0 where
   pub post : cellLimit ≤ length (x .post)
   pub word : wordLimit ≤ length (x .word)
 
+-- those of them that hold a net are
+pub record Tables (c a b : List ℕ) : Type 0 where
+  pub caps : countLimit ≤ length c
+  pub pre : cellLimit ≤ length a
+  pub post : cellLimit ≤ length b
+
 -- n letters from byte j on name transitions: the pass over a line's digits; `letters-pass` says that it is `badLetter` of refusals
 unfoldable pub fitLetters : List ℕ → ℕ → ℕ → ℕ → Bool
 fitLetters d j zero t = true
 fitLetters d j (suc n) t = cond (leb t (byteAt d j)) false (fitLetters d (j + 1) n t)
+
+-- what a line is asked before its numbers are stored: all but 17, which is asked of the rooms that hold them (`judge-split` puts them together)
+unfoldable pub askedOf : Reading → List ℕ → Rooms → Fault
+askedOf s d x =
+    orElse (refuse (not (ruleOf d)) 11 (lineHere s))
+    (orElse (refuse (not (formedOf s d)) 12 (lineHere s))
+    (orElse (refuse (countsBad d) 1 (lineHere s))
+    (orElse (refuse (tokensBad s d x) 3 (lineHere s))
+    (orElse (refuse (wordOver s d) 4 (lineHere s))
+    (refuse (lettersBad s d) 5 (lineHere s))))))
 
 -- what a line that is taken has, by its kind (`accepted` has it from document 01's demands)
 pub record Accepted (s : Reading) (d : List ℕ) : Type 0 where

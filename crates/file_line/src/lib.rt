@@ -13,10 +13,11 @@ ghost use Prim.Native.Nat.{_+_, _*_, _%_, _<_, _≤_};
 ghost use lib.ListN.{length};
 ghost use lib.Seq.{sets};
 ghost use Rattle.ground.specs.Limits.{countLimit, wordLimit};
+ghost use Rattle.net.specs.Net.{netOf, Sized};
 ghost use Rattle.refusals.specs.Given.{refuse, orElse, outside, badToken, badLetter};
 ghost use Rattle.file_digits.specs.Frame.{block, byteAt, bytesFrom, wordsFrom};
-ghost use Rattle.file_line.specs.Read.{cellLimit, rooms, fresh, phaseAfter, tokensIn, lettersIn, wordPart, ruleOf, formedOf, judgeOf, stored, advanced, lineOf, roomsOf};
-ghost use Rattle.file_line.specs.Walk.{Good, Large, fitLetters, Accepted, GoodTook};
+ghost use Rattle.file_line.specs.Read.{cellLimit, rooms, fresh, phaseAfter, tokensIn, lettersIn, wordPart, ruleOf, formedOf, hangsLoose, looseBad, lineHere, stored, advanced, tookBy, lineOf, roomsOf};
+ghost use Rattle.file_line.specs.Walk.{Good, Large, Tables, fitLetters, askedOf, Accepted, GoodTook};
 
 // The most entries of Pre, and of Post.
 pub const CELL_LIMIT: usize = COUNT_LIMIT * COUNT_LIMIT;
@@ -213,10 +214,10 @@ fn letters_fault(s: Reading, d: &[u8], here: usize) -> Fault
     }
 }
 
-// The refusal of a line, or none. Of the rooms read so far only the capacities are looked at.
+// The refusal of a line before it is stored, or none. Of the rooms read so far only the capacities are looked at.
 fn judge(s: Reading, d: &[u8], caps: &[u16]) -> Fault
     requires { ⌜ (Good s) × (countLimit ≤ length (now caps)) ⌝ }
-    ensures { λ r. ⌜ r ≡ judgeOf s (now (d .entry)) (rooms (now (caps .entry)) [] [] [] []) ⌝ }
+    ensures { λ r. ⌜ r ≡ askedOf s (now (d .entry)) (rooms (now (caps .entry)) [] [] [] []) ⌝ }
 {
     let here = s.line + 1;
     if !rule(d) {
@@ -338,7 +339,66 @@ fn advance(s: Reading, d: &[u8]) -> Reading
     }
 }
 
-// One line: the next state, or a refusal, which leaves the rooms as found.
+// Whether some place or transition of a net has no arc.
+fn is_loose(
+    places: usize,
+    transitions: usize,
+    pre: &[Weight],
+    post: &[Weight],
+    caps: &[u16],
+) -> bool
+    requires { ⌜ Sized (netOf places transitions (now pre) (now post) (now caps)) ⌝ }
+    ensures { λ r. ⌜ r ≡ hangsLoose (netOf places transitions (now (pre .entry)) (now (post .entry)) (now (caps .entry))) ⌝ }
+{
+    if wiring::loose_place(places, transitions, pre, post, caps) < places {
+        return true;
+    }
+    wiring::loose_transition(places, transitions, pre, post, caps) < transitions
+}
+
+// Whether a line of this kind is that of the last transition, by which the whole net has been read.
+fn is_last_row(kind: u8, next: usize, transitions: usize) -> bool
+    requires { ⌜ next ≤ countLimit ⌝ }
+    ensures { λ r. ⌜ r ≡ (eqb kind 4 && eqb (next + 1) transitions) ⌝ }
+{
+    if kind != 4 {
+        return false;
+    }
+    next + 1 == transitions
+}
+
+// Whether a line that is stored is refused: the net that the rooms hold now is asked on the line of the last transition.
+fn is_net_loose(s: Reading, d: &[u8], caps: &[u16], pre: &[Weight], post: &[Weight]) -> bool
+    requires { ⌜ (Good s) × (Accepted s (now d)) × (Tables (now caps) (now pre) (now post)) ⌝ }
+    ensures { λ r. ⌜ r ≡ looseBad s (now (d .entry)) (rooms (now (caps .entry)) [] (now (pre .entry)) (now (post .entry)) []) ⌝ }
+{
+    let kind = file_digits::byte_at(d, 0);
+    let t = s.transitions;
+    if !is_last_row(kind, s.next, t) {
+        return false;
+    }
+    let p = s.places;
+    let cells = t * p;
+    is_loose(p, t, &pre[..cells], &post[..cells], &caps[..p])
+}
+
+// What a line comes to that is stored: the next state, or 17. It is asked of the rooms themselves, which are the reader's own.
+fn take_line(s: Reading, d: &[u8], caps: &[u16], pre: &[Weight], post: &[Weight]) -> Took
+    requires { ⌜ (Good s) × (Accepted s (now d)) × (Tables (now caps) (now pre) (now post)) ⌝ }
+    ensures value { λ r. ⌜ r ≡ tookBy (refuse (looseBad s (now (d .entry)) (rooms (now (caps .entry)) [] (now (pre .entry)) (now (post .entry)) [])) 17 (lineHere s)) (advanced s (now (d .entry))) ⌝ }
+    ensures good { λ r. ⌜ GoodTook r ⌝ }
+{
+    if is_net_loose(s, d, caps, pre, post) {
+        let last = s.line + 1;
+        return Took::Refused {
+            number: 17,
+            line: last,
+        };
+    }
+    Took::Next(advance(s, d))
+}
+
+// One line: the next state, or a refusal, which leaves the rooms as found unless it is 17.
 pub fn read_line(
     s: Reading,
     d: &[u8],
@@ -362,7 +422,7 @@ pub fn read_line(
         },
         Fault::Sound => {
             store(s, d, caps, initial, pre, post, word);
-            Took::Next(advance(s, d))
+            take_line(s, d, caps, pre, post)
         }
     }
 }

@@ -155,17 +155,17 @@ line-next s t d x e = go (judgeOf s d x) refl
     go Sound j = meaning.taken-exactly s d x .0 j .ruled .most
     go (Faulty n at) j = let l = meaning.refused-line s d x n at j .0 in let q : _≡_ {A = ℕ} 0 1 = cc in absurd (omega arith)
 
-line-refused : (s : Reading) (d : List ℕ) (x : Rooms) (n l : ℕ) → took.Refused n l ≡ lineOf s d x → (judgeOf s d x ≡ Faulty n l) × (roomsOf s d x ≡ x)
+line-refused : (s : Reading) (d : List ℕ) (x : Rooms) (n l : ℕ) → took.Refused n l ≡ lineOf s d x → (judgeOf s d x ≡ Faulty n l) × (roomsOf s d x ≡ cond (eqb n 17) (stored s d x) x)
 line-refused s d x n l e = go (judgeOf s d x) refl
   where
-    go : (f : Fault) → judgeOf s d x ≡ f → (judgeOf s d x ≡ Faulty n l) × (roomsOf s d x ≡ x)
+    go : (f : Fault) → judgeOf s d x ≡ f → (judgeOf s d x ≡ Faulty n l) × (roomsOf s d x ≡ cond (eqb n 17) (stored s d x) x)
     go Sound j = let l = meaning.taken-line s d x j .0 in let q : _≡_ {A = ℕ} 0 1 = cc in absurd (omega arith)
     go (Faulty k at) j =
         let i = meaning.refused-line s d x k at j in
         let z = i .0 in
         let p : k ≡ n = cc in
         let q : at ≡ l = cc in
-        (j ∙ rw (p, q), i .1)
+        (j ∙ rw (p, q), rw p at (i .1))
 
 -- a whole line, read at once, comes to what its bytes and its line feed come to
 module _ (s : Reading) (x : Rooms) (d rest : List ℕ) (t : NoFeed d) where

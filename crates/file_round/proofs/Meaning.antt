@@ -25,10 +25,10 @@ use Rattle.file_round.specs.Fronts.{Bytes, frontNet, frontMarking, front
 -- what is written is within the limits, its numbers being of their types
 limited-of : (net : Net) (initial w : List ℕ) → Writable net initial w → Bytes net → Limited net initial w
 limited-of net initial w a b =
-    record { sized = a .sized; weights = b .weights; capacities = b .capacities; marked = a .marked; fine = a .fine; short = a .short; letters = a .letters }
+    record { sized = a .sized; weights = b .weights; capacities = b .capacities; marked = a .marked; fine = a .fine; wired = a .wired; short = a .short; letters = a .letters }
 
 of-limited : (net : Net) (initial w : List ℕ) → Limited net initial w → Writable net initial w
-of-limited net initial w m = record { sized = m .sized; marked = m .marked; fine = m .fine; short = m .short; letters = m .letters }
+of-limited net initial w m = record { sized = m .sized; marked = m .marked; fine = m .fine; wired = m .wired; short = m .short; letters = m .letters }
 
 -- "reading what was written gives the same net and word": the first n bytes of the room, into rooms of the largest sizes
 module _ (net : Net) (initial w room : List ℕ) (n : ℕ) (room′ : List ℕ) (written : CaseWritten net initial w room (Written n) room′) (bytes : Bytes net)

@@ -11,7 +11,7 @@ use Rattle.refusals.specs.declared.Fault.{Fault}
 use Rattle.refusals.specs.declared.Fault.the-variants.{Sound, Faulty}
 use Rattle.file_digits.specs.Frame.{lineLimit, lineFeed, byteAt, bytesFrom, wordsFrom}
 use Rattle.file_line.specs.declared.Reading.{Reading}
-use Rattle.file_line.specs.Read.{fresh, Rooms, lineOf, roomsOf, judgeOf, advancedKind, storedKind, lettersIn}
+use Rattle.file_line.specs.Read.{fresh, Rooms, lineOf, roomsOf, judgeOf, advancedKind, stored, storedKind, lettersIn}
 use Rattle.file_line.specs.Walk.{Good}
 use Rattle.file_line.proofs.Meaning.{judged-number, taken-line, refused-line}
 use Rattle.file_line.proofs.Accept.{accepted, good-advanced}
@@ -62,6 +62,11 @@ stored-same s d x k =
     go false false false true t u v w p q r m = m
     go false false false false t u v w p q r m = same-own x
 
+-- so does what a refused line leaves
+kept-same : (s : Reading) (d : List ℕ) (y : Rooms) (b : Bool) → Same (cond b (stored s d y) y) y
+kept-same s d y true = stored-same s d y (byteAt d 0)
+kept-same s d y false = same-own y
+
 -- a line
 line-fed : (s : Reading) (d : List ℕ) (y : Rooms) → Good s → Fed y (s .line + 1) (both (ended (lineOf s d y)) (roomsOf s d y))
 line-fed s d y g = go (judgeOf s d y) refl
@@ -73,7 +78,7 @@ line-fed s d y g = go (judgeOf s d y) refl
     go (Faulty n at) j =
         let l = refused-line s d y n at j in
         let z = judged-number s d y n at j .2 in
-        rw (l .0, l .1) (record { same = same-own y; counted = (omega (arith, z), omega (arith, z)) })
+        rw (l .0, l .1) (record { same = kept-same s d y (eqb n 17); counted = (omega (arith, z), omega (arith, z)) })
 
 -- a byte
 fed-run : (k : ℕ) (r : Run) (y : Rooms) → LinesCounted k r → (b : ℕ) → Fed y (k + cond (eqb b lineFeed) 1 0) (fedTo r y b)

@@ -1,23 +1,11 @@
--- A list stored at the front of a room, and that a net fits its rooms. Assumes nothing.
+-- A list stored at the front of a room. Assumes nothing.
 use mathlib.Core.Path.{_≡_, sym, _∙_, ap}
 use mathlib.Core.List.{List}
-use Prim.Native.Nat.{ℕ, _+_, _*_, _≤_, _<_}
+use Prim.Native.Nat.{ℕ, _+_, _≤_, _<_}
 use native.Mathlib.Omega.{arith}
-use native.Mathlib.Nat.{mul-le-mul}
 use lib.ListN.{length, take, drop, getD, List·getD-append}
-use lib.Seq.{sets, sets-eq, drop-at, length-take-le}
-use Rattle.file_line.specs.declared.Reading.{Reading}
-use Rattle.file_line.specs.Read.{cellLimit}
-use Rattle.file_line.specs.Walk.{Good}
+use lib.Seq.{sets, sets-eq, drop-at}
 use Rattle.file_parts.proofs.Buffer.{front}
-
--- the entries of Pre, and of Post, are inside their rooms
-pub cells-few : (s : Reading) → Good s → s .transitions * s .places ≤ cellLimit
-cells-few s g = mul-le-mul (g .transitions) (g .places)
-
--- the front of a list is as long as it says
-pub front-long : (n : ℕ) (list : List ℕ) → n ≤ length list → n ≡ length (take n list)
-front-long n list h = sym (length-take-le n list h)
 
 module _ (vs l : List ℕ) where
   pub getD-sets : (k : ℕ) → length vs ≤ length l → k < length vs → getD (sets l 0 vs) k 0 ≡ getD vs k 0

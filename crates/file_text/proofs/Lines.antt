@@ -1,5 +1,5 @@
 -- A line of each kind: the frame that it must be, and that the frame is taken. Assumes nothing.
-use mathlib.Core.Path.{_≡_, refl, sym, _∙_, ap}
+use mathlib.Core.Path.{_≡_, refl, sym, _∙_, ap, subst}
 use mathlib.Core.Bool.{true, cond}
 use mathlib.Core.List.{List, [], _∷_, _++_, append-nil}
 use Prim.Native.Nat.{ℕ, suc, _+_, _*_, _%_, _≤_}
@@ -12,13 +12,14 @@ use Rattle.file_digits.specs.Frame.{lineLimit, lineFeed, block, byteAt, bytesFr
 use Rattle.file_put.specs.Put.{digitsOf, lineText, twos}
 use Rattle.file_put.proofs.Round.{canon, digits-long, byte-digits, piece}
 use Rattle.file_line.specs.declared.Reading.{Reading}
+use Rattle.wiring.specs.Wired.{Wired}
 use Rattle.refusals.specs.Given.{Fine}
-use Rattle.refusals.specs.declared.Fault.the-variants.{Sound}
-use Rattle.file_line.specs.Read.{Rooms, rooms, tokensIn, wordPart, ruleOf, judgeOf, lettersIn, advanced, advancedKind, stored, storedKind}
-use Rattle.file_line.specs.Line.{Formed, frame01, frame02, frame03, frame04, frame05, CountsInRange, TokensAllowed, WordNotOver, LettersNamed, Taken}
+use Rattle.refusals.specs.declared.Fault.the-variants.{Sound, Faulty}
+use Rattle.file_line.specs.Read.{Rooms, rooms, tokensIn, wordPart, ruleOf, judgeOf, lettersIn, advanced, advancedKind, stored, storedKind, netIn, lineHere}
+use Rattle.file_line.specs.Line.{Formed, frame01, frame02, frame03, frame04, frame05, CountsInRange, TokensAllowed, NetWired, WordNotOver, LettersNamed, Taken}
 use Rattle.file_line.proofs.Digits.{rule-all, rule-exactly}
-use Rattle.file_line.proofs.Order.{no-counts, no-tokens, no-long, no-letters, formed-kind, formed-01, formed-02, formed-03, formed-04, formed-05}
-use Rattle.file_line.proofs.Meaning.{taken-exactly}
+use Rattle.file_line.proofs.Order.{no-counts, no-tokens, no-net, no-long, no-letters, formed-kind, formed-01, formed-02, formed-03, formed-04, formed-05}
+use Rattle.file_line.proofs.Meaning.{taken-exactly, wired-exactly}
 use Rattle.file_parts.specs.File.{both, going, feedAll}
 use Rattle.file_parts.proofs.Line.{line-taken, held}
 use Rattle.file_digits.proofs.Bytes.{Below, none, more, below-of, of-below, below-more, below-append, bytes-long, bytes-split}
@@ -47,18 +48,22 @@ fed s y f t z k =
     ∙ ap (both (going (advanced s (digitsOf f)) [])) (k .kept)
     ∙ ap (λ (u : Reading). both (going u []) z) (k .next)
 
+-- the rooms y with the rows a and b of the next transition
+abbrev pub rowsOf : Reading → Rooms → List ℕ → List ℕ → Rooms
+rowsOf s y a b = rooms (y .caps) (y .initial) (sets (y .pre) (s .next * s .places) a) (sets (y .post) (s .next * s .places) b) (y .word)
+
 -- the frame of each kind is taken
 module _ (s : Reading) (y : Rooms) where
   takes : (k : ℕ) (g : List ℕ) (t : Reading) (z : Rooms) → Below 256 (k ∷ g) → 2 + 2 * length g ≤ lineLimit
       → (byteAt (digitsOf (k ∷ g)) 0 ≡ k
-      → Formed s (digitsOf (k ∷ g)) × CountsInRange (digitsOf (k ∷ g)) × TokensAllowed s (digitsOf (k ∷ g)) y × WordNotOver s (digitsOf (k ∷ g)) × LettersNamed s (digitsOf (k ∷ g)))
+      → Formed s (digitsOf (k ∷ g)) × CountsInRange (digitsOf (k ∷ g)) × TokensAllowed s (digitsOf (k ∷ g)) y × NetWired s (digitsOf (k ∷ g)) y × WordNotOver s (digitsOf (k ∷ g)) × LettersNamed s (digitsOf (k ∷ g)))
       → advancedKind k s (digitsOf (k ∷ g)) ≡ t → storedKind k s (digitsOf (k ∷ g)) y ≡ z → Takes s y (k ∷ g) t z
   takes k g t z w h f a b =
       let d : List ℕ = digitsOf (k ∷ g) in
       let e : byteAt d 0 ≡ k = byte-digits (k ∷ g) 0 w (omega arith) in
       let r = rule-digits (k ∷ g) w (omega arith) (omega arith) in
       let m = f e in
-      record { rule = r; judged = taken-exactly s d y .1 (record { ruled = rule-exactly d .0 r; formed = m .0; counts = m .1; tokens = m .2; word = m .3; letters = m .4 }); next = rw e a; kept = rw e b }
+      record { rule = r; judged = taken-exactly s d y .1 (record { ruled = rule-exactly d .0 r; formed = m .0; counts = m .1; tokens = m .2; net = m .3; word = m .4; letters = m .5 }); next = rw e a; kept = rw e b }
 
   pub takes-counts : (P T : ℕ) → s .phase ≡ 1 → 1 ≤ P → P ≤ countLimit → 1 ≤ T → T ≤ countLimit → Takes s y (1 ∷ P ∷ T ∷ []) (state 2 P T 0 0 (s .line + 1)) y
   unfolding advancedKind storedKind
@@ -74,6 +79,7 @@ module _ (s : Reading) (y : Rooms) where
         frame01 p q n,
         record { places = λ _. (omega arith, omega arith); transitions = λ _. (omega arith, omega arith) },
         no-tokens s d y (λ k. omega arith),
+        no-net s d y (λ k. omega arith),
         no-long s d y (λ k. omega arith),
         no-letters s d y (λ k. omega arith),
       ))
@@ -90,6 +96,7 @@ module _ (s : Reading) (y : Rooms) where
         frame02 p q n,
         no-counts s d y (λ k. omega arith),
         no-tokens s d y (λ k. omega arith),
+        no-net s d y (λ k. omega arith),
         no-long s d y (λ k. omega arith),
         no-letters s d y (λ k. omega arith),
       ))
@@ -108,35 +115,54 @@ module _ (s : Reading) (y : Rooms) where
         frame03 p q n,
         no-counts s d y (λ k. omega arith),
         record { fine = λ _. rw e v },
+        no-net s d y (λ k. omega arith),
         no-long s d y (λ k. omega arith),
         no-letters s d y (λ k. omega arith),
       ))
       refl (rw e)
 
-  pub takes-row : (a b : List ℕ) → s .phase ≡ 4 → s .places ≤ countLimit → s .next ≤ countLimit → length a ≡ s .places → length b ≡ s .places → Below 256 a → Below 256 b
-      → Takes s y (4 ∷ s .next ∷ (a ++ b)) (state (cond (eqb (s .next + 1) (s .transitions)) 5 4) (s .places) (s .transitions) (s .next + 1) 0 (s .line + 1))
-      (rooms (y .caps) (y .initial) (sets (y .pre) (s .next * s .places) a) (sets (y .post) (s .next * s .places) b) (y .word))
-  unfolding advancedKind storedKind
-  takes-row a b p h t la lb wa wb =
-      let f : List ℕ = 4 ∷ s .next ∷ (a ++ b) in
-      let d : List ℕ = digitsOf f in
-      let w : Below 256 f = more {x = 4} (omega arith) (more {x = s .next} (omega arith) (below-append a b wa wb)) in
-      let m = length-append a b in
-      let n : length d ≡ 4 + 4 * s .places = let q = digits-long f in omega arith in
-      let e : byteAt d 1 ≡ s .next = byte-digits f 1 w (omega arith) in
-      let u : bytesFrom d 2 (s .places) ≡ a = rw la at (piece (4 ∷ s .next ∷ []) a b w) in
-      let i : suc (suc (length a)) ≡ 2 + s .places = omega arith in
-      let c : Below 256 (4 ∷ s .next ∷ (a ++ (b ++ []))) = rw append-nil w in
-      let v : bytesFrom d (2 + s .places) (s .places) ≡ b = rw (append-nil, i, lb) at (piece (4 ∷ s .next ∷ a) b [] c) in
-      takes 4 (s .next ∷ (a ++ b)) _ _ w (omega arith)
-      (λ q. (
-        frame04 p q n e,
-        no-counts s d y (λ k. omega arith),
-        no-tokens s d y (λ k. omega arith),
-        no-long s d y (λ k. omega arith),
-        no-letters s d y (λ k. omega arith),
-      ))
-      refl (rw (u, v))
+  -- a frame 04 is well formed, and stores its two rows
+  module _ (a b : List ℕ) (p : s .phase ≡ 4) (h : s .places ≤ countLimit) (t : s .next ≤ countLimit) (la : length a ≡ s .places) (lb : length b ≡ s .places) (wa : Below 256 a) (wb : Below 256 b) where
+    pub row-formed : (ruleOf (digitsOf (4 ∷ s .next ∷ (a ++ b))) ≡ true) × Formed s (digitsOf (4 ∷ s .next ∷ (a ++ b))) × (byteAt (digitsOf (4 ∷ s .next ∷ (a ++ b))) 0 ≡ 4) × (stored s (digitsOf (4 ∷ s .next ∷ (a ++ b))) y ≡ rowsOf s y a b)
+    unfolding storedKind
+    row-formed =
+        let f : List ℕ = 4 ∷ s .next ∷ (a ++ b) in
+        let d : List ℕ = digitsOf f in
+        let w : Below 256 f = more {x = 4} (omega arith) (more {x = s .next} (omega arith) (below-append a b wa wb)) in
+        let m = length-append a b in
+        let n : length d ≡ 4 + 4 * s .places = let q = digits-long f in omega arith in
+        let k : byteAt d 0 ≡ 4 = byte-digits f 0 w (omega arith) in
+        let e : byteAt d 1 ≡ s .next = byte-digits f 1 w (omega arith) in
+        let u : bytesFrom d 2 (s .places) ≡ a = rw la at (piece (4 ∷ s .next ∷ []) a b w) in
+        let i : suc (suc (length a)) ≡ 2 + s .places = omega arith in
+        let c : Below 256 (4 ∷ s .next ∷ (a ++ (b ++ []))) = rw append-nil w in
+        let v : bytesFrom d (2 + s .places) (s .places) ≡ b = rw (append-nil, i, lb) at (piece (4 ∷ s .next ∷ a) b [] c) in
+        (rule-digits f w (omega arith) (omega arith), frame04 p k n e, k, rw (k, u, v))
+
+    pub takes-row : (s .next + 1 ≡ s .transitions → Wired (netIn s (rowsOf s y a b)))
+        → Takes s y (4 ∷ s .next ∷ (a ++ b)) (state (cond (eqb (s .next + 1) (s .transitions)) 5 4) (s .places) (s .transitions) (s .next + 1) 0 (s .line + 1)) (rowsOf s y a b)
+    unfolding advancedKind
+    takes-row wired =
+        let d : List ℕ = digitsOf (4 ∷ s .next ∷ (a ++ b)) in
+        let r = row-formed in
+        let k : byteAt d 0 ≡ 4 = r .2 in
+        let asked : Taken s d y = record {
+          ruled = rule-exactly d .0 (r .0);
+          formed = r .1;
+          counts = no-counts s d y (λ q. omega arith);
+          tokens = no-tokens s d y (λ q. omega arith);
+          net = record { wired = λ _ l. subst (λ (z : Rooms). Wired (netIn s z)) (sym (r .3)) (wired l) };
+          word = no-long s d y (λ q. omega arith);
+          letters = no-letters s d y (λ q. omega arith);
+        } in
+        record { rule = r .0; judged = taken-exactly s d y .1 asked; next = rw k; kept = r .3 }
+
+    -- where the net hangs loose with the last row, its line is refused
+    pub loose-row : s .next + 1 ≡ s .transitions → (Wired (netIn s (rowsOf s y a b)) → ⊥) → judgeOf s (digitsOf (4 ∷ s .next ∷ (a ++ b))) y ≡ Faulty 17 (lineHere s)
+    loose-row l loose =
+        let d : List ℕ = digitsOf (4 ∷ s .next ∷ (a ++ b)) in
+        let r = row-formed in
+        wired-exactly s d y (lineHere s) .1 (rule-exactly d .0 (r .0), r .1, r .2, l, λ w. loose (subst (λ (z : Rooms). Wired (netIn s z)) (r .3) w), refl)
 
   pub takes-letters : (v : List ℕ) → s .phase ≡ 5 → s .letters % block ≡ 0 → s .transitions ≤ countLimit → 1 ≤ length v → length v ≤ block
       → s .letters + length v ≤ wordLimit → Below (s .transitions) v
@@ -155,6 +181,7 @@ module _ (s : Reading) (y : Rooms) where
         frame05 p e q (omega arith) (omega arith),
         no-counts s d y (λ k. omega arith),
         no-tokens s d y (λ k. omega arith),
+        no-net s d y (λ k. omega arith),
         record { few = λ _. omega arith },
         record { named = λ _. rw (i, u) (record { at = λ k r. of-below (s .transitions) v k w r }) },
       ))
@@ -203,6 +230,11 @@ module _ (s : Reading) (d : List ℕ) (y : Rooms) (j : judgeOf s d y ≡ Sound) 
       let two : bytesFrom d 0 2 ++ bytesFrom d 2 (s .places + s .places) ≡ byteAt d 0 ∷ byteAt d 1 ∷ bytesFrom d 2 (s .places + s .places) = refl in
       line-of (2 + (s .places + s .places)) (f .1 ∙ omega arith)
       ∙ ap digitsOf (bytes-split d 0 2 (s .places + s .places) ∙ two ∙ rw (e, n, bytes-split d 2 (s .places) (s .places)))
+
+  pub row-wired : s .phase ≡ 4 → s .next + 1 ≡ s .transitions
+      → Wired (netIn s (rowsOf s y (bytesFrom d 2 (s .places)) (bytesFrom d (2 + s .places) (s .places))))
+  unfolding storedKind
+  row-wired p l = let e : byteAt d 0 ≡ 4 = kind-next ∙ p in rw e at (asked .net .wired e l)
 
   pub letters-of : s .phase ≡ 5
       → (s .letters % block ≡ 0) × (1 ≤ lettersIn d) × (lettersIn d ≤ block) × (s .letters + lettersIn d ≤ wordLimit)

@@ -11,42 +11,51 @@ use lib.ListN.{length, drop, replicate, length-replicate}
 use borrow.Author.Tests.{eqb-true}
 use Rattle.ground.specs.Limits.{noCapacity, weightLimit, wordLimit}
 use Rattle.file_put.specs.Put.{digitOf, digitsOf, twos}
-use Rattle.net.specs.Net.{Net, netOf}
+use Rattle.net.specs.Net.{Net, netOf, Sized, Light}
+use Rattle.net.specs.Letter.{Small}
+use Rattle.wiring.specs.Wired.{Wired}
+use Rattle.refusals.specs.Given.{Fine}
 use Rattle.refusals.specs.declared.Fault.the-variants.{Faulty}
 use Rattle.replay.specs.Entry.{Allowed}
 use Rattle.file_line.specs.declared.Reading.{Reading}
 use Rattle.file_line.specs.declared.Took.the-variants as took
-use Rattle.file_line.specs.Read.{cellLimit, Rooms, rooms, fresh, judgeOf, lineOf}
+use Rattle.file_line.specs.Read.{cellLimit, Rooms, rooms, fresh, netIn, judgeOf, lineOf}
 use Rattle.file_line.specs.Walk.{Large}
-use Rattle.file_line.proofs.Meaning.{refused-line, judged-number, one-on-01, three-on-03}
+use Rattle.file_line.proofs.Order.{formed-04}
+use Rattle.file_line.proofs.Meaning.{refused-line, judged-number, one-on-01, three-on-03, wired-exactly}
 use Rattle.file_parts.specs.declared.Case.{Case}
 use Rattle.file_parts.specs.declared.Case.the-variants.{Whole, Refused}
 use Rattle.file_parts.specs.File.{Run, going, stopped, Both, both, readOf, finishOf, caseOf}
-use Rattle.file_text.specs.Text.{joined, fileOf, Limited, Written, netIn, markingIn, wordIn, endOf, filled}
+use Rattle.file_text.specs.Text.{lettersLine, lettersLines, joined, fileOf, Limited, Written, markingIn, wordIn, endOf, filled}
 use Rattle.file_digits.proofs.Bytes.{below-of, of-below, below-most}
 use Rattle.file_text.proofs.Fronts.{front-of, rest-of}
 use Rattle.file_text.proofs.Taken.{read-taken}
-use Rattle.file_text.proofs.Stage.{Listed, Stage, start, counted, capped, rowed, lettered, staged}
-use Rattle.file_text.proofs.Whole.{whole}
+use Rattle.file_text.proofs.Stage.{Rowed, Listed, held-net, Stage, start, counted, capped, rowed, lettered, staged}
+use Rattle.file_text.proofs.Whole.{whole, loose-read}
 
 -- the limits, entry by entry and list by list
+rowed-of : (net : Net) (initial : List ℕ) → Sized net → Light net → Small noCapacity (net .caps) → length initial ≡ net .places → Fine (net .caps) initial → Rowed net (net .transitions) initial
+rowed-of net initial sized weights capacities marked fine =
+    record {
+      some-places = sized .some-places;
+      few-places = sized .few-places;
+      some-transitions = sized .some-transitions;
+      few-transitions = sized .few-transitions;
+      capped = sized .capped;
+      capacities = below-of 65536 (net .caps) (λ k h. let z = capacities .at k in omega arith);
+      marked = marked;
+      fine = fine;
+      pres = sized .pres;
+      posts = sized .posts;
+      takes = below-of 256 (net .pre) (λ k h. let z = weights .pre k in omega arith);
+      puts = below-of 256 (net .post) (λ k h. let z = weights .post k in omega arith);
+    }
+
 listed : (net : Net) (initial w : List ℕ) → Limited net initial w → Listed net initial w
 listed net initial w m =
     record {
-      rowed = record {
-        some-places = m .sized .some-places;
-        few-places = m .sized .few-places;
-        some-transitions = m .sized .some-transitions;
-        few-transitions = m .sized .few-transitions;
-        capped = m .sized .capped;
-        capacities = below-of 65536 (net .caps) (λ k h. let z = m .capacities .at k in omega arith);
-        marked = m .marked;
-        fine = m .fine;
-        pres = m .sized .pres;
-        posts = m .sized .posts;
-        takes = below-of 256 (net .pre) (λ k h. let z = m .weights .pre k in omega arith);
-        puts = below-of 256 (net .post) (λ k h. let z = m .weights .post k in omega arith);
-      };
+      rowed = rowed-of net initial (m .sized) (m .weights) (m .capacities) (m .marked) (m .fine);
+      wired = m .wired;
       short = m .short;
       letters = below-of (net .transitions) w (m .letters .at);
     }
@@ -63,6 +72,7 @@ limited net initial w l =
         posts = l .rowed .posts;
         capped = l .rowed .capped;
       };
+      wired = l .wired;
       weights = record { pre = λ k. below-most weightLimit (net .pre) k (l .rowed .takes); post = λ k. below-most weightLimit (net .post) k (l .rowed .puts) };
       capacities = record { at = λ k. below-most noCapacity (net .caps) k (l .rowed .capacities) };
       marked = l .rowed .marked;
@@ -73,7 +83,7 @@ limited net initial w l =
 
 -- what is within the limits is refused by no replay
 pub limited-allowed : (net : Net) (initial w room : List ℕ) → Limited net initial w → length room ≡ net .places → Allowed net initial w true room
-limited-allowed net initial w room m h = record { sized = m .sized; marked = m .marked; roomy = h; inside = refl; fine = m .fine; short = m .short; letters = m .letters }
+limited-allowed net initial w room m h = record { sized = m .sized; marked = m .marked; roomy = h; inside = refl; fine = m .fine; wired = m .wired; short = m .short; letters = m .letters }
 
 -- a whole file, by the state that it ends in
 whole-case : (r : Run) (s : Reading) → caseOf r ≡ Whole s → (r ≡ going s []) × (s .phase ≡ 5)
@@ -91,11 +101,7 @@ module _ (x : Rooms) (big : Large x) (net : Net) (initial w : List ℕ) (m : Lim
   cells = mul-le-mul (m .sized .few-transitions) (m .sized .few-places)
 
   pub filled-net : netIn (endOf net w) (filled x net initial w) ≡ net
-  filled-net =
-      let a = front-of (net .pre) (x .pre) (net .transitions * net .places) (m .sized .pres) (omega (arith, cells, big .pre)) in
-      let b = front-of (net .post) (x .post) (net .transitions * net .places) (m .sized .posts) (omega (arith, cells, big .post)) in
-      let c = front-of (net .caps) (x .caps) (net .places) (m .sized .capped) (omega (arith, m .sized .few-places, big .caps)) in
-      rw (a, b, c)
+  filled-net = held-net x big net (net .transitions) initial w (listed net initial w m .rowed) refl (endOf net w) refl refl
 
   pub filled-marking : markingIn (endOf net w) (filled x net initial w) ≡ initial
   filled-marking = front-of initial (x .initial) (net .places) (m .marked) (omega (arith, m .sized .few-places, big .initial))
@@ -123,6 +129,13 @@ module _ (x : Rooms) (big : Large x) (net : Net) (initial w : List ℕ) (m : Lim
   file-read =
       let e = whole x big net initial w (listed net initial w m) in
       (ap (λ (z : Both). caseOf (z .run)) e, ap (λ (z : Both). z .rooms) e)
+
+-- "refused .. in a file, on the line of the last transition": the file of a net that is within the limits but for a loose node, whatever its word is
+pub loose-refused : (x : Rooms) → Large x → (net : Net) (initial w : List ℕ) → Sized net → Light net → Small noCapacity (net .caps) → length initial ≡ net .places → Fine (net .caps) initial
+    → (Wired net → ⊥) → caseOf (readOf x (fileOf net initial w) .run) ≡ Refused 17 (3 + net .transitions)
+unfolding caseOf fileOf
+loose-refused x big net initial w sized weights capacities marked fine loose =
+    ap caseOf (loose-read x big net initial (rowed-of net initial sized weights capacities marked fine) loose (joined (lettersLine w) (lettersLines (length w))))
 
 -- the other way: an accepted file is the file of what stands in the rooms
 module _ (x : Rooms) (big : Large x) (file : List ℕ) where
@@ -178,20 +191,20 @@ module _ (x : Rooms) (big : Large x) (file : List ℕ) where
 pub one-answer : (x : Rooms) (file : List ℕ) (a b : Case) → caseOf (readOf x file .run) ≡ a → caseOf (readOf x file .run) ≡ b → a ≡ b
 one-answer x file a b p q = sym p ∙ q
 
--- where the lines before were taken, the kind that must come next tells which line it is: 1 falls on line 1, and 3 on line 3
+-- where the lines before were taken, the kind that must come next tells which line it is: 1 falls on line 1, 3 on line 3, and 17 on that of the last transition
 module _ (x : Rooms) (big : Large x) (lines : List ℕ) (s : Reading) (y : Rooms) (before : readOf x lines ≡ both (going s []) y) (d : List ℕ) where
-  lines-so-far : (s .phase ≡ 1 → s .line ≡ 0) × (s .phase ≡ 3 → s .line ≡ 2)
+  lines-so-far : (s .phase ≡ 1 → s .line ≡ 0) × (s .phase ≡ 3 → s .line ≡ 2) × (s .phase ≡ 4 → s .line ≡ 3 + s .next)
   lines-so-far = go (staged x big lines s y (read-taken x lines s y before))
     where
-      by : (t : Reading) → s ≡ t → (t .phase ≡ 1 → t .line ≡ 0) × (t .phase ≡ 3 → t .line ≡ 2) → (s .phase ≡ 1 → s .line ≡ 0) × (s .phase ≡ 3 → s .line ≡ 2)
+      by : (t : Reading) → s ≡ t → (t .phase ≡ 1 → t .line ≡ 0) × (t .phase ≡ 3 → t .line ≡ 2) × (t .phase ≡ 4 → t .line ≡ 3 + t .next) → (s .phase ≡ 1 → s .line ≡ 0) × (s .phase ≡ 3 → s .line ≡ 2) × (s .phase ≡ 4 → s .line ≡ 3 + s .next)
       by t e h = rw e h
 
-      go : Stage x s y lines → (s .phase ≡ 1 → s .line ≡ 0) × (s .phase ≡ 3 → s .line ≡ 2)
-      go (start a b f) = by _ a (λ q. refl, λ q. absurd (omega arith))
-      go (counted P T g h i j a b f) = by _ a (λ q. absurd (omega arith), λ q. absurd (omega arith))
-      go (capped P T caps g h i j k l a b f) = by _ a (λ q. absurd (omega arith), λ q. refl)
-      go (rowed net n initial r h a b f) = by _ a (λ q. absurd (omega arith), λ q. absurd (omega arith))
-      go (lettered net initial w l a b f) = by _ a (λ q. absurd (omega arith), λ q. absurd (omega arith))
+      go : Stage x s y lines → (s .phase ≡ 1 → s .line ≡ 0) × (s .phase ≡ 3 → s .line ≡ 2) × (s .phase ≡ 4 → s .line ≡ 3 + s .next)
+      go (start a b f) = by _ a (λ q. refl, λ q. absurd (omega arith), λ q. absurd (omega arith))
+      go (counted P T g h i j a b f) = by _ a (λ q. absurd (omega arith), λ q. absurd (omega arith), λ q. absurd (omega arith))
+      go (capped P T caps g h i j k l a b f) = by _ a (λ q. absurd (omega arith), λ q. refl, λ q. absurd (omega arith))
+      go (rowed net n initial r h a b f) = by _ a (λ q. absurd (omega arith), λ q. absurd (omega arith), λ q. refl)
+      go (lettered net initial w l a b f) = by _ a (λ q. absurd (omega arith), λ q. absurd (omega arith), λ q. absurd (omega arith))
 
   pub one-on-line-1 : (at : ℕ) → judgeOf s d y ≡ Faulty 1 at → lineOf s d y ≡ took.Refused 1 1
   one-on-line-1 at e =
@@ -202,6 +215,12 @@ module _ (x : Rooms) (big : Large x) (lines : List ℕ) (s : Reading) (y : Rooms
   three-on-line-3 at e =
       let l : at ≡ 3 = let z = lines-so-far .1 (three-on-03 s d y at e .0) in omega (arith, judged-number s d y 3 at e .2) in
       refused-line s d y 3 at e .0 ∙ rw l
+
+  pub seventeen-on-last-row : (at : ℕ) → judgeOf s d y ≡ Faulty 17 at → lineOf s d y ≡ took.Refused 17 (3 + s .transitions)
+  seventeen-on-last-row at e =
+      let w = wired-exactly s d y at .0 e in
+      let l : at ≡ 3 + s .transitions = let z = lines-so-far .2 (formed-04 s d (w .1) (w .2) .0) in omega (arith, w .3, w .5) in
+      refused-line s d y 17 at e .0 ∙ rw l
 
 -- rooms that are large enough, to read into
 blank : ℕ → Rooms

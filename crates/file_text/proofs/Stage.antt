@@ -1,10 +1,10 @@
 -- A reading so far: its state, its rooms and the bytes read are those of the first lines of a file. Assumes nothing.
-use mathlib.Core.Path.{_≡_, refl, sym, _∙_, ap}
+use mathlib.Core.Path.{_≡_, refl, sym, _∙_, ap, subst}
 use mathlib.Core.Bool.{Bool, true, false, cond}
 use mathlib.Core.List.{List, [], _∷_, _++_, append-assoc, append-nil}
 use Prim.Native.Nat.{ℕ, zero, suc, _+_, _*_, _≤_, _<_}
 use native.Mathlib.Omega.{arith}
-use native.Mathlib.Nat.{suc-mul}
+use native.Mathlib.Nat.{suc-mul, mul-le-mul}
 use lib.Dec.{eqb}
 use lib.ListN.{length, take, drop, length-append, length-drop}
 use lib.Seq.{sets, drop-append-le, take-append-le, drop-at, take-all}
@@ -15,17 +15,18 @@ use Rattle.file_digits.specs.Frame.{block, lineFeed, byteAt, bytesFrom, wordsFr
 use Rattle.net.specs.Net.{Net, netOf}
 use Rattle.net.specs.Letter.{row}
 use Rattle.net.proofs.Rows.{row-end}
+use Rattle.wiring.specs.Wired.{Wired}
 use Rattle.refusals.specs.Given.{Fine}
 use Rattle.file_line.specs.declared.Reading.{Reading}
 use Rattle.refusals.specs.declared.Fault.the-variants.{Sound}
-use Rattle.file_line.specs.Read.{Rooms, rooms, fresh, judgeOf, lettersIn, advanced, advancedKind, stored, storedKind}
+use Rattle.file_line.specs.Read.{cellLimit, Rooms, rooms, fresh, judgeOf, lettersIn, advanced, advancedKind, stored, storedKind, netIn}
 use Rattle.file_line.specs.Walk.{Large}
 use Rattle.file_line.proofs.Meaning.{taken-exactly}
 use Rattle.file_text.specs.Text.{countsLine, capsLine, tokensLine, rowLine, lettersLine, lettersLines, joined, fileOf, endOf, filled}
 use Rattle.file_text.specs.Refusal.{TakenLines, no-line, one-more}
 use Rattle.file_digits.proofs.Bytes.{Below, none, below-append, bytes-long, bytes-small, words-long, words-small}
-use Rattle.file_text.proofs.Fronts.{getD-sets}
-use Rattle.file_text.proofs.Lines.{state, kind-next, counts-of, caps-of, tokens-of, tokens-fine, row-of, letters-of}
+use Rattle.file_text.proofs.Fronts.{getD-sets, front-of}
+use Rattle.file_text.proofs.Lines.{state, kind-next, counts-of, caps-of, tokens-of, tokens-fine, row-of, row-wired, letters-of}
 
 -- a net with its first n rows, and a marking, within the limits
 pub record Rowed (net : Net) (n : ℕ) (initial : List ℕ) : Type 0 where
@@ -45,8 +46,21 @@ pub record Rowed (net : Net) (n : ℕ) (initial : List ℕ) : Type 0 where
 -- a whole net, a marking and a word within the limits
 pub record Listed (net : Net) (initial w : List ℕ) : Type 0 where
   pub rowed : Rowed net (net .transitions) initial
+  pub wired : Wired net
   pub short : length w ≤ wordLimit
   pub letters : Below (net .transitions) w
+
+-- a whole net stands in the rooms that it was stored in
+pub held-net : (x : Rooms) → Large x → (net : Net) (n : ℕ) (initial w : List ℕ) → Rowed net n initial → n ≡ net .transitions
+    → (s : Reading) → s .places ≡ net .places → s .transitions ≡ net .transitions → netIn s (filled x net initial w) ≡ net
+held-net x big net n initial w r m s p t =
+    let z : net .transitions * net .places ≤ cellLimit = mul-le-mul (r .few-transitions) (r .few-places) in
+    let f : length (net .pre) ≡ net .transitions * net .places = rw m at (r .pres) in
+    let g : length (net .post) ≡ net .transitions * net .places = rw m at (r .posts) in
+    let a = front-of (net .pre) (x .pre) (net .transitions * net .places) f (omega (arith, big .pre)) in
+    let b = front-of (net .post) (x .post) (net .transitions * net .places) g (omega (arith, big .post)) in
+    let c = front-of (net .caps) (x .caps) (net .places) (r .capped) (omega (arith, r .few-places, big .caps)) in
+    rw (p, t, a, b, c)
 
 -- the lines before the rows
 abbrev pub head : Net → List ℕ → List ℕ
@@ -198,7 +212,9 @@ module _ (x : Rooms) (big : Large x) (d : List ℕ) where
           let q : n + 1 ≡ net .transitions = eqb-true _ _ t in
           let m : suc n ≡ net .transitions = omega arith in
           let l : 3 + n + 1 ≡ 3 + net .transitions + 0 = omega arith in
-          lettered more initial [] (record { rowed = rw m at grown; short = omega arith; letters = none }) (rw (q, l)) kept (text ∙ ap (λ (k : ℕ). head net initial ++ joined (rowLine more) k) m ∙ sym (append-nil _))
+          let whole : netIn s (filled x more initial []) ≡ more = held-net x big more (suc n) initial [] grown m s refl refl in
+          let wired : Wired more = subst Wired (ap (netIn s) kept ∙ whole) (row-wired s d (filled x net initial []) j refl q) in
+          lettered more initial [] (record { rowed = rw m at grown; wired = wired; short = omega arith; letters = none }) (rw (q, l)) kept (text ∙ ap (λ (k : ℕ). head net initial ++ joined (rowLine more) k) m ∙ sym (append-nil _))
       go false t =
           let q : n + 1 ≡ net .transitions → ⊥ = eqb-false _ _ t in
           let m : n + 1 ≡ suc n = omega arith in
@@ -231,7 +247,7 @@ module _ (x : Rooms) (big : Large x) (d : List ℕ) where
         ∙ ap (λ (l : List ℕ). A ++ (joined (lettersLine (w ++ v)) K ++ l)) last in
         let q : length w ≡ 0 + length w = omega arith in
         let kept : sets (sets (x .word) 0 w) (length w) v ≡ sets (x .word) 0 (w ++ v) = ap (λ (i : ℕ). sets (sets (x .word) 0 w) i v) q ∙ sets-both w v (x .word) 0 in
-        lettered net initial (w ++ v) (record { rowed = l .rowed; short = omega (arith, o, c .3); letters = below-append w v (l .letters) (c .5) })
+        lettered net initial (w ++ v) (record { rowed = l .rowed; wired = l .wired; short = omega (arith, o, c .3); letters = below-append w v (l .letters) (c .5) })
         (rw e st) (rw (e, kept)) (text ∙ rw i′)
 
   step : (s : Reading) (y : Rooms) (p : List ℕ) → Stage x s y p → judgeOf s d y ≡ Sound → Stage x (advanced s d) (stored s d y) (p ++ (d ++ (lineFeed ∷ [])))

@@ -11,7 +11,7 @@ use Rattle.refusals.specs.declared.Fault.{Fault}
 use Rattle.refusals.specs.declared.Fault.the-variants.{Sound, Faulty}
 use Rattle.file_digits.specs.Frame.{lineLimit, lineFeed}
 use Rattle.file_line.specs.declared.Reading.{Reading}
-use Rattle.file_line.specs.Read.{Rooms, fresh, judgeOf, advanced, stored}
+use Rattle.file_line.specs.Read.{Rooms, fresh, judgeOf, advanced, stored, roomsOf}
 use Rattle.file_line.proofs.Meaning as line-meaning
 use Rattle.file_parts.specs.File.{going, stopped, Both, both, feedAll, readOf, lineLen, NoFeed}
 use Rattle.file_parts.specs.Held.{holdOf}
@@ -84,10 +84,10 @@ module _ (x : Rooms) (file lines : List ℕ) (s : Reading) (y : Rooms) (k : Take
   then-reads rest e =
       ap (readOf x) e ∙ all-append (both (going fresh []) x) lines rest ∙ ap (λ (z : Both). feedAll z rest) (taken-read x lines s y k)
 
-  pub fault-read : (line rest : List ℕ) (n l : ℕ) → file ≡ lines ++ (line ++ (lineFeed ∷ rest)) → NoFeed line → judgeOf s line y ≡ Faulty n l → readOf x file ≡ both (stopped n l) y
+  pub fault-read : (line rest : List ℕ) (n l : ℕ) → file ≡ lines ++ (line ++ (lineFeed ∷ rest)) → NoFeed line → judgeOf s line y ≡ Faulty n l → readOf x file ≡ both (stopped n l) (roomsOf s line y)
   fault-read line rest n l e f j =
       let r = line-meaning.refused-line s line y n l j in
-      then-reads (line ++ (lineFeed ∷ rest)) e ∙ refused-line s y line rest f n l (sym (r .0)) ∙ ap (both (stopped n l)) (r .1)
+      then-reads (line ++ (lineFeed ∷ rest)) e ∙ refused-line s y line rest f n l (sym (r .0))
 
   pub end-read : (line : List ℕ) → file ≡ lines ++ line → NoFeed line → readOf x file ≡ both (holdOf s [] line) y
   unfolding feedAll

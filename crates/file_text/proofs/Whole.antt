@@ -1,5 +1,5 @@
 -- The file of a net, its marking and a word, fed line by line. Assumes nothing.
-use mathlib.Core.Path.{_≡_, refl, sym, _∙_, ap}
+use mathlib.Core.Path.{_≡_, refl, sym, _∙_, ap, subst}
 use mathlib.Core.Bool.{true, false, cond}
 use mathlib.Core.List.{List, [], _∷_, _++_, append-assoc, append-nil}
 use Prim.Native.Nat.{ℕ, zero, suc, _+_, _*_, _≤_}
@@ -11,22 +11,27 @@ use lib.ListN.{length, take, drop, length-append, length-take, length-drop}
 use lib.Seq.{sets, length-take-le, take-add, take-all}
 use borrow.Author.Tests.{eq-eqb, ne-eqb}
 use Rattle.ground.proofs.Stores.{sets-both}
-use Rattle.file_digits.specs.Frame.{block}
-use Rattle.file_put.specs.Put.{twos}
+use Rattle.ground.specs.Limits.{countLimit}
+use Rattle.file_digits.specs.Frame.{lineFeed, block}
+use Rattle.file_put.specs.Put.{digitsOf, twos}
 use Rattle.net.specs.Net.{Net}
 use Rattle.net.specs.Letter.{row}
 use Rattle.net.proofs.Rows.{row-end, row-length}
+use Rattle.wiring.specs.Wired.{Wired}
 use Rattle.refusals.specs.Given.{Fine}
 use Rattle.file_line.specs.declared.Reading.{Reading}
-use Rattle.file_line.specs.Read.{Rooms, rooms, fresh}
+use Rattle.file_line.specs.Read.{Rooms, rooms, fresh, netIn, lineHere}
 use Rattle.file_line.specs.Walk.{Large}
-use Rattle.file_parts.specs.File.{going, Both, both, feedAll}
-use Rattle.file_parts.proofs.Line.{all-append}
+use Rattle.file_line.proofs.Digits.{rule-all}
+use Rattle.file_line.proofs.Meaning as line-meaning
+use Rattle.file_parts.specs.File.{going, stopped, Both, both, feedAll}
+use Rattle.file_parts.proofs.Line.{all-append, refused-line}
 use Rattle.file_text.specs.Text.{countsLine, capsLine, rowLine, lettersLine, lettersLines, joined, fileOf, endOf, filled}
 use Rattle.file_digits.proofs.Bytes.{below-of, below-take, below-drop}
+use Rattle.file_text.proofs.Rules.{no-feed}
 use Rattle.file_text.proofs.Fronts.{getD-sets}
-use Rattle.file_text.proofs.Lines.{state, fed, takes-counts, takes-caps, takes-tokens, takes-row, takes-letters}
-use Rattle.file_text.proofs.Stage.{Listed, head}
+use Rattle.file_text.proofs.Lines.{state, fed, takes-counts, takes-caps, takes-tokens, rowsOf, row-formed, takes-row, loose-row, takes-letters}
+use Rattle.file_text.proofs.Stage.{Rowed, Listed, held-net, head}
 
 -- the next m entries of a list, stored behind the first i
 grows : (l r : List ℕ) (i m : ℕ) → i ≤ length l → sets (sets r 0 (take i l)) i (take m (drop i l)) ≡ sets r 0 (take (i + m) l)
@@ -38,66 +43,115 @@ grows l r i m h =
 then-line : (z : Both) (p f : List ℕ) (u v : Both) → feedAll z p ≡ u → feedAll u f ≡ v → feedAll z (p ++ f) ≡ v
 then-line z p f u v a b = all-append z p f ∙ ap (λ (q : Both). feedAll q f) a ∙ b
 
-module _ (x : Rooms) (big : Large x) (net : Net) (initial w : List ℕ) (l : Listed net initial w) where
+module _ (x : Rooms) (big : Large x) (net : Net) (initial : List ℕ) (r : Rowed net (net .transitions) initial) where
   after-counts : feedAll (both (going fresh []) x) (countsLine (net .places) (net .transitions)) ≡ both (going (state 2 (net .places) (net .transitions) 0 0 1) []) x
   after-counts =
       fed fresh x (1 ∷ net .places ∷ net .transitions ∷ []) _ _
-      (takes-counts fresh x (net .places) (net .transitions) refl (l .rowed .some-places) (l .rowed .few-places) (l .rowed .some-transitions) (l .rowed .few-transitions))
+      (takes-counts fresh x (net .places) (net .transitions) refl (r .some-places) (r .few-places) (r .some-transitions) (r .few-transitions))
 
   after-caps : feedAll (both (going fresh []) x) (countsLine (net .places) (net .transitions) ++ capsLine (net .caps))
       ≡ both (going (state 3 (net .places) (net .transitions) 0 0 2) []) (rooms (sets (x .caps) 0 (net .caps)) (x .initial) (x .pre) (x .post) (x .word))
   after-caps =
       then-line _ _ _ _ _ after-counts
       (fed (state 2 (net .places) (net .transitions) 0 0 1) x (2 ∷ twos (net .caps)) _ _
-      (takes-caps (state 2 (net .places) (net .transitions) 0 0 1) x (net .caps) refl (l .rowed .few-places) (l .rowed .capped) (l .rowed .capacities)))
+      (takes-caps (state 2 (net .places) (net .transitions) 0 0 1) x (net .caps) refl (r .few-places) (r .capped) (r .capacities)))
 
   after-tokens : feedAll (both (going fresh []) x) (head net initial)
       ≡ both (going (state 4 (net .places) (net .transitions) 0 0 3) []) (rooms (sets (x .caps) 0 (net .caps)) (sets (x .initial) 0 initial) (x .pre) (x .post) (x .word))
   after-tokens =
       let y : Rooms = rooms (sets (x .caps) 0 (net .caps)) (x .initial) (x .pre) (x .post) (x .word) in
       let fine : Fine (sets (x .caps) 0 (net .caps)) initial = record {
-        few = l .rowed .fine .few;
+        few = r .fine .few;
         within = λ k b.
-            let e = getD-sets (net .caps) (x .caps) k (omega (arith, l .rowed .capped, l .rowed .few-places, big .caps)) (omega (arith, l .rowed .capped, l .rowed .marked)) in
-            rw e (l .rowed .fine .within k b);
+            let e = getD-sets (net .caps) (x .caps) k (omega (arith, r .capped, r .few-places, big .caps)) (omega (arith, r .capped, r .marked)) in
+            rw e (r .fine .within k b);
       } in
       then-line _ _ _ _ _ after-caps
       (fed (state 3 (net .places) (net .transitions) 0 0 2) y (3 ∷ twos initial) _ _
-      (takes-tokens (state 3 (net .places) (net .transitions) 0 0 2) y initial refl (l .rowed .few-places) (l .rowed .marked)
-      (below-of 65536 initial (λ k b. let z = l .rowed .fine .few .at k in omega arith)) fine))
+      (takes-tokens (state 3 (net .places) (net .transitions) 0 0 2) y initial refl (r .few-places) (r .marked)
+      (below-of 65536 initial (λ k b. let z = r .fine .few .at k in omega arith)) fine))
 
   -- the rooms after n rows
   rowsKept : ℕ → Rooms
   rowsKept n =
       rooms (sets (x .caps) 0 (net .caps)) (sets (x .initial) 0 initial) (sets (x .pre) 0 (take (n * net .places) (net .pre))) (sets (x .post) 0 (take (n * net .places) (net .post))) (x .word)
 
-  after-rows : (n : ℕ) → n ≤ net .transitions
+  -- with the last of them the net is in the rooms
+  rows-net : (n : ℕ) → n + 1 ≡ net .transitions
+      → netIn (state 4 (net .places) (net .transitions) n 0 (3 + n)) (rowsOf (state 4 (net .places) (net .transitions) n 0 (3 + n)) (rowsKept n) (row (net .places) n (net .pre)) (row (net .places) n (net .post))) ≡ net
+  unfolding rowsKept
+  rows-net n q =
+      let k : suc n ≡ net .transitions = omega arith in
+      let m : n * net .places + net .places ≡ net .transitions * net .places = sym (suc-mul n (net .places)) ∙ ap (λ (i : ℕ). i * net .places) k in
+      let u = grows (net .pre) (x .pre) (n * net .places) (net .places) (omega (arith, r .pres)) ∙ ap (λ (i : ℕ). sets (x .pre) 0 (take i (net .pre))) m ∙ ap (sets (x .pre) 0) (take-all (net .transitions * net .places) (net .pre) (omega (arith, r .pres))) in
+      let v = grows (net .post) (x .post) (n * net .places) (net .places) (omega (arith, r .posts)) ∙ ap (λ (i : ℕ). sets (x .post) 0 (take i (net .post))) m ∙ ap (sets (x .post) 0) (take-all (net .transitions * net .places) (net .post) (omega (arith, r .posts))) in
+      rw (u, v) (held-net x big net (net .transitions) initial [] r refl (state 4 (net .places) (net .transitions) n 0 (3 + n)) refl refl)
+
+  after-rows : (n : ℕ) → n ≤ net .transitions → (n ≡ net .transitions → Wired net)
       → feedAll (both (going fresh []) x) (head net initial ++ joined (rowLine net) n)
       ≡ both (going (state (cond (eqb n (net .transitions)) 5 4) (net .places) (net .transitions) n 0 (3 + n)) []) (rowsKept n)
   unfolding joined rowsKept
-  after-rows zero h =
-      let e : eqb 0 (net .transitions) ≡ false = ne-eqb 0 (net .transitions) (λ q. omega (arith, l .rowed .some-transitions)) in
+  after-rows zero h wired =
+      let e : eqb 0 (net .transitions) ≡ false = ne-eqb 0 (net .transitions) (λ q. omega (arith, r .some-transitions)) in
       ap (feedAll (both (going fresh []) x)) (append-nil (head net initial)) ∙ after-tokens ∙ rw (e, zero-mul)
-  after-rows (suc n) h =
+  after-rows (suc n) h wired =
       let s : Reading = state 4 (net .places) (net .transitions) n 0 (3 + n) in
       let a : List ℕ = row (net .places) n (net .pre) in
       let b : List ℕ = row (net .places) n (net .post) in
       let e : eqb n (net .transitions) ≡ false = ne-eqb n (net .transitions) (λ q. omega arith) in
       let f : n * net .places + net .places ≤ net .transitions * net .places = row-end n (net .transitions) (net .places) h in
-      let before : feedAll (both (going fresh []) x) (head net initial ++ joined (rowLine net) n) ≡ both (going s []) (rowsKept n) = after-rows n (omega arith) ∙ rw e in
+      let before : feedAll (both (going fresh []) x) (head net initial ++ joined (rowLine net) n) ≡ both (going s []) (rowsKept n) = after-rows n (omega arith) (λ q. absurd (omega arith)) ∙ rw e in
       let m : suc n * net .places ≡ n * net .places + net .places = suc-mul n (net .places) in
       let t : 3 + n + 1 ≡ 3 + suc n = omega arith in
-      let u = grows (net .pre) (x .pre) (n * net .places) (net .places) (omega (arith, l .rowed .pres)) in
-      let v = grows (net .post) (x .post) (n * net .places) (net .places) (omega (arith, l .rowed .posts)) in
+      let u = grows (net .pre) (x .pre) (n * net .places) (net .places) (omega (arith, r .pres)) in
+      let v = grows (net .post) (x .post) (n * net .places) (net .places) (omega (arith, r .posts)) in
       ap (feedAll (both (going fresh []) x)) (sym (append-assoc (head net initial) (joined (rowLine net) n) (rowLine net n)))
       ∙ then-line _ _ _ _ _ before
       (fed s (rowsKept n) (4 ∷ n ∷ (a ++ b)) _ _
-      (takes-row s (rowsKept n) a b refl (l .rowed .few-places) (omega (arith, l .rowed .few-transitions))
-      (row-length (net .places) n (net .pre) (omega (arith, l .rowed .pres))) (row-length (net .places) n (net .post) (omega (arith, l .rowed .posts)))
-      (below-take (net .places) (drop (n * net .places) (net .pre)) (below-drop (n * net .places) (net .pre) (l .rowed .takes)))
-      (below-take (net .places) (drop (n * net .places) (net .post)) (below-drop (n * net .places) (net .post) (l .rowed .puts)))))
+      (takes-row s (rowsKept n) a b refl (r .few-places) (omega (arith, r .few-transitions))
+      (row-length (net .places) n (net .pre) (omega (arith, r .pres))) (row-length (net .places) n (net .post) (omega (arith, r .posts)))
+      (below-take (net .places) (drop (n * net .places) (net .pre)) (below-drop (n * net .places) (net .pre) (r .takes)))
+      (below-take (net .places) (drop (n * net .places) (net .post)) (below-drop (n * net .places) (net .post) (r .puts)))
+      (λ q. subst Wired (sym (rows-net n q)) (wired (omega arith)))))
       ∙ rw (u, v, m, t, add-one)
 
+  last-row : (n : ℕ) → suc n ≡ net .transitions → (Wired net → ⊥) → (rest : List ℕ) → feedAll (both (going fresh []) x) (head net initial ++ joined (rowLine net) (suc n) ++ rest) .run ≡ stopped 17 (3 + suc n)
+  unfolding joined
+  last-row n q loose rest =
+      let s : Reading = state 4 (net .places) (net .transitions) n 0 (3 + n) in
+      let a : List ℕ = row (net .places) n (net .pre) in
+      let b : List ℕ = row (net .places) n (net .post) in
+      let d : List ℕ = digitsOf (4 ∷ n ∷ (a ++ b)) in
+      let H : List ℕ = head net initial ++ joined (rowLine net) n in
+      let e : eqb n (net .transitions) ≡ false = ne-eqb n (net .transitions) (λ z. omega arith) in
+      let f : n * net .places + net .places ≤ net .transitions * net .places = row-end n (net .transitions) (net .places) (omega arith) in
+      let before : feedAll (both (going fresh []) x) H ≡ both (going s []) (rowsKept n) = after-rows n (omega arith) (λ z. absurd (omega arith)) ∙ rw e in
+      let few : n ≤ countLimit = omega (arith, r .few-transitions) in
+      let la = row-length (net .places) n (net .pre) (omega (arith, r .pres)) in
+      let lb = row-length (net .places) n (net .post) (omega (arith, r .posts)) in
+      let wa = below-take (net .places) (drop (n * net .places) (net .pre)) (below-drop (n * net .places) (net .pre) (r .takes)) in
+      let wb = below-take (net .places) (drop (n * net .places) (net .post)) (below-drop (n * net .places) (net .post) (r .puts)) in
+      let rule = row-formed s (rowsKept n) a b refl (r .few-places) few la lb wa wb .0 in
+      let q′ : n + 1 ≡ net .transitions = omega arith in
+      let j = loose-row s (rowsKept n) a b refl (r .few-places) few la lb wa wb q′ (λ w. loose (subst Wired (rows-net n q′) w)) in
+      let i = line-meaning.refused-line s d (rowsKept n) 17 (lineHere s) j in
+      let t : 3 + n + 1 ≡ 3 + suc n = omega arith in
+      let text : head net initial ++ (joined (rowLine net) n ++ rowLine net n) ++ rest ≡ H ++ (d ++ lineFeed ∷ rest)
+      = ap (λ (l : List ℕ). l ++ rest) (sym (append-assoc (head net initial) (joined (rowLine net) n) (rowLine net n))) ∙ append-assoc H (rowLine net n) rest ∙ ap (λ (l : List ℕ). H ++ l) (append-assoc d (lineFeed ∷ []) rest) in
+      ap (λ (z : Both). z .run)
+      (ap (feedAll (both (going fresh []) x)) text ∙ all-append (both (going fresh []) x) H (d ++ lineFeed ∷ rest) ∙ ap (λ (z : Both). feedAll z (d ++ lineFeed ∷ rest)) before
+      ∙ refused-line s (rowsKept n) d rest (no-feed d (rule-all d rule)) 17 (lineHere s) (sym (i .0)))
+      ∙ ap (stopped 17) t
+
+  -- a net that hangs loose is refused on the line of its last transition, whatever comes after
+  pub loose-read : (Wired net → ⊥) → (rest : List ℕ) → feedAll (both (going fresh []) x) (head net initial ++ joined (rowLine net) (net .transitions) ++ rest) .run ≡ stopped 17 (3 + net .transitions)
+  loose-read loose rest = go (net .transitions) refl
+    where
+      go : (T : ℕ) → T ≡ net .transitions → feedAll (both (going fresh []) x) (head net initial ++ joined (rowLine net) T ++ rest) .run ≡ stopped 17 (3 + T)
+      go zero q = absurd (let z = r .some-transitions in omega arith)
+      go (suc n) q = last-row n q loose rest
+
+module _ (x : Rooms) (big : Large x) (net : Net) (initial w : List ℕ) (l : Listed net initial w) where
   after-net : feedAll (both (going fresh []) x) (head net initial ++ joined (rowLine net) (net .transitions))
       ≡ both (going (state 5 (net .places) (net .transitions) (net .transitions) 0 (3 + net .transitions)) []) (filled x net initial [])
   unfolding rowsKept
@@ -105,7 +159,7 @@ module _ (x : Rooms) (big : Large x) (net : Net) (initial w : List ℕ) (l : Lis
       let e : eqb (net .transitions) (net .transitions) ≡ true = eq-eqb (net .transitions) (net .transitions) refl in
       let u = take-all (net .transitions * net .places) (net .pre) (omega (arith, l .rowed .pres)) in
       let v = take-all (net .transitions * net .places) (net .post) (omega (arith, l .rowed .posts)) in
-      after-rows (net .transitions) (omega arith) ∙ rw (e, u, v)
+      after-rows x big net initial (l .rowed) (net .transitions) (omega arith) (λ _. l .wired) ∙ rw (e, u, v)
 
   after-letters : (k : ℕ) → k ≤ lettersLines (length w)
       → feedAll (both (going fresh []) x) (head net initial ++ joined (rowLine net) (net .transitions) ++ joined (lettersLine w) k)

@@ -1,5 +1,5 @@
 -- To be believed: the case file of a net, its initial marking and a word ("Case file lines"), and what reading it comes to.
-use Prim.Native.Nat.{ℕ, zero, suc, _+_, _-_, _*_, _/_, _≤_}
+use Prim.Native.Nat.{ℕ, zero, suc, _+_, _-_, _/_, _≤_}
 use mathlib.Core.Path.{_≡_}
 use mathlib.Core.List.{List, [], _∷_, _++_}
 use lib.ListN.{length, take}
@@ -7,8 +7,9 @@ use lib.Seq.{sets}
 use Rattle.ground.specs.Limits.{noCapacity, wordLimit}
 use Rattle.file_digits.specs.Frame.{block}
 use Rattle.file_put.specs.Put.{lineText, twos}
-use Rattle.net.specs.Net.{Net, netOf, Sized, Light}
+use Rattle.net.specs.Net.{Net, Sized, Light}
 use Rattle.net.specs.Letter.{row, Small}
+use Rattle.wiring.specs.Wired.{Wired}
 use Rattle.refusals.specs.Given.{Fine, Letters}
 use Rattle.file_line.specs.declared.Reading.{Reading}
 use Rattle.file_line.specs.Read.{Rooms, rooms}
@@ -51,9 +52,10 @@ fileOf net initial w =
     ++ joined (rowLine net) (net .transitions)
     ++ joined (lettersLine w) (lettersLines (length w))
 
--- a net, its initial marking and a word within the limits of document 01, as lists of bytes and of numbers in 16 bits
+-- a net, its initial marking and a word within the limits of document 01, as lists of bytes and of numbers in 16 bits; each place and transition has an arc
 pub record Limited (net : Net) (initial w : List ℕ) : Type 0 where
   pub sized : Sized net
+  pub wired : Wired net
   pub weights : Light net
   pub capacities : Small noCapacity (net .caps)
   pub marked : length initial ≡ net .places
@@ -69,11 +71,7 @@ pub record Written (file : List ℕ) : Type 0 where
   pub limited : Limited net initial word
   pub text : file ≡ fileOf net initial word
 
--- what the rooms y hold at their fronts after a whole file, by the counts of the state s: a net, its marking and a word
-abbrev pub netIn : Reading → Rooms → Net
-netIn s y =
-    netOf (s .places) (s .transitions) (take (s .transitions * s .places) (y .pre)) (take (s .transitions * s .places) (y .post)) (take (s .places) (y .caps))
-
+-- what the rooms y hold at their fronts after a whole file, by the counts of the state s: beside the net (`netIn` of file_line) its marking and a word
 abbrev pub markingIn : Reading → Rooms → List ℕ
 markingIn s y = take (s .places) (y .initial)
 

@@ -20,7 +20,7 @@ use Rattle.file_write.specs.declared.CaseLength.the-variants.{Told, Refu
 use Rattle.file_write.specs.declared.WriteCase.the-variants.{Written, Refused}
 use Rattle.file_write.proofs.Exactly.{writable-of, allowed-of}
 
--- `found` is what was found of refusals 1 to 3
+-- `found` is what was found of refusals 1 to 3 and 17
 module _ (net : Net) (initial w : List ℕ) (found : Fault) (e : found ≡ markedFault net initial true) where
   pub text-marked : (n at : ℕ) → found ≡ Faulty n at → Faulty n at ≡ textFault net initial w
   unfolding textFault
@@ -30,7 +30,7 @@ module _ (net : Net) (initial w : List ℕ) (found : Fault) (e : found ≡ marke
   unfolding textFault
   text-word r q f = chain-next _ _ found r e q f
 
--- `found` is what was found of refusals 1 to 5
+-- `found` is what was found of refusals 1 to 5 and 17
 module _ (net : Net) (initial w : List ℕ) (found : Fault) (e : found ≡ textFault net initial w) where
   pub found-writable : found ≡ Sound → Writable net initial w
   found-writable q = writable-of net initial w (sym e ∙ q)

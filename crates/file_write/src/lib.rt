@@ -20,7 +20,7 @@ pub enum CaseLength {
     Refused(u8, usize),
 }
 
-// Refusals 1 to 5: what is wrong with the net, its marking and the word.
+// Refusals 1 to 5 and 17: what is wrong with the net, its marking and the word.
 fn text_fault(
     places: usize,
     transitions: usize,

@@ -10,10 +10,10 @@ use lib.Dec.{eqb}
 use borrow.Author.Tests.{eq-eqb, eqb-true}
 use Rattle.ground.proofs.Tests.{and-true}
 use Rattle.net.specs.Net.{Net}
-use Rattle.refusals.specs.First.{StartFirst}
+use Rattle.refusals.specs.First.{StartFirst, LooseFirst}
 use Rattle.refusals.specs.declared.Fault.{Fault}
 use Rattle.refusals.specs.declared.Fault.the-variants.{Sound}
-use Rattle.refusals.proofs.Exactly.{Chain, Reads, reads-both, reads-all, start-reads, Answers, exactly-refused, is-answered, is-allowed}
+use Rattle.refusals.proofs.Exactly.{Chain, Reads, reads-both, reads-all, start-reads, loose-reads, Answers, exactly-refused, is-answered, is-allowed}
 use Rattle.lists.specs.Whole.{count}
 use Rattle.list_refusals.specs.Given.{whole, targetFault, listFault}
 use Rattle.list_refusals.specs.Demands.{WholeMarkings, EntriesFirst, SizeFirst}
@@ -32,11 +32,11 @@ use Rattle.list_check.proofs.Refusals.{lent-of, of-lent}
 
 -- the chain of a list's refusals, with what follows it read as R
 module _ (kind : Kind) (net : Net) (initial l : List ℕ) (fits : Bool) {Others : Type 0} (there : (whole (net .places) l && fits) ≡ true → Others) (back : Others → (whole (net .places) l && fits) ≡ true) {next : Fault} {R : ℕ → ℕ → Type 0 → Type 0} (r : Reads next R) where
-  given-reads : Reads (givenFault kind net initial l fits next) (λ n at Next. StartFirst net initial Others n at (EntriesFirst kind (net .places) (net .caps) l n at (R n at (SizeFirst (net .places) l n at Next))))
+  given-reads : Reads (givenFault kind net initial l fits next) (λ n at Next. StartFirst net initial Others n at (EntriesFirst kind (net .places) (net .caps) l n at (R n at (LooseFirst net n at (SizeFirst (net .places) l n at Next)))))
   unfolding givenFault listFault
   given-reads =
       reads-both (start-reads net initial (whole (net .places) l && fits) there back)
-      (reads-both (entries-reads kind (net .places) (net .caps) l) (reads-both r (size-reads (net .places) l)))
+      (reads-both (entries-reads kind (net .places) (net .caps) l) (reads-both (reads-both r (loose-reads net)) (size-reads (net .places) l)))
 
 -- the three theorems of one answer r: each entry states them by its own names
 pub record Exact {A : Type 0} (refused : ℕ → ℕ → A) (r : A) (Allowed : Type 0) (Refused : ℕ → ℕ → Type 0) : Type 0 where
@@ -75,6 +75,7 @@ module _ (kind : Kind) (net : Net) (initial l : List ℕ) where
         whole = record { some-places = g .ready .sized .some-places; number = count (net .places) l; long = g .ready .long };
         fine = g .fine;
         entries = g .entries;
+        wired = g .wired;
         some = g .some;
       }
 
@@ -88,6 +89,7 @@ module _ (kind : Kind) (net : Net) (initial l : List ℕ) where
         agrees = refl;
         follows = refl;
         entries = a .entries;
+        wired = a .wired;
         some = a .some;
       })
 
@@ -133,6 +135,7 @@ module _ (kind : Kind) (net : Net) (initial l m : List ℕ) where
           whole = record { some-places = g .ready .sized .some-places; number = count (net .places) l; long = g .ready .long };
           fine = g .fine;
           entries = g .entries;
+          wired = g .wired;
           some = g .some;
         };
         long = eqb-true _ _ (g .agrees);
@@ -149,6 +152,7 @@ module _ (kind : Kind) (net : Net) (initial l m : List ℕ) where
         agrees = eq-eqb _ _ (a .long);
         follows = of-target m (a .fine);
         entries = a .listed .entries;
+        wired = a .listed .wired;
         some = a .listed .some;
       })
 

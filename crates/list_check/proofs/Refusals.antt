@@ -6,12 +6,13 @@ use mathlib.Core.List.{List}
 use native.Mathlib.Omega.{arith}
 use lib.ListN.{length}
 use Rattle.ground.proofs.Tests.{and-true}
-use Rattle.net.specs.Net.{Net}
-use Rattle.refusals.specs.Given.{startFault, Fine}
+use Rattle.net.specs.Net.{Net, Sized}
+use Rattle.wiring.specs.Wired.{Wired}
+use Rattle.refusals.specs.Given.{orElse, startFault, looseFault, Fine}
 use Rattle.refusals.specs.declared.Fault.{Fault}
 use Rattle.refusals.specs.declared.Fault.the-variants.{Sound, Faulty}
 use Rattle.refusals.proofs.Chains.{or-sound, sound-or}
-use Rattle.refusals.proofs.Refusals.{start-met, met-start}
+use Rattle.refusals.proofs.Refusals.{start-met, met-start, loose-met, met-loose}
 use Rattle.lists.specs.Whole.{count}
 use Rattle.list_refusals.specs.Given.{whole, entryFault, sizeFault, listFault}
 use Rattle.lists.specs.declared.Failure.{Failure}
@@ -25,18 +26,30 @@ use Rattle.list_refusals.proofs.Exactly.{of-markings, entries-of, of-entries, s
 use Rattle.list_pairs.specs.Look.{Ready, looked}
 use Rattle.list_check.specs.Given.{givenFault, answered, listOf}
 
+-- the 3 of what is lent after the list, then 17; g is the 17
+pub next-faulty : (next g : Fault) (n at : ℕ) → next ≡ Faulty n at → Faulty n at ≡ orElse next g
+next-faulty next g n at q = rw q
+
+pub next-sound : (next g r : Fault) → next ≡ Sound → r ≡ g → r ≡ orElse next g
+next-sound next g r q k = rw q k
+
+pub ruleset nexts = (next-faulty, next-sound)
+
 -- which refusal of a net, its initial marking and a list
 module _ (kind : Kind) (net : Net) (initial list : List ℕ) (fits : Bool) (next : Fault) (agree : Bool) (ea : agree ≡ (whole (net .places) list && fits)) (found : Fault) (e : found ≡ startFault net initial agree) where
   pub given-first : (n at : ℕ) → found ≡ Faulty n at → Faulty n at ≡ givenFault kind net initial list fits next
   unfolding givenFault
   given-first n at q = rw (← ea, ← e, q)
 
-  pub given-list : (r : Fault) → found ≡ Sound → r ≡ listFault kind (net .places) (net .caps) list next → r ≡ givenFault kind net initial list fits next
+  pub given-list : (later r : Fault) → found ≡ Sound → later ≡ orElse next (looseFault net) → r ≡ listFault kind (net .places) (net .caps) list later → r ≡ givenFault kind net initial list fits next
   unfolding givenFault
-  given-list r q k = rw (← ea, ← e, q) k
+  given-list later r q l k = rw (← ea, ← e, q, ← l) k
+
+  pub start-sized : found ≡ Sound → Sized net
+  start-sized q = start-met net initial agree (sym e ∙ q) .sized
 
   pub caps-long : found ≡ Sound → (1 ≤ net .places) × (length (net .caps) ≡ net .places)
-  caps-long q = let s = start-met net initial agree (sym e ∙ q) .sized in (s .some-places, s .capped)
+  caps-long q = let s = start-sized q in (s .some-places, s .capped)
 
 pub ruleset givens = (given-first, given-list)
 
@@ -48,6 +61,7 @@ pub record Lent (kind : Kind) (net : Net) (initial list : List ℕ) (fits : Bool
   pub agrees : fits ≡ true
   pub follows : next ≡ Sound
   pub entries : kind ≡ Closed → EntriesFine (net .places) (net .caps) list
+  pub wired : Wired net
   pub some : SomeMarkings (net .places) list
 
 module _ (kind : Kind) (net : Net) (initial list : List ℕ) (fits : Bool) (next : Fault) where
@@ -58,14 +72,16 @@ module _ (kind : Kind) (net : Net) (initial list : List ℕ) (fits : Bool) (next
       let f = start-met net initial (whole (net .places) list && fits) (a .0) in
       let w = and-true (whole (net .places) list) fits (f .fitting) in
       let b = or-sound (entryFault kind (net .places) (net .caps) list) _ (a .1) in
-      let d = or-sound next (sizeFault (net .places) list) (b .1) in
+      let d = or-sound (orElse next (looseFault net)) (sizeFault (net .places) list) (b .1) in
+      let l = or-sound next (looseFault net) (d .0) in
       record {
         ready = record { sized = f .sized; long = whole-long (net .places) list (w .0) };
         start = f .marked;
         fine = f .fine;
         agrees = w .1;
-        follows = d .0;
+        follows = l .0;
         entries = entries-of kind (net .places) (net .caps) list (b .0);
+        wired = loose-met net (l .1);
         some = size-of (net .places) list (d .1);
       }
 
@@ -76,7 +92,7 @@ module _ (kind : Kind) (net : Net) (initial list : List ℕ) (fits : Bool) (next
       let w = of-markings (net .places) list (record { some-places = g .ready .sized .some-places; number = count (net .places) list; long = g .ready .long }) in
       sound-or _ _ (met-start net initial (whole (net .places) list && fits) (record { sized = g .ready .sized; marked = g .start; fitting = rw w (g .agrees); fine = g .fine }))
       (sound-or _ _ (of-entries kind (net .places) (net .caps) list (g .entries))
-      (sound-or _ _ (g .follows) (of-size (net .places) list (g .some))))
+      (sound-or _ _ (sound-or _ _ (g .follows) (met-loose net (g .wired))) (of-size (net .places) list (g .some))))
 
   -- a fault refuses; else the list is looked through
   module _ (found : Fault) (e : found ≡ givenFault kind net initial list fits next) where

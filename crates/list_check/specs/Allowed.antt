@@ -5,8 +5,9 @@ use mathlib.Core.Path.{_≡_}
 use mathlib.Core.List.{List}
 use lib.ListN.{length}
 use Rattle.net.specs.Net.{Net, Sized}
+use Rattle.wiring.specs.Wired.{Wired}
 use Rattle.refusals.specs.Given.{Fine}
-use Rattle.refusals.specs.First.{StartFirst}
+use Rattle.refusals.specs.First.{StartFirst, LooseFirst}
 use Rattle.list_refusals.specs.Demands.{WholeMarkings, EntriesFine, TargetFine, SomeMarkings, EntriesFirst, TargetFirst, SizeFirst}
 use Rattle.lists.specs.declared.Kind.{Kind}
 use Rattle.lists.specs.declared.Kind.the-variants.{Closed}
@@ -18,6 +19,7 @@ pub record ListAllowed (kind : Kind) (net : Net) (initial list : List ℕ) : Typ
   pub whole : WholeMarkings (net .places) list
   pub fine : Fine (net .caps) initial
   pub entries : kind ≡ Closed → EntriesFine (net .places) (net .caps) list
+  pub wired : Wired net
   pub some : SomeMarkings (net .places) list
 
 -- refusal n at position at
@@ -25,7 +27,8 @@ abbrev pub ListRefused : Kind → Net → List ℕ → List ℕ → ℕ → ℕ 
 ListRefused kind net initial list n at =
     StartFirst net initial (WholeMarkings (net .places) list) n at
     (EntriesFirst kind (net .places) (net .caps) list n at
-    (SizeFirst (net .places) list n at ⊥))
+    (LooseFirst net n at
+    (SizeFirst (net .places) list n at ⊥)))
 
 -- a list with a target
 pub record TargetAllowed (kind : Kind) (net : Net) (initial list target : List ℕ) : Type 0 where
@@ -39,4 +42,5 @@ TargetRefused kind net initial list target n at =
     StartFirst net initial (WholeMarkings (net .places) list × (length target ≡ net .places)) n at
     (EntriesFirst kind (net .places) (net .caps) list n at
     (TargetFirst target n at
-    (SizeFirst (net .places) list n at ⊥)))
+    (LooseFirst net n at
+    (SizeFirst (net .places) list n at ⊥))))

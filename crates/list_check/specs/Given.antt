@@ -1,11 +1,11 @@
--- To be believed: the refusals of a list with its net, "in number order": 1, 2, 3 and 9; and the answers to a list and to a target.
+-- To be believed: the refusals of a list with its net, in order: 1, 2, 3, 17 and 9; and the answers to a list and to a target.
 use Prim.Native.Nat.{ℕ}
 use mathlib.Core.Bool.{Bool, _&&_}
 use mathlib.Core.List.{List}
 use lib.ListN.{length}
 use lib.Dec.{eqb}
 use Rattle.net.specs.Net.{Net}
-use Rattle.refusals.specs.Given.{orElse, startFault}
+use Rattle.refusals.specs.Given.{orElse, startFault, looseFault}
 use Rattle.refusals.specs.declared.Fault.{Fault}
 use Rattle.refusals.specs.declared.Fault.the-variants.{Sound, Faulty}
 use Rattle.lists.specs.Whole.{count}
@@ -18,12 +18,12 @@ use Rattle.lists.specs.declared.ListAnswer.the-variants.{Refused}
 use Rattle.lists.specs.declared.ClaimAnswer.{ClaimAnswer}
 use Rattle.list_pairs.specs.Look.{looked}
 
--- 1, 2, then 3 in the initial marking and the others, then 9; `fits` tells whether the length of what follows the list agrees
+-- 1, 2, then 3 in the initial marking and the others, then 17, then 9; `fits` tells whether the length of what follows the list agrees
 -- with the counts, `next` is its 3
 unfoldable pub givenFault : Kind → Net → List ℕ → List ℕ → Bool → Fault → Fault
 givenFault kind net initial list fits next =
     orElse (startFault net initial (whole (net .places) list && fits))
-    (listFault kind (net .places) (net .caps) list next)
+    (listFault kind (net .places) (net .caps) list (orElse next (looseFault net)))
 
 abbrev pub answered : Fault → ListAnswer → ListAnswer
 answered Sound a = a

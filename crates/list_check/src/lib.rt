@@ -10,7 +10,8 @@ ghost use mathlib.Core.Path.{_≡_};
 ghost use Prim.Native.Nat.{_≤_};
 ghost use lib.ListN.{length};
 ghost use Rattle.ground.specs.Limits.{listLimit};
-ghost use Rattle.net.specs.Net.{netOf};
+ghost use Rattle.net.specs.Net.{netOf, Sized};
+ghost use Rattle.refusals.specs.Given.{orElse, looseFault};
 ghost use Rattle.lists.specs.Whole.{count};
 ghost use Rattle.list_pairs.specs.Look.{Ready, looked};
 ghost use Rattle.list_check.specs.Given.{givenFault, listOf, targetOf};
@@ -38,7 +39,25 @@ fn look_through(
     ListAnswer::Failed(Failure::InitialMissing)
 }
 
-// Refusals 1, 2, 3 and 9. `fits` tells whether the length of what is lent after the list agrees, and
+// The 3 of what is lent after the list, then 17.
+fn then_loose(
+    places: usize,
+    transitions: usize,
+    pre: &[Weight],
+    post: &[Weight],
+    caps: &[u16],
+    next: Fault,
+) -> Fault
+    requires { ⌜ Sized (netOf places transitions (now pre) (now post) (now caps)) ⌝ }
+    ensures { λ r. ⌜ r ≡ orElse next (looseFault (netOf places transitions (now (pre .entry)) (now (post .entry)) (now (caps .entry)))) ⌝ }
+{
+    match next {
+        Fault::Faulty(number, at) => Fault::Faulty(number, at),
+        Fault::Sound => refusals::loose_fault(places, transitions, pre, post, caps),
+    }
+}
+
+// Refusals 1, 2, 3, 17 and 9. `fits` tells whether the length of what is lent after the list agrees, and
 // `next` is what 3 makes of it.
 fn find_fault(
     kind: Kind,
@@ -58,7 +77,10 @@ fn find_fault(
     let found = refusals::start_fault(places, transitions, pre, post, caps, initial, agree);
     match found {
         Fault::Faulty(number, at) => Fault::Faulty(number, at),
-        Fault::Sound => list_refusals::list_fault(kind, places, caps, list, next),
+        Fault::Sound => {
+            let later = then_loose(places, transitions, pre, post, caps, next);
+            list_refusals::list_fault(kind, places, caps, list, later)
+        }
     }
 }
 

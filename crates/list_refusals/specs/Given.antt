@@ -41,6 +41,6 @@ targetFault target = refuse (ltb (lowestAny target) (length target)) 3 (lowestAn
 unfoldable pub sizeFault : ℕ → List ℕ → Fault
 sizeFault P list = refuse (ltb (count P list) 1 || ltb listLimit (count P list)) 9 0
 
--- 3 in the list, then in the marking that follows it, then 9
+-- 3 in the list, then what comes between (`next`: 3 in the marking that follows it, and 17), then 9
 unfoldable pub listFault : Kind → ℕ → List ℕ → List ℕ → Fault → Fault
 listFault kind P caps list next = orElse (entryFault kind P caps list) (orElse next (sizeFault P list))

@@ -108,7 +108,7 @@ fn size_fault(places: usize, list: &[u16]) -> Fault
     Fault::Sound
 }
 
-// Refusals 3 and 9 of the list; `next` is what 3 makes of the marking that is lent after it.
+// Refusals 3 and 9 of the list; `next` is what comes between: 3 for what is lent after it, and 17.
 pub fn list_fault(kind: Kind, places: usize, caps: &[u16], list: &[u16], next: Fault) -> Fault
     requires { ⌜ 1 ≤ places ⌝ }
     requires { ⌜ length (now caps) ≡ places ⌝ }

@@ -125,6 +125,7 @@ module _ (net : Net) (initial first second room work : List ℕ) where
         roomy = f .0;
         bytes = f .1;
         fine = m .fine;
+        wired = m .wired;
         short-first = l .0 .0;
         short-second = l .0 .1;
         letters-first = l .1 .0;
@@ -136,7 +137,7 @@ module _ (net : Net) (initial first second room work : List ℕ) where
   of-allowed a =
       sound-or _ _
       (met-marked net initial (roomsFit first second room work)
-      (record { sized = a .sized; marked = a .marked; fitting = of-fits first second room work (a .roomy, a .bytes); fine = a .fine }))
+      (record { sized = a .sized; marked = a .marked; fitting = of-fits first second room work (a .roomy, a .bytes); fine = a .fine; wired = a .wired }))
       (met-logs (net .transitions) first second (a .short-first) (a .short-second) (a .letters-first) (a .letters-second))
 
   order-chain : Chain (orderFault net initial first second (roomsFit first second room work)) (Refusal net initial first second room work)

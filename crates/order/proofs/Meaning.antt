@@ -72,6 +72,7 @@ module _ (net : Net) (initial first second room work : List ℕ) (r : LogOrder) 
         roomy = l;
         inside = refl;
         fine = a .fine;
+        wired = a .wired;
         short = omega (arith, orders.woven-long o, a .short-first, a .short-second);
         letters = orders.woven-letters (net .transitions) first second order (a .letters-first) (a .letters-second);
       }

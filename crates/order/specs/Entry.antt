@@ -1,4 +1,4 @@
--- To be believed: two logs put into an order that fires: refusals 1 2 3 4 15 5, else the order that is given, or none.
+-- To be believed: two logs put into an order that fires: refusals 1 2 3 17 4 15 5, else the order that is given, or none.
 use Prim.Native.Nat.{ℕ, _+_, _≤_, _<_}
 use mathlib.Core.Path.{_≡_}
 use mathlib.Core.Bool.{Bool, true, _&&_}
@@ -7,6 +7,7 @@ use lib.ListN.{length, getD, replicate}
 use lib.Dec.{eqb}
 use Rattle.ground.specs.Limits.{wordLimit}
 use Rattle.net.specs.Net.{Net, Sized}
+use Rattle.wiring.specs.Wired.{Wired}
 use Rattle.refusals.specs.Given.{orElse, markedFault, wordFault, Fine, Letters}
 use Rattle.refusals.specs.First.{First, GivenAt, MarkedFirst}
 use Rattle.refusals.specs.declared.Fault.{Fault}
@@ -21,7 +22,7 @@ use Rattle.order.specs.declared.LogOrder.the-variants.{Found, NoneFires,
 unfoldable pub logsFault : ℕ → List ℕ → List ℕ → Fault
 logsFault T first second = orElse (longFault (length first) (length second)) (orElse (wordFault T first) (wordFault T second))
 
--- 1, 2, 3, then those of the logs; `fits` tells whether the lengths of room and work space are right
+-- 1, 2, 3, 17, then those of the logs; `fits` tells whether the lengths of room and work space are right
 unfoldable pub orderFault : Net → List ℕ → List ℕ → List ℕ → Bool → Fault
 orderFault net initial first second fits = orElse (markedFault net initial fits) (logsFault (net .transitions) first second)
 
@@ -68,6 +69,7 @@ pub record Allowed (net : Net) (initial first second room work : List ℕ) : Typ
   pub roomy : length room ≡ length first + length second
   pub bytes : length work ≡ workLength
   pub fine : Fine (net .caps) initial
+  pub wired : Wired net
   pub short-first : length first ≤ logLimit
   pub short-second : length second ≤ logLimit
   pub letters-first : Letters (net .transitions) first

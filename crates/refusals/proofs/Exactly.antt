@@ -1,5 +1,5 @@
 -- "Exactly when": a chain of refusals is read demand by demand, for any chain and any answer. Assumes nothing.
-use Prim.Native.Nat.{ℕ, _*_, _≤_, _<_}
+use Prim.Native.Nat.{ℕ, _+_, _*_, _≤_, _<_}
 use mathlib.Core.Path.{_≡_, refl, sym, ap, _∙_}
 use mathlib.Core.Bool.{Bool, true, false, not, _&&_, _||_}
 use mathlib.Core.List.{List}
@@ -9,17 +9,19 @@ use native.Mathlib.Decide.{decLt}
 use lib.ListN.{length, getD}
 use lib.Dec.{ltb, leb, eqb}
 use borrow.Author.Tests.{lt-ltb, le-ltb, ltb-false, ltb-true, lt-leb, leb-false, eq-eqb, eqb-true, not-false}
-use Rattle.ground.specs.Limits.{tokenLimit, wordLimit}
+use Rattle.ground.specs.Limits.{countLimit, tokenLimit, wordLimit}
 use Rattle.ground.specs.Lists.{first}
 use Rattle.ground.proofs.Tests.{never, or-false, both-false, and-true, unlike-false, like-false}
 use Rattle.ground.proofs.Scan.{first-at, first-none, first-below, first-passes, first-most}
 use Rattle.net.specs.Net.{Net}
-use Rattle.refusals.specs.Given.{refuse, orElse, outside, unlike, misfit, tokenBad, badToken, countsFault, netFault, markingFault, startFault, markedFault, badLetter, wordFault, Fine, Letters}
-use Rattle.refusals.specs.First.{First, fails, holds, Given, GivenAt, Counts, Lengths, FineAt, CountsFirst, NetFirst, StartFirst, MarkedFirst, WordFirst}
+use Rattle.wiring.specs.Wired.{PlaceWired, TransitionWired, Wired, loosePlace, looseTransition, lowestLooseTransition}
+use Rattle.wiring.proofs.Loose.{place-wired, wired-place, transition-wired, wired-transition}
+use Rattle.refusals.specs.Given.{refuse, orElse, outside, unlike, misfit, tokenBad, badToken, countsFault, looseFault, netFault, markingFault, startFault, markedFault, badLetter, wordFault, Fine, Letters}
+use Rattle.refusals.specs.First.{First, fails, holds, Given, GivenAt, Above, Counts, Lengths, FineAt, CountsFirst, LooseFirst, NetFirst, StartFirst, MarkedFirst, WordFirst}
 use Rattle.refusals.specs.declared.Fault.{Fault}
 use Rattle.refusals.specs.declared.Fault.the-variants.{Sound, Faulty}
 use Rattle.refusals.proofs.Chains.{fault-one, not-sound, or-assoc, or-none, refuse-sound}
-use Rattle.refusals.proofs.Refusals.{inside-of, inside-is, fine-of, fine-is}
+use Rattle.refusals.proofs.Refusals.{inside-of, inside-is, fine-of, fine-is, CountsMet, counts-met, met-counts, StartMet, start-met, met-start, loose-met}
 
 -- ---- one test
 -- the fault f tells of its demand: nothing where it holds, else exactly what `Tell` says
@@ -77,6 +79,23 @@ tells-scan f count k {D} there back =
         )
     go n at e (no h) = not-sound n at (sym (rw (le-ltb (first f count) count (omega arith)) at e))
 
+-- a position so much above
+pub tells-above : (b : Bool) (k p base : ℕ) {D : Type 0} {Tell : ℕ → ℕ → Type 0} → Tells (refuse b k p) D Tell → Tells (refuse b k (base + p)) D (Above base Tell)
+tells-above true k p base {D} {Tell} t =
+    record {
+      sound = λ e. not-sound k (base + p) e;
+      fails = λ n at e.
+          let q = fault-one k (base + p) n at e in
+          let f = t .fails k p refl in (f .0, record { below = p; position = sym (q .1); told = rw (← q .0) (f .1) });
+      exact = λ n at miss g. let q = fault-one k p n (g .below) (t .exact n (g .below) miss (g .told)) in rw (g .position, ← q .0, ← q .1);
+    }
+tells-above false k p base t =
+    record {
+      sound = λ e. t .sound refl;
+      fails = λ n at e. not-sound n at (sym e);
+      exact = λ n at miss g. not-sound n (g .below) (sym (t .exact n (g .below) miss (g .told)));
+    }
+
 -- ---- a chain
 -- the fault f is given exactly as R says
 pub record Chain (f : Fault) (R : ℕ → ℕ → Type 0) : Type 0 where
@@ -116,6 +135,13 @@ pub reads-all : {f : Fault} {R : ℕ → ℕ → Type 0 → Type 0} → Reads f 
 reads-all {f} {R} a = rw (or-none f) at (a .then Sound (λ n at. ⊥) chain-end)
 
 -- ---- the chains that the questions share
+pub loose-reads : (net : Net) → Reads (looseFault net) (LooseFirst net)
+unfolding looseFault
+loose-reads net =
+    reads-both (reads-test (tells-scan (loosePlace net) (net .places) 17 {D = PlaceWired net} (place-wired net) (wired-place net)))
+    (reads-test (tells-above (ltb (lowestLooseTransition net) (net .transitions)) 17 (lowestLooseTransition net) countLimit
+    (tells-scan (looseTransition net) (net .transitions) 17 {D = TransitionWired net} (transition-wired net) (wired-transition net))))
+
 module _ (net : Net) (fits : Bool) {Others : Type 0} (there : fits ≡ true → Others) (back : Others → fits ≡ true) where
   pub counts-reads : Reads (countsFault net fits) (CountsFirst net Others)
   unfolding countsFault
@@ -147,7 +173,7 @@ module _ (net : Net) (fits : Bool) {Others : Type 0} (there : fits ≡ true → 
 
   pub net-reads : Reads (netFault net fits) (NetFirst net Others)
   unfolding netFault
-  net-reads = counts-reads
+  net-reads = reads-both counts-reads (loose-reads net)
 
 pub marking-reads : (caps m : List ℕ) → Reads (markingFault caps m) (λ n at Next. First (Fine caps m) (GivenAt 3 (FineAt caps m) (length m) n at) Next)
 unfolding markingFault
@@ -186,7 +212,7 @@ module _ (net : Net) (initial : List ℕ) (fits : Bool) {Others : Type 0} (there
 
   pub marked-reads : Reads (markedFault net initial fits) (MarkedFirst net initial Others)
   unfolding markedFault
-  marked-reads = start-reads
+  marked-reads = reads-both start-reads (loose-reads net)
 
 pub word-reads : (T : ℕ) (w : List ℕ) → Reads (wordFault T w) (WordFirst T w)
 unfolding wordFault
@@ -194,6 +220,61 @@ word-reads T w =
     reads-both (reads-test (tells-test _ 4 0 (λ e. ltb-false wordLimit (length w) e) (λ h. le-ltb wordLimit (length w) h)))
     (reads-test (tells-as (λ h. record { at = h }) (λ (l : Letters T w). l .at)
     (tells-scan (λ k. leb T (getD w k 0)) (length w) 5 {D = λ k. getD w k 0 < T} (λ k e. leb-false T (getD w k 0) e) (λ k h. lt-leb T (getD w k 0) h))))
+
+-- ---- 17
+-- a refusal of 1, 2 or 3 is no 17
+counts-other : {net : Net} {Others Next : Type 0} {n at : ℕ} → n ≡ 17 → CountsFirst net Others n at Next → Next
+counts-other e (fails miss g) = let z = g .number in absurd (omega arith)
+counts-other e (holds c (fails miss g)) = let z = g .number in absurd (omega arith)
+counts-other e (holds c (holds l h)) = h
+
+start-other : {net : Net} {initial : List ℕ} {Others Next : Type 0} {n at : ℕ} → n ≡ 17 → StartFirst net initial Others n at Next → Next
+start-other e h = marking e (counts-other e h)
+  where
+    marking : {D Next : Type 0} {M : ℕ → Type 0} {c n at : ℕ} → n ≡ 17 → First D (GivenAt 3 M c n at) Next → Next
+    marking e (fails miss g) = let z = g .number in absurd (omega arith)
+    marking e (holds d next) = next
+
+-- what comes before 17, and then 17: exactly where that finds nothing and a node hangs loose, which the position names
+behind : (f : Fault) (net : Net) {Met : Type 0} → (f ≡ Sound → Met) → (Met → f ≡ Sound) → ((n at : ℕ) → f ≡ Faulty n at → n ≡ 17 → ⊥) → (at : ℕ) → (orElse f (looseFault net) ≡ Faulty 17 at) ↔ (Met × LooseFirst net 17 at ⊥)
+behind f net {Met} met of-met other at = (there f refl, λ h. rw (of-met (h .0)) (reads-all (loose-reads net) .exactly 17 at .1 (h .1)))
+  where
+    there : (x : Fault) → f ≡ x → orElse f (looseFault net) ≡ Faulty 17 at → Met × LooseFirst net 17 at ⊥
+    there Sound e q = (met e, reads-all (loose-reads net) .exactly 17 at .0 (rw e at q))
+    there (Faulty n p) e q = absurd (other n p e (fault-one n p 17 at (rw e at q) .0))
+
+-- "17 is given exactly when 1, 2, 3 are not and the net is not wired", with the position that 02 says
+pub wired-exactly : (net : Net) (initial : List ℕ) (fits : Bool) (at : ℕ) → (markedFault net initial fits ≡ Faulty 17 at) ↔ (StartMet net initial fits × LooseFirst net 17 at ⊥)
+unfolding markedFault
+wired-exactly net initial fits =
+    behind (startFault net initial fits) net (start-met net initial fits) (met-start net initial fits)
+    (λ n at e q. start-other q (reads-all (start-reads net initial fits {Others = fits ≡ true} (λ h. h) (λ h. h)) .exactly n at .0 e))
+
+-- ... and for a net without a marking, when 1 and 2 are not
+pub wired-net-exactly : (net : Net) (fits : Bool) (at : ℕ) → (netFault net fits ≡ Faulty 17 at) ↔ (CountsMet net fits × LooseFirst net 17 at ⊥)
+unfolding netFault
+wired-net-exactly net fits =
+    behind (countsFault net fits) net (counts-met net fits) (met-counts net fits)
+    (λ n at e q. counts-other q (reads-all (counts-reads net fits {Others = fits ≡ true} (λ h. h) (λ h. h)) .exactly n at .0 e))
+
+-- a net is wired, or 17 has a position for it
+pub record LooseAt (net : Net) : Type 0 where
+  pub at : ℕ
+  pub loose : LooseFirst net 17 at ⊥
+
+pub loose-somewhere : (net : Net) → (Wired net → ⊥) → LooseAt net
+loose-somewhere net none = go (looseFault net) refl
+  where
+    seventeen : {n at : ℕ} → LooseFirst net n at ⊥ → LooseFirst net 17 at ⊥
+    seventeen (fails miss g) = fails miss (record { number = refl; here = g .here; fails = g .fails; lowest = g .lowest })
+    seventeen (holds w (fails miss g)) =
+        let h = g .told in
+        holds w (fails miss (record { below = g .below; position = g .position; told = record { number = refl; here = h .here; fails = h .fails; lowest = h .lowest } }))
+    seventeen (holds w (holds v z)) = absurd z
+
+    go : (x : Fault) → looseFault net ≡ x → LooseAt net
+    go Sound e = absurd (none (loose-met net e))
+    go (Faulty n at) e = record { at = at; loose = seventeen (reads-all (loose-reads net) .exactly n at .0 e) }
 
 -- ---- an answer
 -- r is the refusal of the fault f, and no refusal where there is none

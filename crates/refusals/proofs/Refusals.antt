@@ -1,5 +1,5 @@
 -- Laws of the shared refusals: which one is given, and what holds where none is. Assumes nothing.
-use Prim.Native.Nat.{ℕ, _*_, _≤_, _<_, zero-le}
+use Prim.Native.Nat.{ℕ, _+_, _*_, _≤_, _<_, zero-le}
 use mathlib.Core.Path.{_≡_, refl, sym, _∙_}
 use mathlib.Core.Bool.{Bool, true, false, not, _&&_, _||_, and-false}
 use mathlib.Core.List.{List}
@@ -13,9 +13,11 @@ use mir.Val.{Fits}
 use borrow.Author.Tests.{lt-ltb, le-ltb, ltb-false, lt-leb, leb-false, eq-eqb, ne-eqb, eqb-true, not-true, not-false}
 use Rattle.ground.specs.Limits.{countLimit, tokenLimit, wordLimit}
 use Rattle.ground.proofs.Tests.{never, or-false, both-false, and-true, unlike-false, like-false}
-use Rattle.ground.proofs.Scan.{first-none, first-below}
+use Rattle.ground.proofs.Scan.{first-none, first-below, first-most}
 use Rattle.net.specs.Net.{Net, Sized}
-use Rattle.refusals.specs.Given.{refuse, orElse, outside, unlike, misfit, sizedNet, tokenBad, badToken, countsFault, netFault, markingFault, startFault, markedFault, badLetter, wordFault, Fine, Letters}
+use Rattle.wiring.specs.Wired.{Wired, loosePlace, looseTransition, lowestLoosePlace, lowestLooseTransition}
+use Rattle.wiring.proofs.Loose.{wired-places, wired-transitions}
+use Rattle.refusals.specs.Given.{refuse, orElse, outside, unlike, misfit, sizedNet, tokenBad, badToken, countsFault, looseFault, netFault, markingFault, startFault, markedFault, badLetter, wordFault, Fine, Letters}
 use Rattle.refusals.specs.declared.Fault.{Fault}
 use Rattle.refusals.specs.declared.Fault.the-variants.{Sound, Faulty}
 use Rattle.refusals.proofs.Chains.{or-sound, sound-or, refuse-sound, sound-refuse, chain-first, chain-next}
@@ -75,6 +77,7 @@ pub record CountsMet (net : Net) (fits : Bool) : Type 0 where
 pub record NetMet (net : Net) (fits : Bool) : Type 0 where
   pub sized : Sized net
   pub fitting : fits ≡ true
+  pub wired : Wired net
 
 pub record StartMet (net : Net) (initial : List ℕ) (fits : Bool) : Type 0 where
   pub sized : Sized net
@@ -87,6 +90,7 @@ pub record MarkedMet (net : Net) (initial : List ℕ) (fits : Bool) : Type 0 whe
   pub marked : length initial ≡ net .places
   pub fitting : fits ≡ true
   pub fine : Fine (net .caps) initial
+  pub wired : Wired net
 
 pub record WordMet (n : ℕ) (w : List ℕ) : Type 0 where
   pub short : length w ≤ wordLimit
@@ -149,13 +153,36 @@ unfolding countsFault
 met-counts net fits m =
     sound-or _ _ (sound-refuse _ 1 0 (counts-inside net (m .sized))) (sound-refuse _ 2 0 (both-false _ _ (lengths-like net (m .sized)) (rw (m .fitting))))
 
+-- no node is refused exactly where the net is wired
+pub loose-met : (net : Net) → looseFault net ≡ Sound → Wired net
+unfolding looseFault
+loose-met net e =
+    let a = or-sound (refuse (ltb (lowestLoosePlace net) (net .places)) 17 (lowestLoosePlace net)) (refuse (ltb (lowestLooseTransition net) (net .transitions)) 17 (countLimit + lowestLooseTransition net)) e in
+    let p = ltb-false (lowestLoosePlace net) (net .places) (refuse-sound _ 17 (lowestLoosePlace net) (a .0)) in
+    let t = ltb-false (lowestLooseTransition net) (net .transitions) (refuse-sound _ 17 (countLimit + lowestLooseTransition net) (a .1)) in
+    record {
+      places = wired-places net .0 (omega (arith, first-most (loosePlace net) (net .places)));
+      transitions = wired-transitions net .0 (omega (arith, first-most (looseTransition net) (net .transitions)));
+    }
+
+pub met-loose : (net : Net) → Wired net → looseFault net ≡ Sound
+unfolding looseFault
+met-loose net w =
+    let p = wired-places net .1 (w .places) in
+    let t = wired-transitions net .1 (w .transitions) in
+    sound-or _ _ (sound-refuse _ 17 (lowestLoosePlace net) (le-ltb (lowestLoosePlace net) (net .places) (omega arith)))
+    (sound-refuse _ 17 (countLimit + lowestLooseTransition net) (le-ltb (lowestLooseTransition net) (net .transitions) (omega arith)))
+
 pub net-met : (net : Net) (fits : Bool) → netFault net fits ≡ Sound → NetMet net fits
 unfolding netFault
-net-met net fits e = let m = counts-met net fits e in record { sized = m .sized; fitting = m .fitting }
+net-met net fits e =
+    let a = or-sound (countsFault net fits) (looseFault net) e in
+    let m = counts-met net fits (a .0) in
+    record { sized = m .sized; fitting = m .fitting; wired = loose-met net (a .1) }
 
 pub met-net : (net : Net) (fits : Bool) → NetMet net fits → netFault net fits ≡ Sound
 unfolding netFault
-met-net net fits m = met-counts net fits (record { sized = m .sized; fitting = m .fitting })
+met-net net fits m = sound-or _ _ (met-counts net fits (record { sized = m .sized; fitting = m .fitting })) (met-loose net (m .wired))
 
 -- where something else does not fit, 1 or 2 is given whatever follows
 pub counts-unfit : (net : Net) (next : Fault) → orElse (countsFault net false) next ≡ countsFault net false
@@ -169,7 +196,7 @@ counts-unfit net next = go (outside (net .places) || outside (net .transitions))
 
 pub net-unfit : (net : Net) → netFault net false ≡ countsFault net false
 unfolding netFault
-net-unfit net = refl
+net-unfit net = counts-unfit net (looseFault net)
 
 pub start-unfit : (net : Net) (initial : List ℕ) → startFault net initial false ≡ countsFault net false
 unfolding startFault
@@ -177,7 +204,7 @@ start-unfit net initial = rw (and-false (eqb (length initial) (net .places))) (c
 
 pub marked-unfit : (net : Net) (initial : List ℕ) → markedFault net initial false ≡ countsFault net false
 unfolding markedFault
-marked-unfit net initial = start-unfit net initial
+marked-unfit net initial = rw (start-unfit net initial) (counts-unfit net (looseFault net))
 
 -- so it is where the net is not sized, whatever else is lent
 pub unsized-unfit : (net : Net) (fits : Bool) → sizedNet net ≡ false → countsFault net fits ≡ countsFault net false
@@ -188,6 +215,15 @@ unsized-unfit net fits e = go (outside (net .places) || outside (net .transition
     go true b f q = refl
     go false true f q = refl
     go false false f q = never q
+
+pub start-unsized : (net : Net) (initial : List ℕ) (fits : Bool) → sizedNet net ≡ false → startFault net initial fits ≡ countsFault net false
+unfolding startFault
+start-unsized net initial fits u =
+    rw (unsized-unfit net (eqb (length initial) (net .places) && fits) u) (counts-unfit net (markingFault (net .caps) initial))
+
+pub marked-unsized : (net : Net) (initial : List ℕ) (fits : Bool) → sizedNet net ≡ false → markedFault net initial fits ≡ countsFault net false
+unfolding markedFault
+marked-unsized net initial fits u = rw (start-unsized net initial fits u) (counts-unfit net (looseFault net))
 
 -- which refusal of counts, lengths and the initial marking
 module _ (net : Net) (initial : List ℕ) (fits : Bool) where
@@ -211,14 +247,6 @@ module _ (net : Net) (initial : List ℕ) (fits : Bool) where
     caps-long q = counts-met net fits (sym e ∙ q) .sized .capped ∙ sym h
 
 pub ruleset start-faults = (start-misfit, start-faulty, start-marking)
-
-pub net-is : (net : Net) (fits : Bool) (r : Fault) → r ≡ countsFault net fits → r ≡ netFault net fits
-unfolding netFault
-net-is net fits r e = e
-
-pub marked-is : (net : Net) (initial : List ℕ) (fits : Bool) (r : Fault) → r ≡ startFault net initial fits → r ≡ markedFault net initial fits
-unfolding markedFault
-marked-is net initial fits r e = e
 
 pub fine-of : (caps m : List ℕ) → markingFault caps m ≡ Sound → Fine caps m
 unfolding markingFault
@@ -260,12 +288,65 @@ met-start net initial fits m =
 pub marked-met : (net : Net) (initial : List ℕ) (fits : Bool) → markedFault net initial fits ≡ Sound → MarkedMet net initial fits
 unfolding markedFault
 marked-met net initial fits e =
-    let m = start-met net initial fits e in
-    record { sized = m .sized; marked = m .marked; fitting = m .fitting; fine = m .fine }
+    let a = or-sound (startFault net initial fits) (looseFault net) e in
+    let m = start-met net initial fits (a .0) in
+    record { sized = m .sized; marked = m .marked; fitting = m .fitting; fine = m .fine; wired = loose-met net (a .1) }
 
 pub met-marked : (net : Net) (initial : List ℕ) (fits : Bool) → MarkedMet net initial fits → markedFault net initial fits ≡ Sound
 unfolding markedFault
-met-marked net initial fits m = met-start net initial fits (record { sized = m .sized; marked = m .marked; fitting = m .fitting; fine = m .fine })
+met-marked net initial fits m =
+    sound-or _ _ (met-start net initial fits (record { sized = m .sized; marked = m .marked; fitting = m .fitting; fine = m .fine })) (met-loose net (m .wired))
+
+-- which refusal of a node, from the nodes that were found
+module _ (P T p t : ℕ) where
+  pub node-place : (at : ℕ) → at ≡ p → p < P → Faulty 17 at ≡ orElse (refuse (ltb p P) 17 p) (refuse (ltb t T) 17 (countLimit + t))
+  node-place at e h = rw (e, lt-ltb p P h)
+
+  pub node-transition : (at : ℕ) → at ≡ countLimit + t → P ≤ p → t < T → Faulty 17 at ≡ orElse (refuse (ltb p P) 17 p) (refuse (ltb t T) 17 (countLimit + t))
+  node-transition at e h l = rw (e, le-ltb p P h, lt-ltb t T l)
+
+  pub node-none : P ≤ p → T ≤ t → Sound ≡ orElse (refuse (ltb p P) 17 p) (refuse (ltb t T) 17 (countLimit + t))
+  node-none h l = rw (le-ltb p P h, le-ltb t T l)
+
+pub ruleset nodes = (node-place, node-transition, node-none)
+
+pub loose-is : (net : Net) (p t : ℕ) (r : Fault) → p ≡ lowestLoosePlace net → t ≡ lowestLooseTransition net → r ≡ orElse (refuse (ltb p (net .places)) 17 p) (refuse (ltb t (net .transitions)) 17 (countLimit + t)) → r ≡ looseFault net
+unfolding looseFault
+loose-is net p t r a b e = rw (← a, ← b) e
+
+-- the lowest loose transition is none past them
+pub loose-few : (net : Net) (t : ℕ) → Sized net → t ≡ lowestLooseTransition net → (t ≤ net .transitions) × (net .transitions ≤ countLimit)
+loose-few net t z e = (rw e (first-most (looseTransition net) (net .transitions)), z .few-transitions)
+
+-- which refusal of a net: `found` is what the code found before it looked for loose nodes
+module _ (net : Net) (fits : Bool) (found : Fault) (e : found ≡ countsFault net fits) where
+  pub net-faulty : (n at : ℕ) → found ≡ Faulty n at → Faulty n at ≡ netFault net fits
+  unfolding netFault
+  net-faulty n at q = chain-first _ _ found n at e q
+
+  pub net-loose : (r : Fault) → found ≡ Sound → r ≡ looseFault net → r ≡ netFault net fits
+  unfolding netFault
+  net-loose r q k = chain-next _ _ found r e q k
+
+  pub net-sized : found ≡ Sound → Sized net
+  net-sized q = counts-met net fits (sym e ∙ q) .sized
+
+pub ruleset net-faults = (net-faulty, net-loose, net-sized)
+
+-- ... and of a net and its marking
+module _ (net : Net) (initial : List ℕ) (fits : Bool) (found : Fault) (e : found ≡ startFault net initial fits) where
+  pub marked-faulty : (n at : ℕ) → found ≡ Faulty n at → Faulty n at ≡ markedFault net initial fits
+  unfolding markedFault
+  marked-faulty n at q = chain-first _ _ found n at e q
+
+  pub marked-loose : (r : Fault) → found ≡ Sound → r ≡ looseFault net → r ≡ markedFault net initial fits
+  unfolding markedFault
+  marked-loose r q k = chain-next _ _ found r e q k
+
+  pub marked-sized : found ≡ Sound → Sized net
+  marked-sized q = start-met net initial fits (sym e ∙ q) .sized
+
+pub ruleset marked-faults = (marked-faulty, marked-loose, marked-sized)
 
 -- which refusal of a word
 module _ (n : ℕ) (w : List ℕ) where

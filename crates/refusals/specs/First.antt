@@ -1,10 +1,11 @@
 -- To be believed: "Exactly when": 01's table of refusals, read demand by demand. The first demand that does not hold gives its number and position.
-use Prim.Native.Nat.{ℕ, _*_, _≤_, _<_}
+use Prim.Native.Nat.{ℕ, _+_, _*_, _≤_, _<_}
 use mathlib.Core.Path.{_≡_}
 use mathlib.Core.List.{List}
 use lib.ListN.{length, getD}
 use Rattle.ground.specs.Limits.{countLimit, tokenLimit, wordLimit}
 use Rattle.net.specs.Net.{Net}
+use Rattle.wiring.specs.Wired.{PlaceWired, TransitionWired}
 use Rattle.refusals.specs.Given.{Fine, Letters}
 
 -- the demand does not hold, and what is given is `Given`; or it holds, and what comes next decides
@@ -23,6 +24,12 @@ pub record GivenAt (k : ℕ) (Demand : ℕ → Type 0) (count n at : ℕ) : Type
   pub here : at < count
   pub fails : Demand at → ⊥
   pub lowest : (p : ℕ) → p < at → Demand p
+
+-- n and at are as `Told` says, but that the position is so much above it
+pub record Above (base : ℕ) (Told : ℕ → ℕ → Type 0) (n at : ℕ) : Type 0 where
+  pub below : ℕ
+  pub position : at ≡ base + below
+  pub told : Told n below
 
 -- 1 unless both counts are in range
 pub record Counts (net : Net) : Type 0 where
@@ -48,9 +55,15 @@ pub record FineAt (caps m : List ℕ) (p : ℕ) : Type 0 where
 abbrev pub CountsFirst : Net → Type 0 → ℕ → ℕ → Type 0 → Type 0
 CountsFirst net Others n at Next = First (Counts net) (Given 1 0 n at) (First (Lengths net Others) (Given 2 0 n at) Next)
 
+-- loose nodes: 17 at the lowest place that has no arc; 17 at 64 plus the lowest transition that has none
+abbrev pub LooseFirst : Net → ℕ → ℕ → Type 0 → Type 0
+LooseFirst net n at Next =
+    First ((p : ℕ) → p < net .places → PlaceWired net p) (GivenAt 17 (PlaceWired net) (net .places) n at)
+    (First ((t : ℕ) → t < net .transitions → TransitionWired net t) (Above countLimit (GivenAt 17 (TransitionWired net) (net .transitions)) n at) Next)
+
 -- a net without a marking
 abbrev pub NetFirst : Net → Type 0 → ℕ → ℕ → Type 0 → Type 0
-NetFirst net Others n at Next = CountsFirst net Others n at Next
+NetFirst net Others n at Next = CountsFirst net Others n at (LooseFirst net n at Next)
 
 -- counts, lengths and the initial marking
 abbrev pub StartFirst : Net → List ℕ → Type 0 → ℕ → ℕ → Type 0 → Type 0
@@ -60,7 +73,7 @@ StartFirst net initial Others n at Next =
 
 -- a net and its marking
 abbrev pub MarkedFirst : Net → List ℕ → Type 0 → ℕ → ℕ → Type 0 → Type 0
-MarkedFirst net initial Others n at Next = StartFirst net initial Others n at Next
+MarkedFirst net initial Others n at Next = StartFirst net initial Others n at (LooseFirst net n at Next)
 
 -- a word over so many transitions: 4 unless it is not too long; 5, with the first letter that names no transition
 abbrev pub WordFirst : ℕ → List ℕ → ℕ → ℕ → Type 0 → Type 0

@@ -1,5 +1,5 @@
--- To be believed: what is lent, and the refusals that the entries share, "in number order": 1, 2 and 3 for a net and its marking, 4 and 5 for a word.
-use Prim.Native.Nat.{ℕ, _*_, _-_, _≤_, _<_}
+-- To be believed: what is lent, and the refusals that the entries share, "in number order": 1, 2, 3 and 17 for a net and its marking, 4 and 5 for a word.
+use Prim.Native.Nat.{ℕ, _+_, _*_, _-_, _≤_, _<_}
 use mathlib.Core.Bool.{Bool, true, false, not, _&&_, _||_}
 use mathlib.Core.List.{List}
 use lib.ListN.{length, getD, take, drop}
@@ -8,6 +8,7 @@ use Rattle.ground.specs.Limits.{countLimit, tokenLimit, wordLimit}
 use Rattle.ground.specs.Lists.{first}
 use Rattle.net.specs.Net.{Net}
 use Rattle.net.specs.Letter.{Small}
+use Rattle.wiring.specs.Wired.{lowestLoosePlace, lowestLooseTransition}
 use Rattle.refusals.specs.declared.Fault.{Fault}
 use Rattle.refusals.specs.declared.Fault.the-variants.{Sound, Faulty}
 
@@ -42,15 +43,21 @@ tokenBad cap tokens = ltb tokenLimit tokens || ltb cap tokens
 abbrev pub badToken : List ℕ → List ℕ → ℕ
 badToken caps m = first (λ p. tokenBad (getD caps p 0) (getD m p 0)) (length m)
 
--- The chain of refusals that the questions share, in four names, so that a refusal more stands in one of them:
+-- The chain of refusals that the questions share, in five names, so that a refusal more stands in one of them:
 -- what is wrong with counts and lengths, 1 and 2; `fits` tells whether the lengths of all else that is lent agree with the counts
 unfoldable pub countsFault : Net → Bool → Fault
 countsFault net fits =
     orElse (refuse (outside (net .places) || outside (net .transitions)) 1 0) (refuse (misfit net || not fits) 2 0)
 
+-- 17, document 02, E4: "position the lowest loose place, else 64 plus the lowest loose transition"
+unfoldable pub looseFault : Net → Fault
+looseFault net =
+    orElse (refuse (ltb (lowestLoosePlace net) (net .places)) 17 (lowestLoosePlace net))
+    (refuse (ltb (lowestLooseTransition net) (net .transitions)) 17 (countLimit + lowestLooseTransition net))
+
 -- with a net, for questions without a marking
 unfoldable pub netFault : Net → Bool → Fault
-netFault net fits = countsFault net fits
+netFault net fits = orElse (countsFault net fits) (looseFault net)
 
 -- refusal 3 for a marking
 unfoldable pub markingFault : List ℕ → List ℕ → Fault
@@ -61,9 +68,9 @@ unfoldable pub startFault : Net → List ℕ → Bool → Fault
 startFault net initial fits =
     orElse (countsFault net (eqb (length initial) (net .places) && fits)) (markingFault (net .caps) initial)
 
--- with a net and its marking, for questions with one marking
+-- with a net and its marking, for questions with one marking; 17 "after 3 and before 4"
 unfoldable pub markedFault : Net → List ℕ → Bool → Fault
-markedFault net initial fits = startFault net initial fits
+markedFault net initial fits = orElse (startFault net initial fits) (looseFault net)
 
 -- the letters from number a up to number b, and that they are inside the word
 abbrev pub stretch : List ℕ → ℕ → ℕ → List ℕ

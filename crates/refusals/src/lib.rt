@@ -4,12 +4,12 @@ use ground::TOKEN_LIMIT;
 use ground::WORD_LIMIT;
 use ground::Weight;
 ghost use mathlib.Core.Path.{_≡_};
-ghost use Prim.Native.Nat.{_≤_};
-ghost use lib.Dec.{leb};
+ghost use Prim.Native.Nat.{_+_, _≤_};
+ghost use lib.Dec.{leb, ltb};
 ghost use lib.ListN.{length};
 ghost use Rattle.ground.specs.Limits.{countLimit};
-ghost use Rattle.net.specs.Net.{netOf};
-ghost use Rattle.refusals.specs.Given.{outside, misfit, sizedNet, tokenBad, badToken, countsFault, netFault, markingFault, startFault, markedFault, badLetter, wordFault};
+ghost use Rattle.net.specs.Net.{netOf, Sized};
+ghost use Rattle.refusals.specs.Given.{refuse, orElse, outside, misfit, sizedNet, tokenBad, badToken, countsFault, looseFault, netFault, markingFault, startFault, markedFault, badLetter, wordFault};
 
 // Whether what was lent can be used, else a refusal's number and position.
 pub enum Fault {
@@ -120,6 +120,37 @@ pub fn counts_fault(
     }
 }
 
+// Refusal 17 from what was found: the lowest loose place, else 64 and the lowest loose transition.
+fn loose_node(places: usize, transitions: usize, p: usize, t: usize) -> Fault
+    requires { ⌜ (t ≤ transitions) × (transitions ≤ countLimit) ⌝ }
+    ensures { λ r. ⌜ r ≡ orElse (refuse (ltb p places) 17 p) (refuse (ltb t transitions) 17 (countLimit + t)) ⌝ }
+{
+    let above = COUNT_LIMIT + t;
+    if p < places {
+        return Fault::Faulty(17, p);
+    }
+    if t < transitions {
+        return Fault::Faulty(17, above);
+    }
+    Fault::Sound
+}
+
+// Refusal 17: a place or a transition without an arc.
+pub fn loose_fault(
+    places: usize,
+    transitions: usize,
+    pre: &[Weight],
+    post: &[Weight],
+    caps: &[u16],
+) -> Fault
+    requires { ⌜ Sized (netOf places transitions (now pre) (now post) (now caps)) ⌝ }
+    ensures { λ r. ⌜ r ≡ looseFault (netOf places transitions (now (pre .entry)) (now (post .entry)) (now (caps .entry))) ⌝ }
+{
+    let p = wiring::loose_place(places, transitions, pre, post, caps);
+    let t = wiring::loose_transition(places, transitions, pre, post, caps);
+    loose_node(places, transitions, p, t)
+}
+
 // What is wrong with a net, for questions without a marking.
 pub fn net_fault(
     places: usize,
@@ -131,7 +162,11 @@ pub fn net_fault(
 ) -> Fault
     ensures { λ r. ⌜ r ≡ netFault (netOf places transitions (now (pre .entry)) (now (post .entry)) (now (caps .entry))) fits ⌝ }
 {
-    counts_fault(places, transitions, pre, post, caps, fits)
+    let sizes = counts_fault(places, transitions, pre, post, caps, fits);
+    match sizes {
+        Fault::Faulty(number, at) => Fault::Faulty(number, at),
+        Fault::Sound => loose_fault(places, transitions, pre, post, caps),
+    }
 }
 
 // Refusal 3 for a marking.
@@ -182,7 +217,11 @@ pub fn marked_fault(
 ) -> Fault
     ensures { λ r. ⌜ r ≡ markedFault (netOf places transitions (now (pre .entry)) (now (post .entry)) (now (caps .entry))) (now (initial .entry)) fits ⌝ }
 {
-    start_fault(places, transitions, pre, post, caps, initial, fits)
+    let found = start_fault(places, transitions, pre, post, caps, initial, fits);
+    match found {
+        Fault::Faulty(number, at) => Fault::Faulty(number, at),
+        Fault::Sound => loose_fault(places, transitions, pre, post, caps),
+    }
 }
 
 // Whether a letter names no transition.

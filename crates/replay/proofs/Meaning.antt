@@ -68,12 +68,12 @@ module _ (net : Net) (initial w : List ℕ) (within : Bool) (room : List ℕ) wh
   allowed-of e =
       let s = sane-of net initial w (eqb (length room) (net .places) && within) e in
       let f = and-true (eqb (length room) (net .places)) within (s .fitting) in
-      record { sized = s .sized; marked = s .marked; roomy = eqb-true _ _ (f .0); inside = f .1; fine = s .fine; short = s .short; letters = s .letters }
+      record { sized = s .sized; marked = s .marked; roomy = eqb-true _ _ (f .0); inside = f .1; fine = s .fine; wired = s .wired; short = s .short; letters = s .letters }
 
   of-allowed : Allowed net initial w within room → replayFault net initial w (eqb (length room) (net .places) && within) ≡ Sound
   of-allowed a =
       sane-is net initial w (eqb (length room) (net .places) && within)
-      (record { sized = a .sized; marked = a .marked; fitting = rw (eq-eqb _ _ (a .roomy)) (a .inside); fine = a .fine; short = a .short; letters = a .letters })
+      (record { sized = a .sized; marked = a .marked; fitting = rw (eq-eqb _ _ (a .roomy)) (a .inside); fine = a .fine; wired = a .wired; short = a .short; letters = a .letters })
 
   module _ (r : Replay) (room′ : List ℕ) (p : Replayed net initial w within room r room′) where
     answer-is : r ≡ replayOf net initial w within room .answer

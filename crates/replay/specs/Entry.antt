@@ -1,4 +1,4 @@
--- To be believed: the public replay: refusals 1 to 5 "in number order", else the replay from the initial marking.
+-- To be believed: the public replay: refusals 1, 2, 3, 17, 4 and 5 in order, else the replay from the initial marking.
 use Prim.Native.Nat.{ℕ, _≤_, _<_}
 use mathlib.Core.Path.{_≡_}
 use mathlib.Core.Bool.{Bool, true, _&&_}
@@ -8,6 +8,7 @@ use lib.Dec.{eqb}
 use Rattle.ground.specs.Limits.{wordLimit}
 use Rattle.net.specs.Net.{Net, Sized}
 use Rattle.net.specs.Firing.{Fires, causeNumber, causeValues}
+use Rattle.wiring.specs.Wired.{Wired}
 use Rattle.refusals.specs.Given.{orElse, markedFault, wordFault, Fine, Letters}
 use Rattle.refusals.specs.First.{MarkedFirst, WordFirst}
 use Rattle.refusals.specs.declared.Fault.{Fault}
@@ -16,7 +17,7 @@ use Rattle.replay.specs.Replay.{Ran, playFrom}
 use Rattle.replay.specs.declared.Replay.{Replay}
 use Rattle.replay.specs.declared.Replay.the-variants.{Fired, Blocked, Refused}
 
--- 1, 2, 3, then 4 and 5; `fits` tells whether the room's length and the stretch's ends are right
+-- 1, 2, 3 and 17, then 4 and 5; `fits` tells whether the room's length and the stretch's ends are right
 unfoldable pub replayFault : Net → List ℕ → List ℕ → Bool → Fault
 replayFault net initial w fits = orElse (markedFault net initial fits) (wordFault (net .transitions) w)
 
@@ -49,6 +50,7 @@ pub record Allowed (net : Net) (initial w : List ℕ) (within : Bool) (room : Li
   pub roomy : length room ≡ net .places
   pub inside : within ≡ true
   pub fine : Fine (net .caps) initial
+  pub wired : Wired net
   pub short : length w ≤ wordLimit
   pub letters : Letters (net .transitions) w
 

@@ -3,7 +3,8 @@
 use mathlib.Core.Path.{_≡_, refl}
 use mathlib.Core.Bool.{true}
 use Rattle.ground.specs.Lists.{first, tally, mapAt}
-use Rattle.refusals.specs.Given.{countsFault, markingFault, startFault}
+use Rattle.wiring.specs.Wired.{loosePlace, looseTransition}
+use Rattle.refusals.specs.Given.{countsFault, looseFault, markingFault, startFault}
 use Rattle.refusals.specs.declared.Fault.the-variants.{Sound}
 use Rattle.lists.specs.Some.{some, none}
 use Rattle.list_refusals.specs.Given.{firstBad, entryFault, sizeFault, listFault}
@@ -18,5 +19,5 @@ use Rattle.samples.specs.Samples.{net, initial}
 use Rattle.samples.specs.Edges.{allTwelve, struckOut}
 
 pub edges : (listOf Closed net initial allTwelve true Sound ≡ Accepted) × (listOf Closed net initial struckOut true Sound ≡ Failed (ResultMissing 5 0))
-unfolding first tally mapAt countsFault markingFault startFault some none firstBad entryFault sizeFault listFault matches resultsOf lookedOf absent givenFault listOf
+unfolding first tally mapAt countsFault looseFault loosePlace looseTransition markingFault startFault some none firstBad entryFault sizeFault listFault matches resultsOf lookedOf absent givenFault listOf
 edges = (refl, refl)

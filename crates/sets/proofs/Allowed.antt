@@ -45,13 +45,13 @@ module _ (net : Net) (s : List ℕ) where
   allowed-of e =
       let a = or-sound (netFault net (eqb (length s) (net .places))) (refuse (noPlaces s) 8 0) e in
       let m = net-met net (eqb (length s) (net .places)) (a .0) in
-      record { sized = m .sized; long = eqb-true (length s) (net .places) (m .fitting); some = some-of s (refuse-sound (noPlaces s) 8 0 (a .1)) }
+      record { sized = m .sized; long = eqb-true (length s) (net .places) (m .fitting); wired = m .wired; some = some-of s (refuse-sound (noPlaces s) 8 0 (a .1)) }
 
   pub of-allowed : Allowed net s → setFault net s ≡ Sound
   unfolding setFault
   of-allowed a =
       sound-or (netFault net (eqb (length s) (net .places))) (refuse (noPlaces s) 8 0)
-      (met-net net (eqb (length s) (net .places)) (record { sized = a .sized; fitting = eq-eqb (length s) (net .places) (a .long) }))
+      (met-net net (eqb (length s) (net .places)) (record { sized = a .sized; fitting = eq-eqb (length s) (net .places) (a .long); wired = a .wired }))
       (sound-refuse (noPlaces s) 8 0 (of-some s (a .some)))
 
   pub set-chain : Chain (setFault net s) (Refusal net s)

@@ -37,7 +37,7 @@ turned net = netOf (net .places) (net .transitions) (net .post) (net .pre) (net 
 abbrev pub noPlaces : List ℕ → Bool
 noPlaces s = leb (length s) (first (λ p. ltb 0 (getD s p 0)) (length s))
 
--- refusals 1 and 2, then 8
+-- refusals 1, 2 and 17, then 8
 unfoldable pub setFault : Net → List ℕ → Fault
 setFault net s = orElse (netFault net (eqb (length s) (net .places))) (refuse (noPlaces s) 8 0)
 

@@ -85,7 +85,7 @@ fn lowest_escape(
     t
 }
 
-// Refusals 1, 2 and 8 for a set. A set as its own row of arcs has one at each of its places.
+// Refusals 1, 2, 17 and 8 for a set. A set as its own row of arcs has one at each of its places.
 fn set_fault(
     places: usize,
     transitions: usize,

@@ -4,6 +4,7 @@ use mathlib.Core.List.{List}
 use lib.ListN.{length}
 use Rattle.ground.specs.Limits.{wordLimit}
 use Rattle.net.specs.Net.{Net, Sized}
+use Rattle.wiring.specs.Wired.{Wired}
 use Rattle.refusals.specs.Given.{stretch, Letters}
 use Rattle.refusals.specs.First.{First, Given, NetFirst, WordFirst}
 use Rattle.summary_form.specs.Summary.{Count}
@@ -18,6 +19,7 @@ EmptyRefusal P n at = First (Count P) (Given 1 0 n at) ⊥
 -- ---- a word's summary
 pub record WordAllowed (net : Net) (w : List ℕ) : Type 0 where
   pub sized : Sized net
+  pub wired : Wired net
   pub short : length w ≤ wordLimit
   pub letters : Letters (net .transitions) w
 
@@ -35,6 +37,7 @@ pub record Inside (w : List ℕ) (a b : ℕ) : Type 0 where
 pub record StretchAllowed (net : Net) (w : List ℕ) (a b : ℕ) : Type 0 where
   pub sized : Sized net
   pub inside : Inside w a b
+  pub wired : Wired net
   pub short : length (stretch w a b) ≤ wordLimit
   pub letters : Letters (net .transitions) (stretch w a b)
 

@@ -95,6 +95,7 @@ module _ (net : Net) (light : Light net) (m w room : List ℕ) (allowed : Allowe
         roomy = allowed .roomy;
         counted = refl;
         fine = allowed .fine;
+        wired = allowed .wired;
         formed = word-well-formed net w (allowed .sized) light (allowed .short) .formed;
       }
 

@@ -4,6 +4,7 @@ use mathlib.Core.Path.{_≡_}
 use mathlib.Core.List.{List}
 use lib.ListN.{length}
 use Rattle.net.specs.Net.{Net, Sized}
+use Rattle.wiring.specs.Wired.{Wired}
 use Rattle.refusals.specs.Given.{Fine}
 use Rattle.refusals.specs.First.{First, Given, MarkedFirst}
 use Rattle.summary_form.specs.Summary.{WellFormed, Count}
@@ -17,6 +18,7 @@ pub record AskAllowed (net : Net) (m : List ℕ) (s : Summary) (room : List ℕ)
   pub roomy : length room ≡ net .places
   pub counted : s .places ≡ net .places
   pub fine : Fine (net .caps) m
+  pub wired : Wired net
   pub formed : WellFormed s
 
 -- 1 for the summary's own place count too

@@ -9,7 +9,7 @@ use lib.Dec.{eqb}
 use Rattle.ground.specs.Limits.{countLimit}
 use Rattle.ground.proofs.Fill.{table-length}
 use Rattle.file_line.specs.declared.Reading.{Reading}
-use Rattle.file_line.specs.Read.{Rooms}
+use Rattle.file_line.specs.Read.{Rooms, netIn}
 use Rattle.file_parts.specs.declared.Case.{Case}
 use Rattle.file_parts.specs.declared.Case.the-variants as file
 use Rattle.file_parts.specs.Held.{GoodCase}
@@ -27,7 +27,7 @@ use Rattle.replay.proofs.Meaning.{numbers-apart, answered-allowed, blocked-caus
 use Rattle.verdict_text.specs.Verdict.{bytesOf, answerLimit, WrittenBytes}
 use Rattle.verdict_text.specs.Walk.{Placed}
 use Rattle.verdict_text.proofs.Answers.{line-few}
-use Rattle.file_text.specs.Text.{netIn, markingIn, wordIn}
+use Rattle.file_text.specs.Text.{markingIn, wordIn}
 use Rattle.verdict_line.specs.Answer.{roomFor, answerFor}
 
 -- a cause names one of the net's places

@@ -10,7 +10,7 @@ use Rattle.file_digits.specs.Frame.{allDigits, lineFeed}
 use Rattle.file_put.specs.Put.{digitsOf, lineText}
 use Rattle.file_digits.proofs.Bytes.{Below}
 use Rattle.file_line.specs.declared.Reading.{Reading}
-use Rattle.file_line.specs.Read.{Rooms, fresh}
+use Rattle.file_line.specs.Read.{Rooms, fresh, netIn}
 use Rattle.file_line.specs.Walk.{Large}
 use Rattle.file_parts.specs.declared.Case.{Case}
 use Rattle.file_parts.specs.declared.Case.the-variants as file
@@ -22,7 +22,7 @@ use Rattle.replay.specs.declared.Replay.the-variants.{Fired, Refused}
 use Rattle.replay.proofs.Meaning.{allowed-answered, fires-fired}
 use Rattle.verdict_text.specs.Verdict.{bytesOf}
 use Rattle.verdict_text.proofs.Meaning.{bytes-below}
-use Rattle.file_text.specs.Text.{netIn, markingIn, wordIn}
+use Rattle.file_text.specs.Text.{markingIn, wordIn}
 use Rattle.file_put.proofs.Round.{digits-all}
 use Rattle.file_text.proofs.Meaning.{limited-allowed, read-file}
 use Rattle.verdict_line.specs.Answer.{roomFor, ranRead, answerFor, lineFor, lineAt, fileLine}

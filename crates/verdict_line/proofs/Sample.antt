@@ -3,12 +3,13 @@ use Prim.Native.Nat.{ℕ}
 use mathlib.Core.Path.{_≡_, refl, sym, ap, _∙_}
 use mathlib.Core.List.{List, [], _∷_, _++_}
 use Rattle.ground.specs.Lists.{first, tally, mapAt, table}
-use Rattle.refusals.specs.Given.{countsFault, netFault, markingFault, startFault, markedFault, wordFault}
+use Rattle.wiring.specs.Wired.{loosePlace, looseTransition}
+use Rattle.refusals.specs.Given.{countsFault, looseFault, netFault, markingFault, startFault, markedFault, wordFault}
 use Rattle.file_digits.specs.Frame.{lineFeed, valueOf, isDigit, allDigits, byteAt, bytesFrom, wordsFrom}
 use Rattle.file_put.specs.Put.{digitOf, digitsOf, four, fours}
 use Rattle.file_line.specs.declared.Reading.{Reading}
 use Rattle.file_line.specs.declared.Took.the-variants.{Next}
-use Rattle.file_line.specs.Read.{Rooms, fresh, ruleOf, formedKind, formedOf, judgeOf, advancedKind, storedKind, lineOf, roomsOf, rooms}
+use Rattle.file_line.specs.Read.{Rooms, fresh, ruleOf, formedKind, formedOf, hangsLoose, judgeOf, advancedKind, storedKind, lineOf, roomsOf, rooms}
 use Rattle.file_parts.specs.File.{both, going, feedAll, finishOf, caseOf, lineLen, NoFeed}
 use Rattle.file_parts.proofs.Line.{next-line}
 use Rattle.replay.specs.Replay.{playFrom}
@@ -115,7 +116,7 @@ module _ (caps initial pre post word : List ℕ) where
   read5 = step state4 state5 rooms4 rooms5 line5 (line6 ++ lineFeed ∷ (line7 ++ lineFeed ∷ [])) refl refl refl
 
   read6 : feedAll (both (going state5 []) rooms5) (line6 ++ lineFeed ∷ (line7 ++ lineFeed ∷ [])) ≡ feedAll (both (going state6 []) rooms6) (line7 ++ lineFeed ∷ [])
-  unfolding lineLen valueOf isDigit allDigits byteAt bytesFrom wordsFrom first ruleOf formedKind formedOf judgeOf advancedKind storedKind lineOf roomsOf
+  unfolding lineLen valueOf isDigit allDigits byteAt bytesFrom wordsFrom first ruleOf formedKind formedOf loosePlace looseTransition hangsLoose judgeOf advancedKind storedKind lineOf roomsOf
   read6 = step state5 state6 rooms5 rooms6 line6 (line7 ++ lineFeed ∷ []) refl refl refl
 
   read7 : feedAll (both (going state6 []) rooms6) (line7 ++ lineFeed ∷ []) ≡ feedAll (both (going state7 []) rooms7) []
@@ -124,5 +125,5 @@ module _ (caps initial pre post word : List ℕ) where
 
   -- whatever the rooms hold beyond the case
   pub sample : fileLine file rooms0 ≡ answer
-  unfolding feedAll finishOf caseOf first tally mapAt table countsFault netFault markingFault startFault markedFault wordFault digitOf digitsOf playFrom replayFault four fours
+  unfolding feedAll finishOf caseOf first tally mapAt table countsFault looseFault loosePlace looseTransition netFault markingFault startFault markedFault wordFault digitOf digitsOf playFrom replayFault four fours
   sample = ap lineAt (read1 ∙ read2 ∙ read3 ∙ read4 ∙ read5 ∙ read6 ∙ read7) ∙ refl

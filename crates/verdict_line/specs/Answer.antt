@@ -4,11 +4,11 @@ use mathlib.Core.Bool.{true}
 use mathlib.Core.List.{List, []}
 use Rattle.ground.specs.Lists.{table}
 use Rattle.file_line.specs.declared.Reading.{Reading}
-use Rattle.file_line.specs.Read.{Rooms}
+use Rattle.file_line.specs.Read.{Rooms, netIn}
 use Rattle.file_parts.specs.declared.Case.{Case}
 use Rattle.file_parts.specs.declared.Case.the-variants as file
 use Rattle.file_parts.specs.File.{Both, readOf, caseOf}
-use Rattle.file_text.specs.Text.{netIn, markingIn, wordIn}
+use Rattle.file_text.specs.Text.{markingIn, wordIn}
 use Rattle.replay.specs.Replay.{Ran}
 use Rattle.replay.specs.Entry.{replayOf}
 use Rattle.replay.specs.declared.Replay.the-variants.{Refused}

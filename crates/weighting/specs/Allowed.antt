@@ -5,6 +5,7 @@ use mathlib.Core.List.{List}
 use lib.ListN.{length}
 use lib.IntN.{ℤ}
 use Rattle.net.specs.Net.{Net, Sized}
+use Rattle.wiring.specs.Wired.{Wired}
 use Rattle.refusals.specs.First.{First, Given, NetFirst}
 use Rattle.weighting_sums.specs.Allowed.{SomeEntry}
 
@@ -12,6 +13,7 @@ use Rattle.weighting_sums.specs.Allowed.{SomeEntry}
 pub record Allowed (net : Net) (n : ℕ) (y : List ℤ) : Type 0 where
   pub sized : Sized net
   pub long : length y ≡ n
+  pub wired : Wired net
   pub some : SomeEntry y
 
 -- else the refusal of the first demand that does not hold

@@ -28,6 +28,7 @@ module _ (net : Net) (initial : List ℕ) (y : List ℤ) (p : ℕ) where
         marked = m .marked;
         long = eqb-true (length y) (net .places) (m .fitting);
         fine = m .fine;
+        wired = m .wired;
         some = some-of y (refuse-sound (allZero y) 8 0 (b .0));
         below = leb-false (net .places) p (refuse-sound (leb (net .places) p) 13 0 (b .1));
       }
@@ -35,7 +36,7 @@ module _ (net : Net) (initial : List ℕ) (y : List ℤ) (p : ℕ) where
   pub of-bound-allowed : BoundAllowed net initial y p → boundFault net initial y p ≡ Sound
   of-bound-allowed a =
       sound-or (markedFault net initial (eqb (length y) (net .places))) (orElse (refuse (allZero y) 8 0) (refuse (leb (net .places) p) 13 0))
-      (met-marked net initial (eqb (length y) (net .places)) (record { sized = a .sized; marked = a .marked; fitting = eq-eqb (length y) (net .places) (a .long); fine = a .fine }))
+      (met-marked net initial (eqb (length y) (net .places)) (record { sized = a .sized; marked = a .marked; fitting = eq-eqb (length y) (net .places) (a .long); fine = a .fine; wired = a .wired }))
       (sound-or (refuse (allZero y) 8 0) (refuse (leb (net .places) p) 13 0) (sound-refuse (allZero y) 8 0 (of-some y (a .some))) (sound-refuse (leb (net .places) p) 13 0 (lt-leb (net .places) p (a .below))))
 
   pub bound-chain : Chain (boundFault net initial y p) (BoundRefusal net initial y p)

@@ -5,6 +5,7 @@ use mathlib.Core.List.{List}
 use lib.ListN.{length}
 use lib.IntN.{ℤ}
 use Rattle.net.specs.Net.{Net, Sized}
+use Rattle.wiring.specs.Wired.{Wired}
 use Rattle.refusals.specs.Given.{Fine}
 use Rattle.refusals.specs.First.{First, Given, MarkedFirst}
 use Rattle.weighting_sums.specs.Allowed.{SomeEntry}
@@ -15,6 +16,7 @@ pub record BoundAllowed (net : Net) (initial : List ℕ) (y : List ℤ) (p : ℕ
   pub marked : length initial ≡ net .places
   pub long : length y ≡ net .places
   pub fine : Fine (net .caps) initial
+  pub wired : Wired net
   pub some : SomeEntry y
   pub below : p < net .places
 

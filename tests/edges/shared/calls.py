@@ -86,6 +86,36 @@ def value(lent):
     return written(list(lent)) if isinstance(lent, (list, tuple, range)) else str(lent)
 
 
+def loose(P, T, pre, post):
+    """Refusal 17 of a net, as (17, position), or None: "a net in which some place or transition has no arc is refused", "position
+    the lowest loose place, else 64 plus the lowest loose transition" (02, E4)."""
+    arcs = {(k % P, k // P) for k in range(P * T) if pre[k] or post[k]}
+    places, transitions = {p for p, t in arcs}, {t for p, t in arcs}
+    hanging = [p for p in range(P) if p not in places] + [64 + t for t in range(T) if t not in transitions]
+    return (17, hanging[0]) if hanging else None
+
+
+# Nets with a loose node: what is loose, P, T, Pre and Post. Those of three places are the net of 01's case without some of its
+# arcs, the others as large as can be; the first transition of these takes from all places, the others from place 0.
+EMPTY, FIRST = [0] * 64, [1] + [0] * 63
+LOOSE = [
+    ("the first place", 3, 3, [0, 0, 0, 0, 1, 0, 0, 0, 3], [0, 1, 0, 0, 0, 2, 0, 0, 0]),
+    ("place 1", 3, 3, [1, 0, 0, 0, 0, 0, 0, 0, 3], [0, 0, 0, 1, 0, 2, 0, 0, 0]),
+    ("the last place", 3, 3, [1, 0, 0, 0, 1, 0, 1, 0, 0], [0, 1, 0, 1, 0, 0, 0, 0, 0]),
+    ("the first transition", 3, 3, [0, 0, 0, 0, 1, 0, 0, 0, 3], [0, 0, 0, 1, 0, 2, 0, 0, 0]),
+    ("transition 1", 3, 3, [1, 0, 0, 0, 0, 0, 0, 0, 3], [0, 1, 0, 0, 0, 0, 0, 0, 0]),
+    ("the last transition", 3, 3, [1, 0, 0, 0, 1, 0, 0, 0, 0], [0, 1, 0, 1, 0, 2, 0, 0, 0]),
+    ("the last place and the first transition: the place", 3, 3, [0, 0, 0, 0, 1, 0, 1, 0, 0], [0, 0, 0, 1, 0, 0, 0, 0, 0]),
+    ("places 1 and 2: the lower", 3, 3, [1, 0, 0] * 3, [0] * 9),
+    ("transitions 1 and 2: the lower", 3, 3, [1] + [0] * 8, [0, 1, 2] + [0] * 6),
+    ("all", 3, 3, [0] * 9, [0] * 9),
+    ("place 63", 64, 64, [1] * 63 + [0] + FIRST * 63, EMPTY * 64),
+    ("transition 63", 64, 64, [1] * 64 + FIRST * 62 + EMPTY, EMPTY * 64),
+]
+# Nets of one place and one transition that hang together by one arc, or by a loop.
+WIRED = [("only taken from", 1, 1, [1], [0]), ("only put into", 1, 1, [0], [1]), ("a loop", 1, 1, [1], [1])]
+
+
 def net(P, T, pre, post, caps):
     return {"places": P, "transitions": T, "pre": pre, "post": post, "caps": caps}
 

@@ -1,6 +1,6 @@
-"""What closed.py and cover.py share, from document 01's "Marking lists" and its refusal table."""
+"""What closed.py and cover.py share, from document 01's "Marking lists" and its refusal table, with 17 of document 02."""
 
-from shared.calls import NONE, call, net as lent_net
+from shared.calls import NONE, call, loose, net as lent_net
 
 
 class Net:
@@ -35,6 +35,8 @@ def refusal(net, initial, flat, target, given):
     for p, tokens in enumerate(target or ()):
         if tokens == 65535:
             return 3, p
+    if loose(P, T, net.pre, net.post):
+        return loose(P, T, net.pre, net.post)
     if not 1 <= len(flat) // P <= 4096:
         return 9, 0
     return None
@@ -72,4 +74,4 @@ def one_place(takes, puts, cap):
 
 
 def counted_net(P, T, arcs):
-    return Net(P, T, [0] * arcs, [0] * arcs, [9])
+    return Net(P, T, [1] * arcs, [1] * arcs, [9])

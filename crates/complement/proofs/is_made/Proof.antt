@@ -1,27 +1,33 @@
-use native.Mathlib.Omega.{arith}
-use lib.ListN.{getD}
-use denote.Ref.{now}
-use borrow.Author.Tests.{ltb-true, ltb-false, leb-true, leb-false}
-use Rattle.ground.specs.Limits.{noCapacity}
-use Rattle.ground.proofs.Tests.{below-is}
-use Rattle.complement.specs.Complement.{made}
+use Rattle.complement.proofs.Changes.{mades}
 use borrow.Author.Needs.{needs}
 use Rattle.complement.proofs.is_made.Statement.{statement}
 use Rattle.complement.proofs.is_made.Tie as tie
 
-mul-result : tie.Need-mul-result
-mul-result c = search needs
+mul-cap : tie.Need-mul-cap
+mul-cap c = search needs
 
-shared-slice-read-result : tie.Need-shared-slice-read-result
-shared-slice-read-result c = search needs
+shared-slice-read-cap : tie.Need-shared-slice-read-cap
+shared-slice-read-cap c = search needs
+
+is-capped-requires : tie.Need-is-capped-requires
+is-capped-requires c κs = search needs
+
+is-changed-requires : tie.Need-is-changed-requires
+is-changed-requires c κs = search needs
 
 returns : tie.Need-returns
-unfolding made
-returns c =
-    let s : tie.Start = search needs in
-    below-is _ (getD (now (s .args .caps)) (s .args .p) 0) noCapacity
-    (λ h. omega (arith, ltb-true, leb-true))
-    (λ h. omega (arith, ltb-false, leb-false))
+returns c = search (mades, needs)
+
+returns-2 : tie.Need-returns-2
+returns-2 c = search (mades, needs)
 
 pub is-made-spec : {M : Type 1} → statement M
-is-made-spec = tie.close (tie.spec mul-result shared-slice-read-result returns)
+is-made-spec =
+    tie.close
+    (tie.spec
+    mul-cap
+    shared-slice-read-cap
+    is-capped-requires
+    is-changed-requires
+    returns
+    returns-2)

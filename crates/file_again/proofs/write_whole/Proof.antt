@@ -1,7 +1,7 @@
 use denote.Ref.{now}
 use native.Mathlib.Omega.{arith}
 use Rattle.file_line.specs.Read.{rooms}
-use Rattle.file_text.proofs.Fronts.{cells-few, front-long}
+use Rattle.file_line.proofs.Hanging.{cells-few, front-long}
 use Rattle.file_again.proofs.Again.{whole-again}
 use borrow.Author.Needs.{needs}
 use Rattle.file_again.proofs.write_whole.Statement.{statement}

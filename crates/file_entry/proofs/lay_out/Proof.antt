@@ -1,7 +1,7 @@
 use Prim.Native.Nat.{_*_}
 use denote.Ref.{now}
 use native.Mathlib.Omega.{arith}
-use Rattle.file_text.proofs.Fronts.{cells-few, front-long}
+use Rattle.file_line.proofs.Hanging.{cells-few, front-long}
 use Rattle.file_entry.proofs.Fronts.{part-fits, rooms-same}
 use borrow.Author.Needs.{needs}
 use Rattle.file_entry.proofs.lay_out.Statement.{statement}

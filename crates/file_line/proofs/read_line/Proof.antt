@@ -1,11 +1,11 @@
 use denote.Ref.{now}
-use mathlib.Core.Path.{_≡_, sym, _∙_, ap}
+use mathlib.Core.Path.{_≡_, sym, _∙_}
+use native.Mathlib.Omega.{arith}
 use Rattle.refusals.specs.declared.Fault.the-variants.{Sound}
-use Rattle.file_line.specs.declared.Took.the-variants.{Next}
 use Rattle.file_line.specs.Read.{Rooms, rooms}
-use Rattle.file_line.proofs.Judging.{judge-caps}
-use Rattle.file_line.proofs.Accept.{accepted}
-use Rattle.file_line.proofs.Meaning.{judged-number, taken-line, refused-line}
+use Rattle.file_line.proofs.Judging.{asked-refused, stored-took, stored-rooms}
+use Rattle.file_line.proofs.Accept.{asked-accepted}
+use Rattle.file_line.proofs.Meaning.{judged-number, refused-line}
 use borrow.Author.Needs.{needs}
 use Rattle.file_line.proofs.read_line.Statement.{statement}
 use Rattle.file_line.proofs.read_line.Tie as tie
@@ -41,13 +41,22 @@ store-requires c κs =
     let t = told c in
     let j = t .before .before in
     let p = start j .pre in
-    (p .0, accepted _ _ _ (sym (j .judge .ensures) ∙ sound t), p .1)
+    (p .0, asked-accepted _ _ _ (sym (j .judge .ensures) ∙ sound t), p .1)
 
-advance-requires : tie.Need-advance-requires
-advance-requires c κs =
-    let t = told (stored-to c .before) in
+take-line-requires : tie.Need-take-line-requires
+take-line-requires c κs =
+    let k = stored-to (c .before .before .before) in
+    let t = told (k .before) in
     let j = t .before .before in
-    (start j .pre .0, accepted _ _ _ (sym (j .judge .ensures) ∙ sound t))
+    let p = start j .pre in (
+      p .0,
+      asked-accepted _ _ _ (sym (j .judge .ensures) ∙ sound t),
+      record {
+        caps = omega (arith, p .1 .caps, k .store .kept .1 .1 .0);
+        pre = omega (arith, p .1 .pre, k .store .kept .1 .1 .1 .1 .0);
+        post = omega (arith, p .1 .post, k .store .kept .1 .1 .1 .1 .1 .0);
+      },
+    )
 
 same-length : tie.Need-same-length
 same-length c = search needs
@@ -57,10 +66,10 @@ returns c =
     let j = c .before .before .before in
     let s = start j in
     let x = found s in
-    let e = judge-caps (s .args .s) (now (s .args .d)) x (j .judge .result) (j .judge .ensures) ∙ c .before .fault .given .1 in
-    let l = refused-line (s .args .s) (now (s .args .d)) x _ _ e in
-    let n = judged-number (s .args .s) (now (s .args .d)) x _ _ e in
-    (sym (l .0), (sym (l .1), n .0))
+    let a = asked-refused (s .args .s) (now (s .args .d)) x (j .judge .result) (j .judge .ensures) _ _ (c .before .fault .given .1) in
+    let l = refused-line (s .args .s) (now (s .args .d)) x _ _ (a .0) in
+    let n = judged-number (s .args .s) (now (s .args .d)) x _ _ (a .0) in
+    (sym (l .0), (sym (rw (a .1) at (l .1)), n .0))
 
 same-length-2 : tie.Need-same-length-2
 same-length-2 c = search needs
@@ -79,14 +88,14 @@ same-length-6 c = search needs
 
 returns-2 : tie.Need-returns-2
 returns-2 c =
-    let k = stored-to (c .before) in
+    let k = stored-to (c .before .before .before .before) in
     let t = told (k .before) in
     let j = t .before .before in
     let s = start j in
     let x = found s in
-    let e = judge-caps (s .args .s) (now (s .args .d)) x (j .judge .result) (j .judge .ensures) ∙ sound t in
-    let l = taken-line (s .args .s) (now (s .args .d)) x e in
-    (ap Next (c .advance .ensures .0) ∙ sym (l .0), (k .store .ensures ∙ sym (l .1), c .advance .ensures .1))
+    let took = stored-took (s .args .s) (now (s .args .d)) x (j .judge .result) (j .judge .ensures) (sound t) _ (k .store .ensures) _ (c .take-line .ensures .0) in
+    let left = stored-rooms (s .args .s) (now (s .args .d)) x (j .judge .result) (j .judge .ensures) (sound t) _ (k .store .ensures) in
+    (took, (left, c .take-line .ensures .1))
 
 pub read-line-spec : {M : Type 1} → statement M
 read-line-spec =
@@ -96,7 +105,7 @@ read-line-spec =
     enum-known-fault
     enum-told
     store-requires
-    advance-requires
+    take-line-requires
     same-length
     returns
     same-length-2

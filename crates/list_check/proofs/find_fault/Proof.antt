@@ -1,4 +1,4 @@
-use Rattle.list_check.proofs.Refusals.{givens, caps-long}
+use Rattle.list_check.proofs.Refusals.{givens, start-sized, caps-long}
 use denote.Ref.{now}
 use Rattle.net.specs.Net.{netOf}
 use borrow.Author.Needs.{needs}
@@ -16,6 +16,14 @@ enum-known-found c = search needs
 
 enum-told : tie.Need-enum-told
 enum-told c = search needs
+
+then-loose-requires : tie.Need-then-loose-requires
+then-loose-requires c κs =
+    let s : tie.Start = search needs in
+    let g : tie.After-is-fitting = search needs in
+    let f : tie.After-start-fault = search needs in
+    let a = s .args in
+    start-sized (a .kind) (netOf (a .places) (a .transitions) (now (a .pre)) (now (a .post)) (now (a .caps))) (now (a .initial)) (now (a .list)) (a .fits) (a .next) _ (g .is-fitting .ensures) _ (f .start-fault .ensures) (search needs)
 
 list-fault-requires : tie.Need-list-fault-requires
 list-fault-requires c κs =
@@ -39,6 +47,7 @@ find-fault-spec =
     start-fault-requires
     enum-known-found
     enum-told
+    then-loose-requires
     list-fault-requires
     returns
     returns-2)

@@ -1,0 +1,75 @@
+use Prim.Native.Nat.{_+_, _*_, _≤_, _<_, _-_}
+use native.Mathlib.Omega.{arith}
+use lib.ListN.{length}
+use denote.Ref.{now}
+use Rattle.ground.proofs.Scan.{Below}
+use Rattle.net.specs.Net.{Net, netOf}
+use Rattle.wiring.specs.Wired.{arc}
+use Rattle.wiring.proofs.Loose.{places-scanned, cell-inside}
+use borrow.Author.Needs.{needs}
+use Rattle.wiring.proofs.is_loose_place.Statement.{statement}
+use Rattle.wiring.proofs.is_loose_place.Tie as tie
+
+abbrev Inv-loop : tie.InvT-loop
+Inv-loop places transitions pre post caps p t₀ t = (t ≤ transitions) × Below (arc (netOf places transitions pre post caps) p) t
+
+abbrev μ-loop : tie.MeasureT-loop
+μ-loop places transitions pre post caps p t₀ t = transitions - t
+
+loop-holds : tie.Need-loop-holds Inv-loop μ-loop
+loop-holds c = search (places-scanned, needs)
+
+-- the net at the function's entry, and the entry that the loop has come to, inside both tables
+abbrev at : tie.Start Inv-loop μ-loop → Net
+at s = netOf (s .args .places) (s .args .transitions) (now (s .args .pre)) (now (s .args .post)) (now (s .args .caps))
+
+inside : (c : tie.In-loop Inv-loop μ-loop) → (c .before .loop .t * c .before .before .before .before .before .args .places + c .before .before .before .before .before .args .p < length (now (c .before .before .before .before .before .args .pre))) × (c .before .loop .t * c .before .before .before .before .before .args .places + c .before .before .before .before .before .args .p < length (now (c .before .before .before .before .before .args .post)))
+inside c = cell-inside (at (c .before .before .before .before .before)) (c .before .before .before .before .before .args .p) (c .before .loop .t) (c .before .before .before .before .before .pre .0) (c .before .before .before .before .before .pre .1) (c .loop-test .taken)
+
+mul-at : tie.Need-mul-at Inv-loop μ-loop
+mul-at c = omega (arith, inside c)
+
+add-at : tie.Need-add-at Inv-loop μ-loop
+add-at c = omega (arith, inside c)
+
+shared-slice-read-is-arc : tie.Need-shared-slice-read-is-arc Inv-loop μ-loop
+shared-slice-read-is-arc c = inside (c .before) .0
+
+shared-slice-read-is-arc-2 : tie.Need-shared-slice-read-is-arc-2 Inv-loop μ-loop
+shared-slice-read-is-arc-2 c = inside (c .before .before) .1
+
+is-arc-requires : tie.Need-is-arc-requires Inv-loop μ-loop
+is-arc-requires c κs = search needs
+
+returns : tie.Need-returns Inv-loop μ-loop
+returns c = search (places-scanned, needs)
+
+add-t : tie.Need-add-t Inv-loop μ-loop
+add-t c = search needs
+
+loop-less : tie.Need-loop-less Inv-loop μ-loop
+loop-less c = search needs
+
+loop-again : tie.Need-loop-again Inv-loop μ-loop
+loop-again c = search (places-scanned, needs)
+
+returns-2 : tie.Need-returns-2 Inv-loop μ-loop
+returns-2 c = search (places-scanned, needs)
+
+pub is-loose-place-spec : {M : Type 1} → statement M
+is-loose-place-spec =
+    tie.close
+    (tie.spec
+    Inv-loop
+    μ-loop
+    loop-holds
+    mul-at
+    add-at
+    shared-slice-read-is-arc
+    shared-slice-read-is-arc-2
+    is-arc-requires
+    returns
+    add-t
+    loop-less
+    loop-again
+    returns-2)

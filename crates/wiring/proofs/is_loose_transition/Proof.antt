@@ -1,0 +1,78 @@
+use Prim.Native.Nat.{_+_, _*_, _≤_, _<_, _-_}
+use native.Mathlib.Omega.{arith}
+use lib.ListN.{length}
+use denote.Ref.{now}
+use Rattle.ground.proofs.Scan.{Below}
+use Rattle.net.specs.Net.{Net, netOf}
+use Rattle.wiring.specs.Wired.{arc}
+use Rattle.wiring.proofs.Loose.{transitions-scanned, transition-next, cell-inside}
+use borrow.Author.Needs.{needs}
+use Rattle.wiring.proofs.is_loose_transition.Statement.{statement}
+use Rattle.wiring.proofs.is_loose_transition.Tie as tie
+
+abbrev Inv-loop : tie.InvT-loop
+Inv-loop places transitions pre post caps t p₀ p = (p ≤ places) × Below (λ p. arc (netOf places transitions pre post caps) p t) p
+
+abbrev μ-loop : tie.MeasureT-loop
+μ-loop places transitions pre post caps t p₀ p = places - p
+
+loop-holds : tie.Need-loop-holds Inv-loop μ-loop
+loop-holds c = search (transitions-scanned, needs)
+
+-- the net at the function's entry, and the entry that the loop has come to, inside both tables
+abbrev at : tie.Start Inv-loop μ-loop → Net
+at s = netOf (s .args .places) (s .args .transitions) (now (s .args .pre)) (now (s .args .post)) (now (s .args .caps))
+
+inside : (c : tie.In-loop Inv-loop μ-loop) → (c .before .before .before .before .before .args .t * c .before .before .before .before .before .args .places + c .before .loop .p < length (now (c .before .before .before .before .before .args .pre))) × (c .before .before .before .before .before .args .t * c .before .before .before .before .before .args .places + c .before .loop .p < length (now (c .before .before .before .before .before .args .post)))
+inside c = cell-inside (at (c .before .before .before .before .before)) (c .before .loop .p) (c .before .before .before .before .before .args .t) (c .before .before .before .before .before .pre .0) (c .loop-test .taken) (c .before .before .before .before .before .pre .1)
+
+mul-at : tie.Need-mul-at Inv-loop μ-loop
+mul-at c = omega (arith, inside c)
+
+add-at : tie.Need-add-at Inv-loop μ-loop
+add-at c = omega (arith, inside c)
+
+shared-slice-read-is-arc : tie.Need-shared-slice-read-is-arc Inv-loop μ-loop
+shared-slice-read-is-arc c = inside (c .before) .0
+
+shared-slice-read-is-arc-2 : tie.Need-shared-slice-read-is-arc-2 Inv-loop μ-loop
+shared-slice-read-is-arc-2 c = inside (c .before .before) .1
+
+is-arc-requires : tie.Need-is-arc-requires Inv-loop μ-loop
+is-arc-requires c κs = search needs
+
+returns : tie.Need-returns Inv-loop μ-loop
+returns c = search (transitions-scanned, needs)
+
+add-p : tie.Need-add-p Inv-loop μ-loop
+add-p c = search needs
+
+loop-less : tie.Need-loop-less Inv-loop μ-loop
+loop-less c = search needs
+
+loop-again : tie.Need-loop-again Inv-loop μ-loop
+loop-again c =
+    let i = c .before .before .before .before in
+    let s = i .before .before .before .before .before in
+    (omega (arith, i .loop-test .taken), transition-next (at s) (s .args .t) (i .before .loop .p) (i .before .loop .inv .1) _ (c .before .is-arc .ensures) (c .if1 .left))
+
+returns-2 : tie.Need-returns-2 Inv-loop μ-loop
+returns-2 c = search (transitions-scanned, needs)
+
+pub is-loose-transition-spec : {M : Type 1} → statement M
+is-loose-transition-spec =
+    tie.close
+    (tie.spec
+    Inv-loop
+    μ-loop
+    loop-holds
+    mul-at
+    add-at
+    shared-slice-read-is-arc
+    shared-slice-read-is-arc-2
+    is-arc-requires
+    returns
+    add-p
+    loop-less
+    loop-again
+    returns-2)

@@ -1,0 +1,48 @@
+use Prim.Native.Nat.{_≤_, _-_}
+use Rattle.ground.proofs.Scan.{Below, scans}
+use Rattle.net.specs.Net.{netOf}
+use Rattle.wiring.specs.Wired.{looseTransition}
+use borrow.Author.Needs.{needs}
+use Rattle.wiring.proofs.loose_transition.Statement.{statement}
+use Rattle.wiring.proofs.loose_transition.Tie as tie
+
+abbrev Inv-loop : tie.InvT-loop
+Inv-loop places transitions pre post caps t₀ t = (t ≤ transitions) × Below (looseTransition (netOf places transitions pre post caps)) t
+
+abbrev μ-loop : tie.MeasureT-loop
+μ-loop places transitions pre post caps t₀ t = transitions - t
+
+loop-holds : tie.Need-loop-holds Inv-loop μ-loop
+loop-holds c = search (scans, needs)
+
+is-loose-transition-requires : tie.Need-is-loose-transition-requires Inv-loop μ-loop
+is-loose-transition-requires c κs = search needs
+
+returns : tie.Need-returns Inv-loop μ-loop
+returns c = search (scans, needs)
+
+add-t : tie.Need-add-t Inv-loop μ-loop
+add-t c = search needs
+
+loop-less : tie.Need-loop-less Inv-loop μ-loop
+loop-less c = search needs
+
+loop-again : tie.Need-loop-again Inv-loop μ-loop
+loop-again c = search (scans, needs)
+
+returns-2 : tie.Need-returns-2 Inv-loop μ-loop
+returns-2 c = search (scans, needs)
+
+pub loose-transition-spec : {M : Type 1} → statement M
+loose-transition-spec =
+    tie.close
+    (tie.spec
+    Inv-loop
+    μ-loop
+    loop-holds
+    is-loose-transition-requires
+    returns
+    add-t
+    loop-less
+    loop-again
+    returns-2)
