@@ -13,9 +13,9 @@
  * bytes for each letter of both logs, and 1.4 KB. kaunorpi_read_case needs some 75 KB, for rooms of its own in which a
  * whole file is read before anything is written; the functions about lists of markings need some 18 KB, for an index of
  * their own; every other function needs less than 4 KB. Measured in the machine code of the archive for x86-64: 74,960
- * bytes; at most 17,512 (kaunorpi_closed_target); and at most 3,392 (kaunorpi_summary_stretch); with what a function calls
- * and without memcpy and memset, which are the C library's. Of kaunorpi_order_logs, where 510 letters fire, 335,936 bytes
- * were seen to be written.
+ * bytes; at most 17,512 (kaunorpi_closed_target); and at most 3,392 (kaunorpi_summary_stretch); with what a function
+ * calls and without memcpy and memset, which are the C library's. Of kaunorpi_order_logs, where 510 letters fire,
+ * 335,936 bytes were seen to be written.
  *
  * What is proved. Each function's comment ends with its contract, which says that the answer is the entry's of that
  * name, number by number, and with theorems that say what such an answer means; docs/STATEMENTS.md has them in words,
@@ -24,7 +24,8 @@
  * The net comes first in every question, always whole and in this order:
  *   places, transitions   how many there are, 1 to 64 each
  *   pre, post             places * transitions weights of a byte each: what transition t takes from place p, and
- *                         puts there, stands at t * places + p; 0 is no arc
+ *                         puts there, stands at t * places + p; 0 is no arc. Each place and each transition must have
+ *                         an arc, else 17
  *   caps                  places capacities, 0 to 65,534; 65,535 is none
  * A marking is a list of places token counts, 0 to 65,534. A word is a list of transition numbers, its letters,
  * at most 65,535 of them; the first letter is number 0, and so are the first place and the first transition.
@@ -60,11 +61,11 @@
  *       length, after 15
  *   17  a net in which some place or transition has no arc, after 3. position: the lowest such place, else 64 plus the
  *       lowest such transition
- * position is 0 where nothing else is said. Of several refusals the lowest number is given, but that 17 comes
- * right after 3, and 15 and 16 right after 4; and of one number the lowest position, the initial marking before a list before a target, and the
- * first log before the second. A case file (kaunorpi_read_case) is
- * different: the first faulty line decides, on it 11 and 12 come before 1, 3, 17, 4 and 5, and position is that line;
- * 17 falls on the line of the last transition.
+ * position is 0 where nothing else is said. Of several refusals the lowest number is given, but that 17 comes right
+ * after 3, and 15 and 16 right after 4; and of one number the lowest position, the initial marking before a list before
+ * a target, and the first log before the second. A case file (kaunorpi_read_case) is different: the first faulty line
+ * decides, on it 11 and 12 come before 1, 3, 17, 4 and 5, and position is that line; 17 falls on the line of the last
+ * transition.
  */
 #ifndef KAUNORPI_H
 #define KAUNORPI_H
@@ -234,8 +235,8 @@ kaunorpi_answer kaunorpi_place_weighting(KAUNORPI_NET, const int16_t *y, size_t 
  * transition-no-exactly, proper-returns in crates/weighting/proofs/Promise.antt. */
 kaunorpi_answer kaunorpi_transition_weighting(KAUNORPI_NET, const int16_t *x, size_t x_len);
 /* What y bounds the tokens of `place` by. Refusals 1 2 3 17 8 13.
- * 0x81 0: bound: the place never holds more. 0x81 1: no bound, since position: 1 y is not invariant, 2 it has a negative
- * entry, 3 y(place) is not positive.
+ * 0x81 0: bound: the place never holds more. 0x81 1: no bound, since position: 1 y is not invariant, 2 it has a
+ * negative entry, 3 y(place) is not positive.
  * Contract: crates/c_weighting/src/lib.rt. Theorems: bounded-holds in crates/weighting_bound/proofs/Promise.antt;
  * bound-judged in crates/weighting_bound/proofs/Meaning.antt. */
 kaunorpi_bound kaunorpi_place_bound(KAUNORPI_NET, const uint16_t *initial, size_t initial_len, const int16_t *y,
@@ -291,20 +292,21 @@ kaunorpi_list kaunorpi_cover_target(KAUNORPI_NET, const uint16_t *initial, size_
 kaunorpi_places kaunorpi_complement_places(KAUNORPI_NET);
 /* 0x81 0: the rooms hold it: transitions * n weights in pre2 and in post2, n capacities and n tokens, where n is what
  * kaunorpi_complement_places answers. The old places come first, with their arcs and tokens; then one place for each
- * place that has a capacity and that some transition changes (Pre and Post differ), in order of number: a transition that
- * adds k to the old place takes k from it, one that takes k away puts k there, and it starts with capacity minus tokens.
- * Every capacity is 65,535, none. Where n is over 64, rooms of another length than n says are 2, and rooms of that length
- * 10. Refusals 1 2 3 17 10.
- * Contract: crates/c_net/src/lib.rt. Theorems: made-net, made-initial, made-fires-same, made-blocked-same in
- * crates/complement/proofs/Promise.antt. */
+ * place that has a capacity and that some transition changes (Pre and Post differ), in order of number: a transition
+ * that adds k to the old place takes k from it, one that takes k away puts k there, and it starts with capacity minus
+ * tokens. Every capacity is 65,535, none. Where n is over 64, rooms of another length than n says are 2, and rooms of
+ * that length 10. Refusals 1 2 3 17 10.
+ * Contract: crates/c_net/src/lib.rt. Theorems: made-net, made-initial, made-fires-same, made-blocked-same, made-ready
+ * in crates/complement/proofs/Promise.antt. */
 kaunorpi_answer kaunorpi_complement_net(KAUNORPI_NET, const uint16_t *initial, size_t initial_len, uint8_t *pre2,
                                         size_t pre2_len, uint8_t *post2, size_t post2_len, uint16_t *caps2,
                                         size_t caps2_len, uint16_t *initial2, size_t initial2_len);
 
-/* ---- A case file: its bytes, into a net, a marking and a word. Refusals 2 11 12 1 3 4 5; but for 2 position is the line.
+/* ---- A case file: its bytes, into a net, a marking and a word. Refusals 2 11 12 1 3 17 4 5; but for 2 position is the
+ * line.
  * The rooms have the largest sizes, exactly: 64, 64, 4,096, 4,096 and 65,535 entries; another length is refusal 2.
- * 0x81 0: places, transitions, letters: the file's. Its capacities, tokens, weights and letters stand at the front of the
- * rooms; what lies behind them is as it was.
+ * 0x81 0: places, transitions, letters: the file's. Its capacities, tokens, weights and letters stand at the front of
+ * the rooms; what lies behind them is as it was.
  * Contract: crates/c_net/src/lib.rt. Theorems: read-exactly, read-those in crates/file_entry/proofs/Accepted.antt;
  * refused-file in crates/file_entry/proofs/Meaning.antt. */
 kaunorpi_case kaunorpi_read_case(const uint8_t *file, size_t file_len, uint16_t *caps, size_t caps_len,
@@ -326,8 +328,8 @@ kaunorpi_length kaunorpi_case_length(KAUNORPI_NET, const uint16_t *initial, size
                                      size_t word_len);
 /* Writes the file to the front of room. A room of as many bytes as kaunorpi_case_length tells is long enough, one of
  * KAUNORPI_FILE_LIMIT for every file; a shorter one is refusal 14, given last. Refusals 1 2 3 17 4 5 14.
- * 0x81 0: length: the file is the first `length` bytes of room; what lies behind them is as it was. No zero byte is put at
- * its end.
+ * 0x81 0: length: the file is the first `length` bytes of room; what lies behind them is as it was. No zero byte is put
+ * at its end.
  * Contract: crates/c_write/src/lib.rt. Theorems: written-length, written-file, written-rest in
  * crates/file_write/proofs/Meaning.antt; read-written, write-read, written-apart in
  * crates/file_round/proofs/Meaning.antt. */
@@ -345,7 +347,8 @@ kaunorpi_length kaunorpi_write_case(KAUNORPI_NET, const uint16_t *initial, size_
 
 /* Is there an order of the two logs that fires? Refusals 1 2 3 17 4 15 5. room: first_len + second_len bytes. work:
  * KAUNORPI_WORK_SPACE bytes, which may hold anything.
- * 0x81 0: yes, and room holds it; of several the one that takes from the first log at the earliest step where two differ.
+ * 0x81 0: yes, and room holds it; of several the one that takes from the first log at the earliest step where two
+ * differ.
  * 0x81 1: no order of the two logs fires, and room is as it was.
  * Both leave all of work 0; a refusal leaves it as it was. The position in 5 is the letter's in its own log.
  * Contract: crates/c_order/src/lib.rt. Theorems: found-fires, found-first, none-exactly, keeps-order, replays in
@@ -361,8 +364,8 @@ kaunorpi_answer kaunorpi_order_logs(KAUNORPI_NET, const uint16_t *initial, size_
 kaunorpi_answer kaunorpi_rest_fault(const uint8_t *first, size_t first_len, const uint8_t *second, size_t second_len,
                                     const uint8_t *order, size_t order_len, size_t step);
 /* What is still unread of the log that the step takes from, from that step's letter on. Refusals 4 15 16.
- * 0x81 0: it is the last `length` letters of log `log`, 0 the first and 1 the second: they begin at letter `start` of it,
- * which is the step's own. There is at least that one.
+ * 0x81 0: it is the last `length` letters of log `log`, 0 the first and 1 the second: they begin at letter `start` of
+ * it, which is the step's own. There is at least that one.
  * Contract: crates/c_order/src/lib.rt. Theorems: rest-lies, rest-refused in crates/c_order/proofs/Meaning.antt. */
 kaunorpi_rest kaunorpi_unread_rest(const uint8_t *first, size_t first_len, const uint8_t *second, size_t second_len,
                                    const uint8_t *order, size_t order_len, size_t step);

@@ -214,7 +214,8 @@ fn letters_fault(s: Reading, d: &[u8], here: usize) -> Fault
     }
 }
 
-// The refusal of a line before it is stored, or none. Of the rooms read so far only the capacities are looked at.
+// The refusal of a line before it is stored, or none. Of the rooms read so far only the capacities are
+// looked at.
 fn judge(s: Reading, d: &[u8], caps: &[u16]) -> Fault
     requires { ⌜ (Good s) × (countLimit ≤ length (now caps)) ⌝ }
     ensures { λ r. ⌜ r ≡ askedOf s (now (d .entry)) (rooms (now (caps .entry)) [] [] [] []) ⌝ }
@@ -367,7 +368,8 @@ fn is_last_row(kind: u8, next: usize, transitions: usize) -> bool
     next + 1 == transitions
 }
 
-// Whether a line that is stored is refused: the net that the rooms hold now is asked on the line of the last transition.
+// Whether a line that is stored is refused: the net that the rooms hold now is asked on the line of the
+// last transition.
 fn is_net_loose(s: Reading, d: &[u8], caps: &[u16], pre: &[Weight], post: &[Weight]) -> bool
     requires { ⌜ (Good s) × (Accepted s (now d)) × (Tables (now caps) (now pre) (now post)) ⌝ }
     ensures { λ r. ⌜ r ≡ looseBad s (now (d .entry)) (rooms (now (caps .entry)) [] (now (pre .entry)) (now (post .entry)) []) ⌝ }
@@ -382,7 +384,8 @@ fn is_net_loose(s: Reading, d: &[u8], caps: &[u16], pre: &[Weight], post: &[Weig
     is_loose(p, t, &pre[..cells], &post[..cells], &caps[..p])
 }
 
-// What a line comes to that is stored: the next state, or 17. It is asked of the rooms themselves, which are the reader's own.
+// What a line comes to that is stored: the next state, or 17. It is asked of the rooms themselves, which
+// are the reader's own.
 fn take_line(s: Reading, d: &[u8], caps: &[u16], pre: &[Weight], post: &[Weight]) -> Took
     requires { ⌜ (Good s) × (Accepted s (now d)) × (Tables (now caps) (now pre) (now post)) ⌝ }
     ensures value { λ r. ⌜ r ≡ tookBy (refuse (looseBad s (now (d .entry)) (rooms (now (caps .entry)) [] (now (pre .entry)) (now (post .entry)) [])) 17 (lineHere s)) (advanced s (now (d .entry))) ⌝ }

@@ -1,5 +1,5 @@
 -- To be believed: firing as published: 001's relation m[t> m′ with its capacity rule, and the words and markings that follow from it.
--- No node need have an arc: 003 permits isolated places and transitions, and 01 follows it.
+-- It is said of every net, whether or not each node has an arc; that a net with a loose one is refused is 02's, E4 (wiring/specs/Wired.antt).
 use Prim.Native.Nat.{ℕ, _≤_, _<_}
 use mathlib.Core.Path.{_≡_}
 use mathlib.Core.List.{List, [], _∷_}
