@@ -12,7 +12,7 @@ use Rattle.ground.specs.Limits.{noCapacity}
 use Rattle.ground.specs.Lists.{first}
 use Rattle.ground.specs.Parts.{up, dn}
 use Rattle.ground.proofs.Parts.{minus-is, up-sub, dn-sub, parts-eq}
-use Rattle.ground.proofs.Scan.{first-below, first-passes, Below, scan-hit, scan-end}
+use Rattle.ground.proofs.Scan.{first-below, first-passes, first-found, Below, scan-hit, scan-end}
 use Rattle.ground.proofs.Tests.{never, unlike-false, like-false}
 use Rattle.net.specs.Net.{Net, Pre, Post, Change, capacity, tokens}
 use Rattle.net.specs.Firing.{Fires, nothing, letter}
@@ -69,11 +69,10 @@ module _ (net : Net) (p : ℕ) where
       }
 
   pub means-changed : Changed net p → changed net p ≡ true
-  means-changed c = go (changed net p) refl
-    where
-      go : (b : Bool) → changed net p ≡ b → changed net p ≡ true
-      go true q = q
-      go false q = absurd (c .changes (zero-change (c .transition) .1 (unchanged-flat q (c .transition) (c .named))))
+  unfolding changed
+  means-changed c =
+      let e : changesAt (c .transition) ≡ true = ap not (ne-eqb _ _ (λ q. c .changes (zero-change (c .transition) .1 q))) in
+      lt-ltb _ (net .transitions) (first-found changesAt (net .transitions) (c .transition) (c .named) e)
 
   -- a loop that puts back what it takes changes nothing
   pub loop-unchanged : ((t : ℕ) → t < net .transitions → Pre net p t ≡ Post net p t) → Changed net p → ⊥

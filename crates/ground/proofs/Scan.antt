@@ -3,6 +3,7 @@ use Prim.Native.Nat.{ℕ, zero, suc, _+_, _≤_, _<_, zero-le, suc-le-suc}
 use mathlib.Core.Path.{_≡_, refl, sym, ap, _∙_}
 use mathlib.Core.Bool.{Bool, true, false, cond}
 use native.Mathlib.Omega.{arith}
+use native.Mathlib.Decide.{decLt}
 use native.Mathlib.Numerals.{add-one}
 use native.Mathlib.Nat.{not-suc-le-zero, le-of-suc-le-suc}
 use lib.Dec.{eqb}
@@ -11,6 +12,7 @@ use mir.Val.{Fits}
 use borrow.Author.Count.{below-more}
 use Rattle.ground.specs.Limits.{countLimit}
 use Rattle.ground.specs.Lists.{first, bit, tally}
+use Rattle.ground.proofs.Tests.{never}
 
 pub first-at : (f : ℕ → Bool) (n i : ℕ) → ((k : ℕ) → k < i → f k ≡ false) → f i ≡ true → i < n → first f n ≡ i
 unfolding first
@@ -46,6 +48,14 @@ first-passes f (suc n) h = go (f zero) refl h (first-passes (λ k. f (suc k)) n)
     go : (b : Bool) → f zero ≡ b → cond (f zero) zero (suc (first (λ k. f (suc k)) n)) < suc n → (first (λ k. f (suc k)) n < n → f (suc (first (λ k. f (suc k)) n)) ≡ true) → f (cond (f zero) zero (suc (first (λ k. f (suc k)) n))) ≡ true
     go true e l ih = rw e e
     go false e l ih = rw e (ih (le-of-suc-le-suc (rw e at l)))
+
+-- there is one where some number passes
+pub first-found : (f : ℕ → Bool) (n k : ℕ) → k < n → f k ≡ true → first f n < n
+first-found f n k h e = go (decLt (first f n) n)
+  where
+    go : Dec (first f n < n) → first f n < n
+    go (yes l) = l
+    go (no l) = never (sym e ∙ first-below f n k (omega arith))
 
 pub first-most : (f : ℕ → Bool) (n : ℕ) → first f n ≤ n
 unfolding first

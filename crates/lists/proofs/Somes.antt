@@ -1,12 +1,11 @@
 -- Laws of `some` and `none`: the turns of a loop that answers one, and what the answer says. Assumes nothing.
 use Prim.Native.Nat.{ℕ, _≤_, _<_}
-use mathlib.Core.Path.{_≡_, refl, sym, _∙_}
+use mathlib.Core.Path.{_≡_}
 use mathlib.Core.Bool.{Bool, true, false}
 use native.Mathlib.Omega.{arith}
 use borrow.Author.Tests.{lt-ltb, le-ltb, le-leb, lt-leb, ltb-true, ltb-false, leb-true, leb-false}
 use Rattle.ground.specs.Lists.{first}
-use Rattle.ground.proofs.Tests.{never}
-use Rattle.ground.proofs.Scan.{Below, scan-hit, scan-end, first-none, first-below, first-passes}
+use Rattle.ground.proofs.Scan.{Below, scan-hit, scan-end, first-none, first-below, first-passes, first-found}
 use Rattle.lists.specs.Some.{some, none}
 
 -- where a scan stops at i, and where it ends
@@ -41,11 +40,8 @@ module _ (f : ℕ → Bool) (n : ℕ) where
   some-none e k h = let l = ltb-false (first f n) n e in first-below f n k (omega arith)
 
   pub some-is : (k : ℕ) → k < n → f k ≡ true → some f n ≡ true
-  some-is k h e = go (some f n) refl
-    where
-      go : (b : Bool) → some f n ≡ b → some f n ≡ true
-      go true q = q
-      go false q = never (sym e ∙ some-none q k h)
+  unfolding some
+  some-is k h e = lt-ltb (first f n) n (first-found f n k h e)
 
   pub is-none : ((k : ℕ) → k < n → f k ≡ false) → none f n ≡ true
   unfolding none

@@ -1,18 +1,17 @@
 -- Laws of loose nodes: what the code has found of them, and that none is found exactly where the net is wired. Assumes nothing.
 use Prim.Native.Nat.{ℕ, _+_, _*_, _≤_, _<_}
-use mathlib.Core.Path.{_≡_, refl, sym, ap, _∙_}
-use mathlib.Core.Bool.{Bool, true, false, not}
+use mathlib.Core.Path.{_≡_}
+use mathlib.Core.Bool.{Bool, true, false}
 use mathlib.Core.Logic.{_↔_}
 use native.Mathlib.Omega.{arith}
 use lib.ListN.{length}
 use lib.Dec.{ltb}
-use borrow.Author.Tests.{lt-ltb, le-ltb, ltb-true, ltb-false, not-true, not-false}
+use borrow.Author.Tests.{lt-ltb, le-ltb, ltb-true, not-false}
 use Rattle.ground.specs.Lists.{first}
-use Rattle.ground.proofs.Tests.{never}
-use Rattle.ground.proofs.Scan.{Below, first-none, first-below, first-passes, first-most, scan-start, scan-hit, scan-next, scan-end}
+use Rattle.ground.proofs.Scan.{Below, first-none, first-below, first-passes, first-found, scan-start, scan-hit, scan-next, scan-end}
 use Rattle.net.specs.Net.{Net, Sized}
 use Rattle.net.proofs.Rows.{row-end}
-use Rattle.wiring.specs.Wired.{Arc, PlaceWired, TransitionWired, Wired, arc, loosePlace, looseTransition, lowestLoosePlace, lowestLooseTransition}
+use Rattle.wiring.specs.Wired.{PlaceWired, TransitionWired, Wired, arc, loosePlace, looseTransition, lowestLoosePlace, lowestLooseTransition}
 
 -- a place: t is where the scan is, r the test's answer there
 module _ (net : Net) (p t : ℕ) (lo : Below (arc net p) t) where
@@ -67,16 +66,9 @@ module _ (net : Net) (p : ℕ) where
 
   pub wired-place : PlaceWired net p → loosePlace net p ≡ false
   unfolding loosePlace
-  wired-place w = rw (lt-ltb (first (arc net p) (net .transitions)) (net .transitions) (found (w .transition) (w .named) (w .arc)))
-    where
-      found : (t : ℕ) → t < net .transitions → Arc net p t → first (arc net p) (net .transitions) < net .transitions
-      found t h a = go (ltb (first (arc net p) (net .transitions)) (net .transitions)) refl
-        where
-          go : (b : Bool) → ltb (first (arc net p) (net .transitions)) (net .transitions) ≡ b → first (arc net p) (net .transitions) < net .transitions
-          go true e = ltb-true _ _ e
-          go false e =
-              let n = ltb-false (first (arc net p) (net .transitions)) (net .transitions) e in
-              never (sym (lt-ltb 0 _ a) ∙ first-below (arc net p) (net .transitions) t (omega arith))
+  wired-place w =
+      let h = first-found (arc net p) (net .transitions) (w .transition) (w .named) (lt-ltb 0 _ (w .arc)) in
+      rw (lt-ltb (first (arc net p) (net .transitions)) (net .transitions) h)
 
 -- so does a transition
 module _ (net : Net) (t : ℕ) where
@@ -92,16 +84,9 @@ module _ (net : Net) (t : ℕ) where
 
   pub wired-transition : TransitionWired net t → looseTransition net t ≡ false
   unfolding looseTransition
-  wired-transition w = rw (lt-ltb (first (λ p. arc net p t) (net .places)) (net .places) (found (w .place) (w .here) (w .arc)))
-    where
-      found : (p : ℕ) → p < net .places → Arc net p t → first (λ p. arc net p t) (net .places) < net .places
-      found p h a = go (ltb (first (λ p. arc net p t) (net .places)) (net .places)) refl
-        where
-          go : (b : Bool) → ltb (first (λ p. arc net p t) (net .places)) (net .places) ≡ b → first (λ p. arc net p t) (net .places) < net .places
-          go true e = ltb-true _ _ e
-          go false e =
-              let n = ltb-false (first (λ p. arc net p t) (net .places)) (net .places) e in
-              never (sym (lt-ltb 0 _ a) ∙ first-below (λ p. arc net p t) (net .places) p (omega arith))
+  wired-transition w =
+      let h = first-found (λ p. arc net p t) (net .places) (w .place) (w .here) (lt-ltb 0 _ (w .arc)) in
+      rw (lt-ltb (first (λ p. arc net p t) (net .places)) (net .places) h)
 
 -- none is found exactly where all are wired
 pub wired-places : (net : Net) → (lowestLoosePlace net ≡ net .places) ↔ ((p : ℕ) → p < net .places → PlaceWired net p)
