@@ -276,6 +276,26 @@ loose-somewhere net none = go (looseFault net) refl
     go Sound e = absurd (none (loose-met net e))
     go (Faulty n at) e = record { at = at; loose = seventeen (reads-all (loose-reads net) .exactly n at .0 e) }
 
+-- where it has one, the net is not wired
+loose-unwired : (net : Net) (at : ℕ) → LooseFirst net 17 at ⊥ → Wired net → ⊥
+loose-unwired net at (fails miss g) w = miss (w .places)
+loose-unwired net at (holds p (fails miss g)) w = miss (w .transitions)
+loose-unwired net at (holds p (holds t z)) w = z
+
+-- so 17 is given, whatever its position, exactly when 1, 2, 3 are not and the net is not wired
+pub unwired-exactly : (net : Net) (initial : List ℕ) (fits : Bool) → ((at : ℕ) × (markedFault net initial fits ≡ Faulty 17 at)) ↔ (StartMet net initial fits × (Wired net → ⊥))
+unwired-exactly net initial fits = (
+  λ g. let h = wired-exactly net initial fits (g .0) .0 (g .1) in (h .0, loose-unwired net (g .0) (h .1)),
+  λ h. let l = loose-somewhere net (h .1) in (l .at, wired-exactly net initial fits (l .at) .1 (h .0, l .loose)),
+)
+
+-- ... and for a net without a marking, when 1 and 2 are not
+pub unwired-net-exactly : (net : Net) (fits : Bool) → ((at : ℕ) × (netFault net fits ≡ Faulty 17 at)) ↔ (CountsMet net fits × (Wired net → ⊥))
+unwired-net-exactly net fits = (
+  λ g. let h = wired-net-exactly net fits (g .0) .0 (g .1) in (h .0, loose-unwired net (g .0) (h .1)),
+  λ h. let l = loose-somewhere net (h .1) in (l .at, wired-net-exactly net fits (l .at) .1 (h .0, l .loose)),
+)
+
 -- ---- an answer
 -- r is the refusal of the fault f, and no refusal where there is none
 pub record Answers {A : Type 0} (refused : ℕ → ℕ → A) (f : Fault) (r : A) : Type 0 where
