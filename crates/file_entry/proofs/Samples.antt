@@ -6,6 +6,7 @@ use lib.ListN.{length, take}
 use Rattle.ground.specs.Limits.{noCapacity}
 use Rattle.ground.specs.Lists.{first}
 use Rattle.wiring.specs.Wired.{loosePlace, looseTransition}
+use Rattle.refusals.specs.Given.{looseFault}
 use Rattle.file_digits.specs.Frame.{valueOf, isDigit, allDigits, byteAt, bytesFrom, wordsFrom}
 use Rattle.file_line.specs.Read.{Rooms, ruleOf, formedKind, formedOf, hangsLoose, judgeOf, advancedKind, storedKind, lineOf, roomsOf}
 use Rattle.file_parts.specs.File.{fedTo, feedAll, finishOf, caseOf}
@@ -21,11 +22,11 @@ seven = five ++ (case6 ++ case7)
 -- what the whole case leaves at the fronts: capacities, tokens, Pre, Post and letters
 pub case-read : take 3 (readAll seven .rooms .caps) ∷ take 3 (readAll seven .rooms .initial) ∷ take 9 (readAll seven .rooms .pre) ∷ take 9 (readAll seven .rooms .post) ∷ take 5 (readAll seven .rooms .word) ∷ []
     ≡ (noCapacity ∷ noCapacity ∷ 5 ∷ []) ∷ (1 ∷ 0 ∷ 0 ∷ []) ∷ (1 ∷ 0 ∷ 0 ∷ 0 ∷ 1 ∷ 0 ∷ 0 ∷ 0 ∷ 3 ∷ []) ∷ (0 ∷ 1 ∷ 0 ∷ 1 ∷ 0 ∷ 2 ∷ 0 ∷ 0 ∷ 0 ∷ []) ∷ (0 ∷ 1 ∷ 0 ∷ 1 ∷ 2 ∷ []) ∷ []
-unfolding fedTo feedAll finishOf caseOf valueOf isDigit allDigits byteAt bytesFrom wordsFrom first ruleOf formedKind formedOf loosePlace looseTransition hangsLoose judgeOf advancedKind storedKind lineOf roomsOf
+unfolding fedTo feedAll finishOf caseOf valueOf isDigit allDigits byteAt bytesFrom wordsFrom first ruleOf formedKind formedOf loosePlace looseTransition looseFault hangsLoose judgeOf advancedKind storedKind lineOf roomsOf
 case-read = refl
 
 -- 010303 with no line feed; the empty file; a lone line feed; the whole case without its last byte; its first five lines; the whole case
 pub ends-read : (x : Rooms) → map (λ (f : List ℕ). numbers (filledOf f x .answer)) (take 6 case1 ∷ [] ∷ (10 ∷ []) ∷ take (length seven - 1) seven ∷ five ∷ seven ∷ [])
     ≡ (0x82 ∷ 11 ∷ 1 ∷ []) ∷ (0x82 ∷ 12 ∷ 1 ∷ []) ∷ (0x82 ∷ 11 ∷ 1 ∷ []) ∷ (0x82 ∷ 11 ∷ 7 ∷ []) ∷ (0x82 ∷ 12 ∷ 6 ∷ []) ∷ (0x81 ∷ 0 ∷ 3 ∷ 3 ∷ 5 ∷ []) ∷ []
-unfolding fedTo feedAll finishOf caseOf valueOf isDigit allDigits byteAt bytesFrom wordsFrom first ruleOf formedKind formedOf loosePlace looseTransition hangsLoose judgeOf advancedKind storedKind lineOf roomsOf
+unfolding fedTo feedAll finishOf caseOf valueOf isDigit allDigits byteAt bytesFrom wordsFrom first ruleOf formedKind formedOf loosePlace looseTransition looseFault hangsLoose judgeOf advancedKind storedKind lineOf roomsOf
 ends-read x = refl

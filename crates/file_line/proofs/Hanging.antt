@@ -5,14 +5,15 @@ use mathlib.Core.List.{List, []}
 use Prim.Native.Nat.{ℕ, _+_, _*_, _≤_, _<_}
 use native.Mathlib.Omega.{arith}
 use native.Mathlib.Nat.{mul-le-mul}
-use lib.Dec.{ltb, eqb}
+use lib.Dec.{eqb}
 use lib.ListN.{length, take}
 use lib.Seq.{length-take-le}
-use borrow.Author.Tests.{lt-ltb, le-ltb, eqb-true}
+use borrow.Author.Tests.{eqb-true}
 use Rattle.ground.proofs.Tests.{never, and-true}
 use Rattle.net.specs.Net.{Net, Sized}
-use Rattle.wiring.specs.Wired.{lowestLoosePlace, lowestLooseTransition}
-use Rattle.refusals.specs.Given.{refuse}
+use Rattle.refusals.specs.Given.{refuse, looseFault}
+use Rattle.refusals.specs.declared.Fault.{Fault}
+use Rattle.refusals.specs.declared.Fault.the-variants.{Sound, Faulty}
 use Rattle.file_line.specs.declared.Reading.{Reading}
 use Rattle.file_line.specs.declared.Took.the-variants.{Next, Refused}
 use Rattle.file_line.specs.Read.{cellLimit, Rooms, rooms, kindOf, netIn, hangsLoose, looseBad, lineHere, tookBy}
@@ -26,15 +27,17 @@ cells-few s g = mul-le-mul (g .transitions) (g .places)
 pub front-long : (n : ℕ) (list : List ℕ) → n ≤ length list → n ≡ length (take n list)
 front-long n list h = sym (length-take-le n list h)
 
--- p and t are the lowest nodes that were found
-module _ (net : Net) (p : ℕ) (e : p ≡ lowestLoosePlace net) where
-  pub hangs-place : p < net .places → true ≡ hangsLoose net
+-- f is what was found of its nodes
+module _ (net : Net) (f : Fault) (e : f ≡ looseFault net) where
+  pub hangs-faulty : (n at : ℕ) → f ≡ Faulty n at → true ≡ hangsLoose net
   unfolding hangsLoose
-  hangs-place h = rw (← e, lt-ltb p (net .places) h)
+  hangs-faulty n at q = rw (← e, q)
 
-  pub hangs-transition : net .places ≤ p → (t : ℕ) → t ≡ lowestLooseTransition net → ltb t (net .transitions) ≡ hangsLoose net
+  pub hangs-sound : f ≡ Sound → false ≡ hangsLoose net
   unfolding hangsLoose
-  hangs-transition h t f = rw (← e, ← f, le-ltb p (net .places) h)
+  hangs-sound q = rw (← e, q)
+
+pub ruleset hangs = (hangs-faulty, hangs-sound)
 
 -- a net is asked only on the line of the last transition
 stops : (a b h : Bool) → (a && b) ≡ false → false ≡ (a && (b && h))

@@ -4,22 +4,22 @@ use mathlib.Core.Bool.{Bool, true, false, not, _&&_}
 use mathlib.Core.List.{List}
 use Prim.Native.Nat.{ℕ, zero, suc, _+_, _*_, _≤_, _<_, _%_}
 use native.Mathlib.Omega.{arith}
-use lib.Dec.{leb, ltb, eqb}
+use lib.Dec.{leb, eqb}
 use lib.ListN.{length, getD}
 use borrow.Author.Tests.{eq-eqb, ne-eqb, eqb-true, le-ltb, ltb-false, le-leb, lt-leb, leb-true, leb-false, not-false}
 use Rattle.ground.proofs.Tests.{never, or-false, both-false, and-true}
-use Rattle.ground.proofs.Scan.{first-none, first-below, first-most}
+use Rattle.ground.proofs.Scan.{first-none, first-below}
 use Rattle.net.specs.Net.{Net}
-use Rattle.wiring.specs.Wired.{Wired, lowestLoosePlace, lowestLooseTransition, loosePlace, looseTransition}
-use Rattle.wiring.proofs.Loose.{wired-places, wired-transitions}
-use Rattle.refusals.specs.Given.{refuse, outside, markingFault, badLetter, Letters}
-use Rattle.refusals.specs.declared.Fault.the-variants.{Sound}
+use Rattle.wiring.specs.Wired.{Wired}
+use Rattle.refusals.specs.Given.{refuse, outside, looseFault, markingFault, badLetter, Letters}
+use Rattle.refusals.specs.declared.Fault.{Fault}
+use Rattle.refusals.specs.declared.Fault.the-variants.{Sound, Faulty}
 use Rattle.refusals.proofs.Chains.{refuse-sound, sound-refuse, or-sound, sound-or}
-use Rattle.refusals.proofs.Refusals.{inside-of, inside-is, fine-of, fine-is}
+use Rattle.refusals.proofs.Refusals.{inside-of, inside-is, loose-met, met-loose, fine-of, fine-is}
 use Rattle.refusals.proofs.Exactly.{Chain, tells-test, reads-test, reads-both, reads-all}
 use Rattle.file_digits.specs.Frame.{block, byteAt}
 use Rattle.file_line.specs.declared.Reading.{Reading}
-use Rattle.file_line.specs.Read.{Rooms, kindOf, expected, tokensIn, wordPart, lineHere, ruleOf, formedKind, formedOf, countsBad, tokensBad, hangsLoose, looseBad, wordOver, lettersBad, stored, judgeOf}
+use Rattle.file_line.specs.Read.{Rooms, kindOf, expected, tokensIn, wordPart, lineHere, ruleOf, formedKind, formedOf, countsBad, tokensBad, isFaulty, hangsLoose, looseBad, wordOver, lettersBad, stored, judgeOf}
 use Rattle.file_line.specs.Line.{Ruled, Formed, frame01, frame02, frame03, frame04, frame05, CountsInRange, TokensAllowed, NetWired, WordNotOver, LettersNamed, Taken, Judged}
 use Rattle.file_line.specs.Walk.{askedOf}
 use Rattle.file_line.proofs.Digits.{rule-exactly}
@@ -118,20 +118,15 @@ module _ (s : Reading) (d : List ℕ) where
 -- no node hangs loose exactly where the net is wired
 pub loose-none : (net : Net) → hangsLoose net ≡ false → Wired net
 unfolding hangsLoose
-loose-none net e =
-    let o = or-false (ltb (lowestLoosePlace net) (net .places)) (ltb (lowestLooseTransition net) (net .transitions)) e in
-    let p = first-most (loosePlace net) (net .places) in
-    let t = first-most (looseTransition net) (net .transitions) in
-    let a = ltb-false (lowestLoosePlace net) (net .places) (o .0) in
-    let b = ltb-false (lowestLooseTransition net) (net .transitions) (o .1) in
-    record { places = wired-places net .0 (omega arith); transitions = wired-transitions net .0 (omega arith) }
+loose-none net e = loose-met net (quiet (looseFault net) e)
+  where
+    quiet : (f : Fault) → isFaulty f ≡ false → f ≡ Sound
+    quiet Sound q = refl
+    quiet (Faulty n at) q = never q
 
 pub none-loose : (net : Net) → Wired net → hangsLoose net ≡ false
 unfolding hangsLoose
-none-loose net w =
-    let p = wired-places net .1 (w .places) in
-    let t = wired-transitions net .1 (w .transitions) in
-    both-false _ _ (le-ltb (lowestLoosePlace net) (net .places) (omega arith)) (le-ltb (lowestLooseTransition net) (net .transitions) (omega arith))
+none-loose net w = rw (met-loose net w)
 
 -- each test and its demand
 module _ (s : Reading) (d : List ℕ) (x : Rooms) where

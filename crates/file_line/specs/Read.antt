@@ -1,14 +1,13 @@
 -- To be believed: what a line of a case file comes to, at a state of the reading, over the rooms read so far ("Case file lines"; "Refusal numbers").
 use Prim.Native.Nat.{ℕ, _+_, _-_, _*_, _/_, _%_}
-use mathlib.Core.Bool.{Bool, false, cond, not, _&&_, _||_}
+use mathlib.Core.Bool.{Bool, true, false, cond, not, _&&_, _||_}
 use mathlib.Core.List.{List}
 use lib.ListN.{length, take}
 use lib.Seq.{sets}
 use lib.Dec.{ltb, leb, eqb}
 use Rattle.ground.specs.Limits.{countLimit, wordLimit}
 use Rattle.net.specs.Net.{Net, netOf}
-use Rattle.wiring.specs.Wired.{lowestLoosePlace, lowestLooseTransition}
-use Rattle.refusals.specs.Given.{refuse, orElse, outside, badToken, badLetter}
+use Rattle.refusals.specs.Given.{refuse, orElse, outside, looseFault, badToken, badLetter}
 use Rattle.refusals.specs.declared.Fault.{Fault}
 use Rattle.refusals.specs.declared.Fault.the-variants.{Sound, Faulty}
 use Rattle.file_digits.specs.Frame.{lineLimit, block, allDigits, byteAt, bytesFrom, wordsFrom}
@@ -102,10 +101,15 @@ countsBad d = eqb (kindOf d) 1 && (outside (byteAt d 1) || outside (byteAt d 2))
 abbrev pub tokensBad : Reading → List ℕ → Rooms → Bool
 tokensBad s d x = eqb (kindOf d) 3 && ltb (badToken (x .caps) (tokensIn s d)) (length (tokensIn s d))
 
--- 17: "a net in which some place or transition has no arc is refused", "in a file, on the line of the last transition", whose row y has too
-unfoldable pub hangsLoose : Net → Bool
-hangsLoose net = ltb (lowestLoosePlace net) (net .places) || ltb (lowestLooseTransition net) (net .transitions)
+-- 17: "a net in which some place or transition has no arc is refused", by the test that a net is asked; its position does not matter here
+abbrev pub isFaulty : Fault → Bool
+isFaulty Sound = false
+isFaulty (Faulty n at) = true
 
+unfoldable pub hangsLoose : Net → Bool
+hangsLoose net = isFaulty (looseFault net)
+
+-- "in a file, on the line of the last transition", whose row y has too
 abbrev pub looseBad : Reading → List ℕ → Rooms → Bool
 looseBad s d y = eqb (kindOf d) 4 && (eqb (s .next + 1) (s .transitions) && hangsLoose (netIn s y))
 

@@ -351,10 +351,11 @@ fn is_loose(
     requires { ⌜ Sized (netOf places transitions (now pre) (now post) (now caps)) ⌝ }
     ensures { λ r. ⌜ r ≡ hangsLoose (netOf places transitions (now (pre .entry)) (now (post .entry)) (now (caps .entry))) ⌝ }
 {
-    if wiring::loose_place(places, transitions, pre, post, caps) < places {
-        return true;
+    let found = refusals::loose_fault(places, transitions, pre, post, caps);
+    match found {
+        Fault::Faulty(number, at) => true,
+        Fault::Sound => false,
     }
-    wiring::loose_transition(places, transitions, pre, post, caps) < transitions
 }
 
 // Whether a line of this kind is that of the last transition, by which the whole net has been read.

@@ -116,7 +116,7 @@ module _ (caps initial pre post word : List ℕ) where
   read5 = step state4 state5 rooms4 rooms5 line5 (line6 ++ lineFeed ∷ (line7 ++ lineFeed ∷ [])) refl refl refl
 
   read6 : feedAll (both (going state5 []) rooms5) (line6 ++ lineFeed ∷ (line7 ++ lineFeed ∷ [])) ≡ feedAll (both (going state6 []) rooms6) (line7 ++ lineFeed ∷ [])
-  unfolding lineLen valueOf isDigit allDigits byteAt bytesFrom wordsFrom first ruleOf formedKind formedOf loosePlace looseTransition hangsLoose judgeOf advancedKind storedKind lineOf roomsOf
+  unfolding lineLen valueOf isDigit allDigits byteAt bytesFrom wordsFrom first ruleOf formedKind formedOf loosePlace looseTransition looseFault hangsLoose judgeOf advancedKind storedKind lineOf roomsOf
   read6 = step state5 state6 rooms5 rooms6 line6 (line7 ++ lineFeed ∷ []) refl refl refl
 
   read7 : feedAll (both (going state6 []) rooms6) (line7 ++ lineFeed ∷ []) ≡ feedAll (both (going state7 []) rooms7) []
