@@ -9,7 +9,7 @@ use Rattle.lists.specs.Whole.{markingAt}
 
 -- how many buckets there are
 abbrev pub bucketCount : ℕ
-bucketCount = 4096
+bucketCount = 8192
 
 -- a hash is below this
 abbrev pub hashLimit : ℕ
@@ -17,7 +17,7 @@ hashLimit = 4294967296
 
 -- how many hashes a bucket has
 abbrev pub bucketSize : ℕ
-bucketSize = 1048576
+bucketSize = 524288
 
 -- by which numbers that differ by one come to lie far apart
 abbrev pub factor : ℕ

@@ -11,13 +11,13 @@ ghost use Rattle.lists.specs.declared.Kind.the-variants.{Closed};
 ghost use Rattle.list_index.specs.Index.{bucketCount, hashLimit, bucketSize, mixOf, bucketOf, Indexed};
 
 // How many buckets there are.
-pub const BUCKET_COUNT: usize = 4096;
+pub const BUCKET_COUNT: usize = 8192;
 
 // A hash is below this, so that it and a number, times the factor, stay below 2^64.
 const HASH_LIMIT: u64 = 4294967296;
 
 // How many hashes a bucket has.
-const BUCKET_SIZE: u64 = 1048576;
+const BUCKET_SIZE: u64 = 524288;
 
 // 2^32 less its part by the golden ratio, and odd: numbers that differ by one come to lie far apart.
 const FACTOR: u64 = 1640531527;
