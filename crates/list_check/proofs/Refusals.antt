@@ -1,19 +1,22 @@
 -- Laws of the refusals of a list with its net: which one is given, and what holds where none is. Assumes nothing.
-use Prim.Native.Nat.{ℕ, _≤_}
+use Prim.Native.Nat.{ℕ, _+_, _*_, _%_, _≤_, _<_}
 use mathlib.Core.Path.{_≡_, refl, sym, _∙_}
 use mathlib.Core.Bool.{Bool, true, _&&_}
 use mathlib.Core.List.{List}
 use native.Mathlib.Omega.{arith}
-use lib.ListN.{length}
+use native.Mathlib.Nat.{mod-eq-of-lt, mul-add-mod-self-right}
+use lib.ListN.{length, getD}
 use Rattle.ground.proofs.Tests.{and-true}
 use Rattle.net.specs.Net.{Net, Sized}
+use Rattle.net.proofs.Rows.{row-at}
 use Rattle.wiring.specs.Wired.{Wired}
 use Rattle.refusals.specs.Given.{orElse, startFault, looseFault, Fine}
 use Rattle.refusals.specs.declared.Fault.{Fault}
 use Rattle.refusals.specs.declared.Fault.the-variants.{Sound, Faulty}
 use Rattle.refusals.proofs.Chains.{or-sound, sound-or}
 use Rattle.refusals.proofs.Refusals.{start-met, met-start, loose-met, met-loose}
-use Rattle.lists.specs.Whole.{count}
+use Rattle.lists.specs.Whole.{count, markingAt}
+use Rattle.lists.proofs.Wholes.{marking-end, marking-long}
 use Rattle.list_refusals.specs.Given.{whole, entryFault, sizeFault, listFault}
 use Rattle.lists.specs.declared.Failure.{Failure}
 use Rattle.lists.specs.declared.Kind.{Kind}
@@ -23,7 +26,7 @@ use Rattle.lists.specs.declared.ListAnswer.the-variants.{Accepted, Failed, Refu
 use Rattle.list_refusals.specs.Demands.{EntriesFine, SomeMarkings}
 use Rattle.list_refusals.proofs.Wholes.{whole-long}
 use Rattle.list_refusals.proofs.Exactly.{of-markings, entries-of, of-entries, size-of, of-size}
-use Rattle.list_pairs.specs.Look.{Ready, looked}
+use Rattle.list_pairs.specs.Look.{Ready, Kept, looked}
 use Rattle.list_check.specs.Given.{givenFault, answered, listOf}
 
 -- the 3 of what is lent after the list, then 17; g is the 17
@@ -63,6 +66,18 @@ pub record Lent (kind : Kind) (net : Net) (initial list : List ℕ) (fits : Bool
   pub entries : kind ≡ Closed → EntriesFine (net .places) (net .caps) list
   pub wired : Wired net
   pub some : SomeMarkings (net .places) list
+
+-- a closed list is then within the capacities, marking by marking
+pub kept-of : (kind : Kind) (net : Net) (initial list : List ℕ) (fits : Bool) (next : Fault) → Lent kind net initial list fits next → Kept kind net (count (net .places) list) list
+kept-of kind net initial list fits next l = record { at = λ k h. record { within = λ q. record { at = go k h q } } }
+  where
+    go : (k : ℕ) → k < count (net .places) list → kind ≡ Closed → (p : ℕ) → p < length (markingAt (net .places) list k) → getD (markingAt (net .places) list k) p 0 ≤ getD (net .caps) p 0
+    go k h q p b =
+        let long = l .ready .long in
+        let in-row : p < net .places = omega (arith, marking-long (net .places) (count (net .places) list) list k long h) in
+        let place : (k * net .places + p) % net .places ≡ p = mul-add-mod-self-right k (net .places) p ∙ mod-eq-of-lt in-row in
+        let f = l .entries q .at (k * net .places + p) (omega (arith, marking-end (net .places) (count (net .places) list) list k long h)) .within in
+        rw (row-at (net .places) k list p in-row) (rw place at f)
 
 module _ (kind : Kind) (net : Net) (initial list : List ℕ) (fits : Bool) (next : Fault) where
   pub lent-of : givenFault kind net initial list fits next ≡ Sound → Lent kind net initial list fits next

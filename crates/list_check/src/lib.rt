@@ -13,7 +13,7 @@ ghost use Rattle.ground.specs.Limits.{listLimit};
 ghost use Rattle.net.specs.Net.{netOf, Sized};
 ghost use Rattle.refusals.specs.Given.{orElse, looseFault};
 ghost use Rattle.lists.specs.Whole.{count};
-ghost use Rattle.list_pairs.specs.Look.{Ready, looked};
+ghost use Rattle.list_pairs.specs.Look.{Ready, Kept, looked};
 ghost use Rattle.list_check.specs.Given.{givenFault, listOf, targetOf};
 
 // A list that is not refused: whether it has the initial marking and every result.
@@ -30,6 +30,7 @@ fn look_through(
     requires { ⌜ Ready (netOf places transitions (now pre) (now post) (now caps)) (count places (now list)) (now list) ⌝ }
     requires { ⌜ length (now initial) ≡ places ⌝ }
     requires { ⌜ count places (now list) ≤ listLimit ⌝ }
+    requires { ⌜ Kept kind (netOf places transitions (now pre) (now post) (now caps)) (count places (now list)) (now list) ⌝ }
     ensures { λ r. ⌜ r ≡ looked kind (netOf places transitions (now (pre .entry)) (now (post .entry)) (now (caps .entry))) (now (initial .entry)) (now (list .entry)) ⌝ }
 {
     let n = list.len() / places;

@@ -1,5 +1,5 @@
 -- Only for the code's walk, tied to what is published by proofs/Meaning.antt of closed and cover: a list of either kind looked through, by tests of a listed marking and a transition, and the first that fails.
-use Prim.Native.Nat.{ℕ, _*_}
+use Prim.Native.Nat.{ℕ, _*_, _<_}
 use mathlib.Core.Path.{_≡_}
 use mathlib.Core.Bool.{Bool, not, _&&_}
 use mathlib.Core.List.{List}
@@ -13,6 +13,7 @@ use Rattle.lists.specs.declared.Kind.{Kind}
 use Rattle.lists.specs.declared.Kind.the-variants.{Closed, Cover}
 use Rattle.lists.specs.declared.ListAnswer.{ListAnswer}
 use Rattle.list_index.specs.Index.{Indexed}
+use Rattle.list_arcs.specs.Arc.{Skips, Within}
 use Rattle.list_pairs.specs.Fire.{passesAny, firedAny}
 
 -- what is lent: a net, and a list of n whole markings
@@ -23,6 +24,18 @@ pub record Ready (net : Net) (n : ℕ) (list : List ℕ) : Type 0 where
 -- what a lookup needs: the index of a closed list, and nothing for a cover list
 pub record Found (kind : Kind) (P n : ℕ) (list heads links : List ℕ) : Type 0 where
   pub index : kind ≡ Closed → Indexed P n list heads links
+
+-- what judging by arcs needs: the skips of the net for a closed list, and nothing for a cover list
+pub record Skipped (kind : Kind) (P : ℕ) (pre post skips : List ℕ) : Type 0 where
+  pub table : kind ≡ Closed → Skips P pre post skips
+
+-- ... and a marking within the capacities, as no other is in a closed list that is not refused
+pub record Fitting (kind : Kind) (caps m : List ℕ) : Type 0 where
+  pub within : kind ≡ Closed → Within caps m
+
+-- ... at each listed marking
+pub record Kept (kind : Kind) (net : Net) (n : ℕ) (list : List ℕ) : Type 0 where
+  pub at : (k : ℕ) → k < n → Fitting kind (net .caps) (markingAt (net .places) list k)
 
 -- t is enabled at the marking l of a closed list, and the list does not hold its result
 abbrev pub unlisted : Net → ℕ → List ℕ → ℕ → List ℕ → Bool

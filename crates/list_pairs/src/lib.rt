@@ -1,5 +1,6 @@
 // Inner: a listed marking and a transition: whether the result is missing, in a list of either kind;
-// and the first listed marking, and in it the lowest transition, for which it is.
+// and the first listed marking, and in it the lowest transition, for which it is. The room for a
+// result is made once for a list.
 use ground::TOKEN_LIMIT;
 use ground::Weight;
 use lists::Failure;
@@ -9,12 +10,13 @@ ghost use mathlib.Core.Path.{_≡_};
 ghost use mathlib.Core.Bool.{true, false};
 ghost use Prim.Native.Nat.{_+_, _*_, _<_, _≤_};
 ghost use lib.ListN.{length, replicate};
-ghost use Rattle.ground.specs.Limits.{listLimit};
+ghost use Rattle.ground.specs.Limits.{countLimit, listLimit};
 ghost use Rattle.net.specs.Net.{netOf};
 ghost use Rattle.lists.specs.Whole.{count};
 ghost use Rattle.list_index.specs.Index.{bucketCount, Indexed};
+ghost use Rattle.list_arcs.specs.Arc.{Skips, Within};
 ghost use Rattle.list_pairs.specs.Fire.{lacks, passesAny, afterAny, firedAny};
-ghost use Rattle.list_pairs.specs.Look.{Ready, Found, unlisted, uncovered, absent, missing, results};
+ghost use Rattle.list_pairs.specs.Look.{Ready, Found, Skipped, Fitting, Kept, unlisted, uncovered, absent, missing, results};
 
 // One place is a number, and less than is taken.
 fn is_lacking(takes: Weight, entry: u16) -> bool
@@ -77,7 +79,7 @@ fn fire_any(
 }
 
 // Whether a transition is enabled at a marking of a closed list with a result that the list does not
-// hold. The result is made once, in the room, and looked for by the list's index.
+// hold. It is judged and fired by its arcs; the result is looked for by the list's index.
 fn is_unlisted(
     places: usize,
     transitions: usize,
@@ -88,6 +90,7 @@ fn is_unlisted(
     count: usize,
     heads: &[u16],
     links: &[u16],
+    skips: &[u8],
     t: usize,
     listed: &[u16],
     room: &mut [u32],
@@ -96,11 +99,11 @@ fn is_unlisted(
     requires { ⌜ (length (now listed) ≡ places) × (length (now room) ≡ places) ⌝ }
     requires { ⌜ t < transitions ⌝ }
     requires { ⌜ Indexed places count (now list) (now heads) (now links) ⌝ }
+    requires { ⌜ Skips places (now pre) (now post) (now skips) × Within (now caps) (now listed) ⌝ }
     ensures { λ r. ⌜ r ≡ unlisted (netOf places transitions (now (pre .entry)) (now (post .entry)) (now (caps .entry))) count (now (list .entry)) t (now (listed .entry)) ⌝ }
 {
-    net::load(listed, room);
-    if net::may_fire_at(places, transitions, pre, post, caps, t, room) {
-        net::fire_at(places, transitions, pre, post, caps, t, room);
+    if list_arcs::may_fire_listed(places, transitions, pre, post, caps, skips, t, listed) {
+        list_arcs::fire_listed(places, transitions, pre, post, caps, skips, t, listed, room);
         return !list_index::find(places, count, list, heads, links, room);
     }
     false
@@ -142,6 +145,7 @@ fn is_absent(
     count: usize,
     heads: &[u16],
     links: &[u16],
+    skips: &[u8],
     t: usize,
     listed: &[u16],
     room: &mut [u32],
@@ -150,6 +154,7 @@ fn is_absent(
     requires { ⌜ (length (now listed) ≡ places) × (length (now room) ≡ places) ⌝ }
     requires { ⌜ t < transitions ⌝ }
     requires { ⌜ Found kind places count (now list) (now heads) (now links) ⌝ }
+    requires { ⌜ Skipped kind places (now pre) (now post) (now skips) × Fitting kind (now caps) (now listed) ⌝ }
     ensures { λ r. ⌜ r ≡ absent kind (netOf places transitions (now (pre .entry)) (now (post .entry)) (now (caps .entry))) count (now (list .entry)) t (now (listed .entry)) ⌝ }
 {
     match kind {
@@ -163,6 +168,7 @@ fn is_absent(
             count,
             heads,
             links,
+            skips,
             t,
             listed,
             room,
@@ -183,15 +189,19 @@ fn is_missing(
     count: usize,
     heads: &[u16],
     links: &[u16],
+    skips: &[u8],
     k: usize,
     t: usize,
+    room: &mut [u32],
 ) -> bool
     requires { ⌜ Ready (netOf places transitions (now pre) (now post) (now caps)) count (now list) ⌝ }
     requires { ⌜ (k < count) × (t < transitions) ⌝ }
     requires { ⌜ Found kind places count (now list) (now heads) (now links) ⌝ }
+    requires { ⌜ Skipped kind places (now pre) (now post) (now skips) ⌝ }
+    requires { ⌜ Kept kind (netOf places transitions (now pre) (now post) (now caps)) count (now list) ⌝ }
+    requires { ⌜ length (now room) ≡ places ⌝ }
     ensures { λ r. ⌜ r ≡ missing kind (netOf places transitions (now (pre .entry)) (now (post .entry)) (now (caps .entry))) count (now (list .entry)) k t ⌝ }
 {
-    let mut room = lists::no_tokens();
     let a = k * places;
     let e = a + places;
     is_absent(
@@ -205,9 +215,10 @@ fn is_missing(
         count,
         heads,
         links,
+        skips,
         t,
         &list[a..e],
-        &mut room[..places],
+        room,
     )
 }
 
@@ -223,9 +234,14 @@ fn first_missing(
     count: usize,
     heads: &[u16],
     links: &[u16],
+    skips: &[u8],
+    room: &mut [u32],
 ) -> ListAnswer
     requires { ⌜ Ready (netOf places transitions (now pre) (now post) (now caps)) count (now list) ⌝ }
     requires { ⌜ Found kind places count (now list) (now heads) (now links) ⌝ }
+    requires { ⌜ Skipped kind places (now pre) (now post) (now skips) ⌝ }
+    requires { ⌜ Kept kind (netOf places transitions (now pre) (now post) (now caps)) count (now list) ⌝ }
+    requires { ⌜ length (now room) ≡ places ⌝ }
     ensures { λ r. ⌜ r ≡ results kind (netOf places transitions (now (pre .entry)) (now (post .entry)) (now (caps .entry))) count (now (list .entry)) ⌝ }
 {
     let mut k = 0;
@@ -244,8 +260,10 @@ fn first_missing(
                 count,
                 heads,
                 links,
+                skips,
                 k,
                 t,
+                room,
             ) {
                 break 'markings;
             }
@@ -280,7 +298,19 @@ fn fill_index(
     }
 }
 
-// The same, with an index of its own.
+// The skips of the net, for a closed list; a cover list is judged without capacities and has none.
+fn fill_skips(kind: Kind, places: usize, pre: &[Weight], post: &[Weight], skips: &mut [u8])
+    requires { ⌜ (1 ≤ places) × (places ≤ countLimit) ⌝ }
+    requires { ⌜ (length (now pre) ≤ length (now skips)) × (length (now post) ≡ length (now pre)) ⌝ }
+    ensures { λ r. ⌜ Skipped kind places (now (pre .entry)) (now (post .entry)) (now (skips .exit)) ⌝ }
+{
+    match kind {
+        Kind::Closed => list_arcs::make_skips(places, pre, post, skips),
+        Kind::Cover => {}
+    }
+}
+
+// The same, with an index, skips and a room of its own.
 pub fn look_up(
     kind: Kind,
     places: usize,
@@ -293,11 +323,15 @@ pub fn look_up(
 ) -> ListAnswer
     requires { ⌜ Ready (netOf places transitions (now pre) (now post) (now caps)) count (now list) ⌝ }
     requires { ⌜ count ≤ listLimit ⌝ }
+    requires { ⌜ Kept kind (netOf places transitions (now pre) (now post) (now caps)) count (now list) ⌝ }
     ensures { λ r. ⌜ r ≡ results kind (netOf places transitions (now (pre .entry)) (now (post .entry)) (now (caps .entry))) count (now (list .entry)) ⌝ }
 {
     let mut heads = list_index::no_heads();
     let mut links = list_index::no_links();
+    let mut skips = list_arcs::no_skips();
+    let mut room = lists::no_tokens();
     fill_index(kind, places, count, list, &mut heads, &mut links);
+    fill_skips(kind, places, pre, post, &mut skips);
     first_missing(
         kind,
         places,
@@ -309,5 +343,7 @@ pub fn look_up(
         count,
         &heads,
         &links,
+        &skips,
+        &mut room[..places],
     )
 }

@@ -1,6 +1,6 @@
 use denote.Ref.{now}
 use Rattle.net.specs.Net.{netOf}
-use Rattle.list_check.proofs.Refusals.{checks, check-lent}
+use Rattle.list_check.proofs.Refusals.{checks, check-lent, kept-of}
 use borrow.Author.Needs.{needs}
 use Rattle.list_check.proofs.check_list.Statement.{statement}
 use Rattle.list_check.proofs.check_list.Tie as tie
@@ -20,7 +20,7 @@ look-through-requires c κs =
     let f : tie.After-find-fault = search needs in
     let a = s .args in
     let l = check-lent (a .kind) (netOf (a .places) (a .transitions) (now (a .pre)) (now (a .post)) (now (a .caps))) (now (a .initial)) (now (a .list)) (a .fits) (a .next) _ (f .find-fault .ensures) (search needs) in
-    (l .ready, (l .start, l .some .many))
+    (l .ready, (l .start, (l .some .many, kept-of _ _ _ _ _ _ l)))
 
 returns : tie.Need-returns
 returns c = search (checks, needs)

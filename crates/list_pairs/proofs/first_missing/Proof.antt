@@ -2,6 +2,8 @@ use mathlib.Core.Logic.{⊎-elim}
 use native.Mathlib.Omega.{arith}
 use denote.Ref.{now}
 use Prim.Native.Nat.{_≤_, _-_}
+use mathlib.Core.Path.{_≡_, sym, ap, _∙_}
+use lib.ListN.{length}
 use Rattle.net.specs.Net.{Net, netOf}
 use Rattle.ground.proofs.Scan.{Below, scans}
 use Rattle.lists.specs.Pairs.{fails}
@@ -12,16 +14,16 @@ use Rattle.list_pairs.proofs.first_missing.Statement.{statement}
 use Rattle.list_pairs.proofs.first_missing.Tie as tie
 
 abbrev Inv-loop : tie.InvT-loop
-Inv-loop kind places transitions pre post caps list count heads links k t₀ t = (t ≤ transitions) × Below (missing kind (netOf places transitions pre post caps) count list k) t
+Inv-loop kind places transitions pre post caps list count heads links skips room₀ k t₀ room t = (length room ≡ places) × ((t ≤ transitions) × Below (missing kind (netOf places transitions pre post caps) count list k) t)
 
 abbrev μ-loop : tie.MeasureT-loop
-μ-loop kind places transitions pre post caps list count heads links k t₀ t = transitions - t
+μ-loop kind places transitions pre post caps list count heads links skips room₀ k t₀ room t = transitions - t
 
 abbrev Inv-markings : tie.InvT-markings
-Inv-markings kind places transitions pre post caps list count heads links k₀ t₀ k t = (k ≤ count) × Below (fails (missing kind (netOf places transitions pre post caps) count list) transitions) k
+Inv-markings kind places transitions pre post caps list count heads links skips room₀ k₀ t₀ room k t = (length room ≡ places) × ((k ≤ count) × Below (fails (missing kind (netOf places transitions pre post caps) count list) transitions) k)
 
 abbrev μ-markings : tie.MeasureT-markings
-μ-markings kind places transitions pre post caps list count heads links k₀ t₀ k t = count - k
+μ-markings kind places transitions pre post caps list count heads links skips room₀ k₀ t₀ room k t = count - k
 
 -- the net at the function's entry
 at : tie.Start Inv-loop μ-loop Inv-markings μ-markings → Net
@@ -34,7 +36,9 @@ loop-holds : tie.Need-loop-holds Inv-loop μ-loop Inv-markings μ-markings
 loop-holds c = search (scans, needs)
 
 is-missing-requires : tie.Need-is-missing-requires Inv-loop μ-loop Inv-markings μ-markings
-is-missing-requires c κs = search needs
+is-missing-requires c κs =
+    let s : tie.Start Inv-loop μ-loop Inv-markings μ-markings = search needs in
+    (s .pre .0, (search needs, (s .pre .1 .0, (s .pre .1 .1 .0, (s .pre .1 .1 .1 .0, search needs)))))
 
 add-t : tie.Need-add-t Inv-loop μ-loop Inv-markings μ-markings
 add-t c = search needs
@@ -43,7 +47,9 @@ loop-less : tie.Need-loop-less Inv-loop μ-loop Inv-markings μ-markings
 loop-less c = search needs
 
 loop-again : tie.Need-loop-again Inv-loop μ-loop Inv-markings μ-markings
-loop-again c = search (scans, needs)
+loop-again c =
+    let l : tie.In-loop Inv-loop μ-loop Inv-markings μ-markings = search needs in
+    (c .before .before .before .is-missing .kept .1 .1 .1 .1 .1 .1 .1 .1 .1 .1 .1 .1 .1 .0 ∙ l .before .loop .inv .0, (search needs, search (scans, needs)))
 
 add-k : tie.Need-add-k Inv-loop μ-loop Inv-markings μ-markings
 add-k c = search needs
@@ -57,7 +63,16 @@ markings-again c =
     let s : tie.Start Inv-loop μ-loop Inv-markings μ-markings = search needs in
     let m = c .before .before .before .markings in
     let l = c .before .loop in
-    (search needs, marking-passes (missing (s .args .kind) (at s) (s .args .count) (now (s .args .list))) (s .args .transitions) (m .k) (m .inv .1) (l .t) (l .inv .1) (l .inv .0) (c .loop-test .left))
+    (search needs, (search needs, marking-passes (missing (s .args .kind) (at s) (s .args .count) (now (s .args .list))) (s .args .transitions) (m .k) (m .inv .1 .1) (l .t) (l .inv .1 .1) (l .inv .1 .0) (c .loop-test .left)))
+
+same-length : tie.Need-same-length Inv-loop μ-loop Inv-markings μ-markings
+same-length c =
+    let s : tie.Start Inv-loop μ-loop Inv-markings μ-markings = search needs in
+    let e = sym (s .pre .1 .1 .1 .1) in
+    ⊎-elim
+    (λ w. ap length (w .1) ∙ c .before .before .markings .inv .0 ∙ e)
+    (λ w. ap length (w .8) ∙ w .4 .kept .1 .1 .1 .1 .1 .1 .1 .1 .1 .1 .1 .1 .1 .0 ∙ w .1 .inv .0 ∙ e)
+    (c .before .markings-test .came)
 
 returns : tie.Need-returns Inv-loop μ-loop Inv-markings μ-markings
 unfolding at
@@ -66,7 +81,16 @@ returns c =
     let m = c .before .before .markings in
     ⊎-elim
     (λ w. absurd (omega (arith, w .0 .left, c .if2 .taken)))
-    (λ w. rw (w .5) (results-found (missing (s .args .kind) (at s) (s .args .count) (now (s .args .list))) (s .args .transitions) (m .k) (m .inv .1) (s .args .count) (w .1 .t) (w .1 .inv .1) _ (w .3 .ensures) (w .4 .taken) (c .if2 .taken) (w .2 .taken)))
+    (λ w. rw (w .9) (results-found (missing (s .args .kind) (at s) (s .args .count) (now (s .args .list))) (s .args .transitions) (m .k) (m .inv .1 .1) (s .args .count) (w .1 .t) (w .1 .inv .1 .1) _ (w .4 .ensures) (w .7 .taken) (c .if2 .taken) (w .2 .taken)))
+    (c .before .markings-test .came)
+
+same-length-2 : tie.Need-same-length-2 Inv-loop μ-loop Inv-markings μ-markings
+same-length-2 c =
+    let s : tie.Start Inv-loop μ-loop Inv-markings μ-markings = search needs in
+    let e = sym (s .pre .1 .1 .1 .1) in
+    ⊎-elim
+    (λ w. ap length (w .1) ∙ c .before .before .markings .inv .0 ∙ e)
+    (λ w. ap length (w .8) ∙ w .4 .kept .1 .1 .1 .1 .1 .1 .1 .1 .1 .1 .1 .1 .1 .0 ∙ w .1 .inv .0 ∙ e)
     (c .before .markings-test .came)
 
 returns-2 : tie.Need-returns-2 Inv-loop μ-loop Inv-markings μ-markings
@@ -89,5 +113,7 @@ first-missing-spec =
     add-k
     markings-less
     markings-again
+    same-length
     returns
+    same-length-2
     returns-2)

@@ -1,42 +1,30 @@
 use mathlib.Core.Path.{sym, _∙_}
-use native.Mathlib.Omega.{arith}
-use denote.Ref.{now}
-use Rattle.list_pairs.proofs.Fires.{small-as, unlisteds}
+use Rattle.list_pairs.proofs.Fires.{unlisteds}
 use borrow.Author.Needs.{needs}
 use Rattle.list_pairs.proofs.is_unlisted.Statement.{statement}
 use Rattle.list_pairs.proofs.is_unlisted.Tie as tie
 
-load-requires : tie.Need-load-requires
-load-requires c κs = search needs
+may-fire-listed-requires : tie.Need-may-fire-listed-requires
+may-fire-listed-requires c κs =
+    let s : tie.Start = search needs in
+    (s .pre .0 .sized, (s .pre .1 .1 .1 .1 .0, ((s .pre .1 .0 .0, s .pre .1 .1 .0), s .pre .1 .1 .1 .1 .1)))
 
-may-fire-at-requires : tie.Need-may-fire-at-requires
-may-fire-at-requires c κs =
-    let l = c .before .before .before in
-    let k = l .before .before .before in
-    let s = k .before .before .before .before .before .before .before in
-    (s .pre .0 .sized, (search needs, (small-as _ (now (s .args .listed)) (l .load .ensures) (λ p. omega (arith, k .shared-slice-known7 .given p)), s .pre .1 .1 .0)))
-
-fire-at-requires : tie.Need-fire-at-requires
-fire-at-requires c κs =
-    let l = c .before .before .before .before .before .before in
-    let k = l .before .before .before in
-    let s = k .before .before .before .before .before .before .before in
-    let m : tie.After-may-fire-at = search needs in
-    (s .pre .0 .sized, (search needs, (small-as _ (now (s .args .listed)) (l .load .ensures) (λ p. omega (arith, k .shared-slice-known7 .given p)), (s .pre .1 .1 .0, sym (m .may-fire-at .ensures) ∙ search needs))))
+fire-listed-requires : tie.Need-fire-listed-requires
+fire-listed-requires c κs =
+    let s : tie.Start = search needs in
+    let m : tie.After-may-fire-listed = search needs in
+    (s .pre .0 .sized, (s .pre .1 .1 .1 .1 .0, ((s .pre .1 .0 .0, s .pre .1 .1 .0), (sym (m .may-fire-listed .ensures) ∙ search needs, s .pre .1 .0 .1))))
 
 find-requires : tie.Need-find-requires
 find-requires c κs =
     let s : tie.Start = search needs in
-    (s .pre .0 .long, (search needs, s .pre .1 .1 .1))
+    (s .pre .0 .long, (search needs, s .pre .1 .1 .1 .0))
 
 same-length : tie.Need-same-length
 same-length c = search needs
 
 returns : tie.Need-returns
 returns c = search (unlisteds, needs)
-
-same-length-2 : tie.Need-same-length-2
-same-length-2 c = search needs
 
 returns-2 : tie.Need-returns-2
 returns-2 c = search (unlisteds, needs)
@@ -45,11 +33,9 @@ pub is-unlisted-spec : {M : Type 1} → statement M
 is-unlisted-spec =
     tie.close
     (tie.spec
-    load-requires
-    may-fire-at-requires
-    fire-at-requires
+    may-fire-listed-requires
+    fire-listed-requires
     find-requires
     same-length
     returns
-    same-length-2
     returns-2)
