@@ -1,11 +1,11 @@
-/* Closed lists and cover lists, as crates/lists, crates/list_index and crates/list_check do it; and closed lists without an
- * index, each result looked for among all listed markings. */
+/* Closed lists and cover lists, as crates/lists, crates/list_index, crates/list_arcs and crates/list_pairs do it; and closed
+ * lists without an index or skips, each result looked for among all listed markings. */
 #include "same.h"
 
 /* The index of a list: for each bucket its latest marking, for each marking the one before it in its bucket; 0 is none,
  * k + 1 marking number k. */
 struct index {
-    uint16_t heads[4096], links[4096];
+    uint16_t heads[8192], links[4096];
 };
 
 /* A hash with one more number in it. */
@@ -18,7 +18,7 @@ static size_t listed_bucket(const uint16_t *listed, size_t places) {
     uint64_t h = 0;
     for (size_t p = 0; p < places; p++)
         h = mix(h, listed[p]);
-    return (size_t)(h / 1048576);
+    return (size_t)(h / 524288);
 }
 
 /* The bucket of a marking that is looked for. */
@@ -26,7 +26,7 @@ static size_t sought_bucket(const uint32_t *marking, size_t places) {
     uint64_t h = 0;
     for (size_t p = 0; p < places; p++)
         h = mix(h, marking[p]);
-    return (size_t)(h / 1048576);
+    return (size_t)(h / 524288);
 }
 
 /* The index of a list, into an empty one. */
@@ -54,6 +54,53 @@ static int find(size_t places, const uint16_t *list, const struct index *index, 
     return 0;
 }
 
+/* How many places without an arc a pass over a transition's places, from the last one down, leaves out at each. */
+static void make_skips(size_t places, size_t transitions, const uint8_t *pre, const uint8_t *post, uint8_t *skips) {
+    for (size_t k = 0; k < transitions * places; k++) {
+        size_t most = k % places, n = 0;
+        while (n < most && pre[k - n] == 0 && post[k - n] == 0)
+            n++;
+        skips[k] = (uint8_t)n;
+    }
+}
+
+/* One place within its capacity stops a transition. */
+static inline int is_stopped(uint8_t takes, uint8_t puts, uint16_t cap, uint16_t tokens) {
+    return tokens < takes || (cap < 65535 && cap < tokens + (puts < takes ? 0 : puts - takes));
+}
+
+/* Whether a transition may fire at a listed marking, by its arcs. */
+static inline int may_fire_listed(const uint8_t *takes, const uint8_t *puts, const uint16_t *caps, const uint8_t *skips,
+                                  const uint16_t *listed, size_t places) {
+    for (size_t p = places; p > 0;) {
+        p = p - 1 - skips[p - 1];
+        if (is_stopped(takes[p], puts[p], caps[p], listed[p]))
+            return 0;
+    }
+    return 1;
+}
+
+/* The result of a transition at a listed marking, into the room. */
+static inline void fire_listed(const uint8_t *takes, const uint8_t *puts, const uint8_t *skips, const uint16_t *listed,
+                               uint32_t *room, size_t places) {
+    load(listed, room, places);
+    for (size_t p = places; p > 0;) {
+        p = p - 1 - skips[p - 1];
+        room[p] = (uint32_t)listed[p] + puts[p] - takes[p];
+    }
+}
+
+/* Whether the result of transition t at a listed marking is not one of the list's, by arcs and index. */
+static inline int is_unlisted(KAUNORPI_NET, const uint16_t *list, const struct index *index, const uint8_t *skips,
+                              size_t t, const uint16_t *listed, uint32_t *room) {
+    size_t a = t * places;
+    (void)transitions, (void)pre_len, (void)post_len, (void)caps_len;
+    if (!may_fire_listed(pre + a, post + a, caps, skips + a, listed, places))
+        return 0;
+    fire_listed(pre + a, post + a, skips + a, listed, room, places);
+    return !find(places, list, index, room);
+}
+
 /* Whether the marking is one of the list's, compared with all. */
 static int is_listed(size_t places, size_t count, const uint16_t *list, const uint32_t *marking) {
     for (size_t k = 0; k < count; k++)
@@ -62,9 +109,8 @@ static int is_listed(size_t places, size_t count, const uint16_t *list, const ui
     return 0;
 }
 
-/* Whether the result of transition t at listed marking k is absent, by the index if there is one. */
-static inline int is_absent(KAUNORPI_NET, const uint16_t *list, size_t count, const struct index *index, size_t k,
-                            size_t t) {
+/* The same without them: every place is judged, and all listed markings are compared with. */
+static inline int is_absent(KAUNORPI_NET, const uint16_t *list, size_t count, size_t k, size_t t) {
     const uint8_t *takes = pre + t * places, *puts = post + t * places;
     uint32_t room[64] = {0};
     (void)transitions, (void)pre_len, (void)post_len, (void)caps_len;
@@ -72,7 +118,7 @@ static inline int is_absent(KAUNORPI_NET, const uint16_t *list, size_t count, co
     if (!may_fire(takes, puts, caps, room, places))
         return 0;
     fire(takes, puts, room, places);
-    return index ? !find(places, list, index, room) : !is_listed(places, count, list, room);
+    return !is_listed(places, count, list, room);
 }
 
 /* Refusals 1, 2, 3, 17 and 9; a cover list's own entries are free. */
@@ -93,42 +139,50 @@ static struct fault list_fault(KAUNORPI_NET, const uint16_t *initial, size_t ini
     return found;
 }
 
-/* The refusals, the initial marking, the index if there is to be one, then each pair. */
-static inline kaunorpi_list closed_list(KAUNORPI_NET, const uint16_t *initial, size_t initial_len, const uint16_t *list,
-                                        size_t list_len, int indexed) {
+/* The refusals, then the initial marking; number 0 where neither fails. */
+static inline kaunorpi_list closed_start(KAUNORPI_NET, const uint16_t *initial, size_t initial_len, const uint16_t *list,
+                                         size_t list_len) {
     uint32_t room[64] = {0};
-    struct index index = {{0}, {0}};
-    size_t count;
     struct fault found = list_fault(places, transitions, pre, pre_len, post, post_len, caps, caps_len, initial,
                                     initial_len, list, list_len, 0);
     if (found.number != 0)
         return (kaunorpi_list){KAUNORPI_REFUSED, found.number, found.at, 0};
-    count = list_len / places;
     load(initial, room, places);
-    if (!is_listed(places, count, list, room))
-        return (kaunorpi_list){KAUNORPI_ANSWERED, 1, 0, 0};
-    if (indexed)
-        make_index(places, count, list, &index);
-    for (size_t k = 0; k < count; k++)
-        for (size_t t = 0; t < transitions; t++)
-            if (is_absent(places, transitions, pre, pre_len, post, post_len, caps, caps_len, list, count,
-                          indexed ? &index : 0, k, t))
-                return (kaunorpi_list){KAUNORPI_ANSWERED, 2, k, t};
-    return (kaunorpi_list){KAUNORPI_ANSWERED, 0, 0, 0};
+    return (kaunorpi_list){KAUNORPI_ANSWERED, !is_listed(places, list_len / places, list, room), 0, 0};
 }
 
-/* By an index, as the library does it. */
+/* By an index and by arcs, as the library does it. */
 kaunorpi_list same_closed_list(KAUNORPI_NET, const uint16_t *initial, size_t initial_len, const uint16_t *list,
                                size_t list_len) {
-    return closed_list(places, transitions, pre, pre_len, post, post_len, caps, caps_len, initial, initial_len, list,
-                       list_len, 1);
+    uint32_t room[64] = {0};
+    uint8_t skips[4096] = {0};
+    struct index index = {{0}, {0}};
+    kaunorpi_list start = closed_start(places, transitions, pre, pre_len, post, post_len, caps, caps_len, initial,
+                                       initial_len, list, list_len);
+    if (start.number != 0)
+        return start;
+    make_index(places, list_len / places, list, &index);
+    make_skips(places, transitions, pre, post, skips);
+    for (size_t k = 0; k < list_len / places; k++)
+        for (size_t t = 0; t < transitions; t++)
+            if (is_unlisted(places, transitions, pre, pre_len, post, post_len, caps, caps_len, list, &index, skips, t,
+                            list + k * places, room))
+                return (kaunorpi_list){KAUNORPI_ANSWERED, 2, k, t};
+    return start;
 }
 
-/* Without one. */
+/* Without either. */
 kaunorpi_list plain_closed_list(KAUNORPI_NET, const uint16_t *initial, size_t initial_len, const uint16_t *list,
                                 size_t list_len) {
-    return closed_list(places, transitions, pre, pre_len, post, post_len, caps, caps_len, initial, initial_len, list,
-                       list_len, 0);
+    kaunorpi_list start = closed_start(places, transitions, pre, pre_len, post, post_len, caps, caps_len, initial,
+                                       initial_len, list, list_len);
+    if (start.number != 0)
+        return start;
+    for (size_t k = 0; k < list_len / places; k++)
+        for (size_t t = 0; t < transitions; t++)
+            if (is_absent(places, transitions, pre, pre_len, post, post_len, caps, caps_len, list, list_len / places, k, t))
+                return (kaunorpi_list){KAUNORPI_ANSWERED, 2, k, t};
+    return start;
 }
 
 /* Whether some listed marking covers the marking. */

@@ -6,10 +6,10 @@ use mathlib.Core.List.{List}
 use native.Mathlib.Omega.{arith}
 use lib.ListN.{length, getD}
 use borrow.Author.Tests.{ltb-false, le-leb, lt-leb}
-use Rattle.ground.specs.Limits.{tokenLimit}
+use Rattle.ground.specs.Limits.{tokenLimit, replayLimit}
 use Rattle.ground.proofs.Fill.{Made, make-end}
 use Rattle.net.specs.Net.{Net}
-use Rattle.net.specs.Letter.{arcsAt, passes, firedAt}
+use Rattle.net.specs.Letter.{arcsAt, passes, firedAt, Small}
 use Rattle.lists.proofs.Somes.{none-at}
 use Rattle.lists.specs.Match.{held}
 use Rattle.lists.specs.declared.Kind.{Kind}
@@ -36,6 +36,10 @@ module _ (P : ℕ) (pre post : List ℕ) (t : ℕ) (l : List ℕ) where
 
   pub fired-any : (r₀ : List ℕ) (p : ℕ) (r : List ℕ) → Made 0 (λ p. afterAny (getD pre (t * P + p) 0) (getD post (t * P + p) 0) (getD l p 0)) r₀ p r → length l ≡ P → length r₀ ≡ P → length r ≤ p → r ≡ firedAny P pre post t l
   fired-any r₀ p r m e f h = rw (e ∙ sym f) (make-end 0 (λ p. afterAny (getD pre (t * P + p) 0) (getD post (t * P + p) 0) (getD l p 0)) r₀ p r m h)
+
+-- m is a marking l of 16 bits that was loaded: less than a replay reaches
+pub small-as : (m l : List ℕ) → m ≡ l → ((p : ℕ) → getD l p 0 < 65536) → Small replayLimit m
+small-as m l e h = rw e (record { at = λ p. omega (arith, h p) })
 
 -- a pair in a closed list: r tells whether t is enabled at l
 module _ (net : Net) (n : ℕ) (list : List ℕ) (t : ℕ) (l : List ℕ) (r : Bool) (e : r ≡ passes (arcsAt net t) l) where

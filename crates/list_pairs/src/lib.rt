@@ -278,34 +278,31 @@ fn first_missing(
     }
 }
 
-// The index of a closed list; a cover list is compared by order and has none.
+// The index of a closed list, and the skips of its net; a cover list is compared by order and judged
+// without capacities, and has neither.
 fn fill_index(
     kind: Kind,
     places: usize,
+    pre: &[Weight],
+    post: &[Weight],
     count: usize,
     list: &[u16],
     heads: &mut [u16],
     links: &mut [u16],
+    skips: &mut [u8],
 )
     requires { ⌜ (length (now list) ≡ count * places) × (count ≤ listLimit) ⌝ }
     requires { ⌜ now heads ≡ replicate bucketCount 0 ⌝ }
     requires { ⌜ length (now links) ≡ listLimit ⌝ }
-    ensures { λ r. ⌜ Found kind places count (now (list .entry)) (now (heads .exit)) (now (links .exit)) ⌝ }
-{
-    match kind {
-        Kind::Closed => list_index::make_index(places, count, list, heads, links),
-        Kind::Cover => {}
-    }
-}
-
-// The skips of the net, for a closed list; a cover list is judged without capacities and has none.
-fn fill_skips(kind: Kind, places: usize, pre: &[Weight], post: &[Weight], skips: &mut [u8])
     requires { ⌜ (1 ≤ places) × (places ≤ countLimit) ⌝ }
     requires { ⌜ (length (now pre) ≤ length (now skips)) × (length (now post) ≡ length (now pre)) ⌝ }
-    ensures { λ r. ⌜ Skipped kind places (now (pre .entry)) (now (post .entry)) (now (skips .exit)) ⌝ }
+    ensures { λ r. ⌜ Found kind places count (now (list .entry)) (now (heads .exit)) (now (links .exit)) × Skipped kind places (now (pre .entry)) (now (post .entry)) (now (skips .exit)) ⌝ }
 {
     match kind {
-        Kind::Closed => list_arcs::make_skips(places, pre, post, skips),
+        Kind::Closed => {
+            list_index::make_index(places, count, list, heads, links);
+            list_arcs::make_skips(places, pre, post, skips);
+        }
         Kind::Cover => {}
     }
 }
@@ -330,8 +327,17 @@ pub fn look_up(
     let mut links = list_index::no_links();
     let mut skips = list_arcs::no_skips();
     let mut room = lists::no_tokens();
-    fill_index(kind, places, count, list, &mut heads, &mut links);
-    fill_skips(kind, places, pre, post, &mut skips);
+    fill_index(
+        kind,
+        places,
+        pre,
+        post,
+        count,
+        list,
+        &mut heads,
+        &mut links,
+        &mut skips,
+    );
     first_missing(
         kind,
         places,

@@ -1,4 +1,4 @@
-use Rattle.list_pairs.proofs.Lookups.{found-closed, found-cover}
+use Rattle.list_pairs.proofs.Lookups.{found-closed, found-cover, skipped-closed, skipped-cover}
 use borrow.Author.Needs.{needs}
 use Rattle.list_pairs.proofs.fill_index.Statement.{statement}
 use Rattle.list_pairs.proofs.fill_index.Tie as tie
@@ -9,6 +9,11 @@ enum-told c = search needs
 make-index-requires : tie.Need-make-index-requires
 make-index-requires c κs = search needs
 
+make-skips-requires : tie.Need-make-skips-requires
+make-skips-requires c κs =
+    let s : tie.Start = search needs in
+    (s .pre .1 .1 .1 .0, s .pre .1 .1 .1 .1)
+
 enum-told-2 : tie.Need-enum-told-2
 enum-told-2 c = search needs
 
@@ -18,13 +23,17 @@ same-length c = search needs
 same-length-2 : tie.Need-same-length-2
 same-length-2 c = search needs
 
+same-length-3 : tie.Need-same-length-3
+same-length-3 c = search needs
+
 returns : tie.Need-returns
 returns c =
     let m : tie.After-make-index = search needs in
-    found-closed _ _ _ _ _ _ (m .make-index .ensures)
+    let k : tie.After-make-skips = search needs in
+    (found-closed _ _ _ _ _ _ (m .make-index .ensures), skipped-closed _ _ _ _ _ (k .make-skips .ensures))
 
 returns-2 : tie.Need-returns-2
-returns-2 c = found-cover _ _ _ _ _ _ (search needs)
+returns-2 c = (found-cover _ _ _ _ _ _ (search needs), skipped-cover _ _ _ _ _ (search needs))
 
 pub fill-index-spec : {M : Type 1} → statement M
 fill-index-spec =
@@ -32,8 +41,10 @@ fill-index-spec =
     (tie.spec
     enum-told
     make-index-requires
+    make-skips-requires
     enum-told-2
     same-length
     same-length-2
+    same-length-3
     returns
     returns-2)

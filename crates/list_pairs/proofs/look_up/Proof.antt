@@ -6,12 +6,9 @@ use borrow.Author.Needs.{needs}
 use Rattle.list_pairs.proofs.look_up.Statement.{statement}
 use Rattle.list_pairs.proofs.look_up.Tie as tie
 
--- the room's making and the function's entry, before the room is lent
-abbrev made : tie.After-room → tie.After-no-tokens
-made c = c .before .before .before .before .before .before .before .before .before .before .before .before
-
-abbrev start : tie.After-room → tie.Start
-start c = made c .before .before .before .before .before .before .before .before
+-- the function's entry, before the room is made
+abbrev start : tie.After-no-tokens → tie.Start
+start c = c .before .before .before .before .before .before .before .before
 
 no-heads-requires : tie.Need-no-heads-requires
 no-heads-requires c κs = search needs
@@ -31,18 +28,16 @@ slice-aggregate-fill-index c = search needs
 slice-aggregate-fill-index-2 : tie.Need-slice-aggregate-fill-index-2
 slice-aggregate-fill-index-2 c = search needs
 
+slice-aggregate-fill-index-3 : tie.Need-slice-aggregate-fill-index-3
+slice-aggregate-fill-index-3 c = search needs
+
 fill-index-requires : tie.Need-fill-index-requires
-fill-index-requires c κs = search needs
-
-slice-aggregate-fill-skips : tie.Need-slice-aggregate-fill-skips
-slice-aggregate-fill-skips c = search needs
-
-fill-skips-requires : tie.Need-fill-skips-requires
-fill-skips-requires c κs =
-    let z = c .before .before .before .before .before .before .before .before .before .before .before .before .before .before .pre .0 .sized in
-    let n = c .before .before .before .before .before .before .before .no-skips .ensures in
+fill-index-requires c κs =
+    let s : tie.Start = search needs in
+    let n : tie.After-no-skips = search needs in
+    let z = s .pre .0 .sized in
     let m = mul-le-mul (z .few-transitions) (z .few-places) in
-    ((z .some-places, z .few-places), (omega (arith, z .pres, n, m), z .posts ∙ sym (z .pres)))
+    (search needs, (search needs, (search needs, ((z .some-places, z .few-places), (omega (arith, z .pres, n .no-skips .ensures, m), z .posts ∙ sym (z .pres))))))
 
 slice-aggregate-first-missing : tie.Need-slice-aggregate-first-missing
 slice-aggregate-first-missing c = search needs
@@ -57,14 +52,16 @@ array-borrow-prefix-room : tie.Need-array-borrow-prefix-room
 array-borrow-prefix-room c = search needs
 
 slice-aggregate-first-missing-4 : tie.Need-slice-aggregate-first-missing-4
-slice-aggregate-first-missing-4 c = long-front _ _ (made c .no-tokens .ensures) (start c .pre .0 .sized .few-places)
+slice-aggregate-first-missing-4 c =
+    let m : tie.After-no-tokens = search needs in
+    long-front _ _ (m .no-tokens .ensures) (start m .pre .0 .sized .few-places)
 
 first-missing-requires : tie.Need-first-missing-requires
 first-missing-requires c κs =
-    let s = start c in
-    let i = c .before .before .before .before .before .before .before .before .before .fill-index .ensures in
-    let k = c .before .before .before .before .before .fill-skips .ensures in
-    (s .pre .0, (i, (k, (s .pre .1 .1, front-long _ _ (made c .no-tokens .ensures) (s .pre .0 .sized .few-places)))))
+    let m : tie.After-no-tokens = search needs in
+    let i : tie.After-fill-index = search needs in
+    let s = start m in
+    (s .pre .0, (i .fill-index .ensures .0, (i .fill-index .ensures .1, (s .pre .1 .1, front-long _ _ (m .no-tokens .ensures) (s .pre .0 .sized .few-places)))))
 
 returns : tie.Need-returns
 returns c = search needs
@@ -79,9 +76,8 @@ look-up-spec =
     no-tokens-requires
     slice-aggregate-fill-index
     slice-aggregate-fill-index-2
+    slice-aggregate-fill-index-3
     fill-index-requires
-    slice-aggregate-fill-skips
-    fill-skips-requires
     slice-aggregate-first-missing
     slice-aggregate-first-missing-2
     slice-aggregate-first-missing-3
