@@ -1,5 +1,5 @@
-/* Closed lists and cover lists, as crates/lists, crates/list_index, crates/list_arcs and crates/list_pairs do it; and closed
- * lists without an index or skips, each result looked for among all listed markings. */
+/* Closed lists and cover lists, as crates/lists, crates/list_index, crates/list_arcs and crates/list_pairs do it; and
+ * closed lists without an index or skips, each result looked for among all listed markings. */
 #include "same.h"
 
 /* The index of a list: for each bucket its latest marking, for each marking the one before it in its bucket; 0 is none,
@@ -140,8 +140,8 @@ static struct fault list_fault(KAUNORPI_NET, const uint16_t *initial, size_t ini
 }
 
 /* The refusals, then the initial marking; number 0 where neither fails. */
-static inline kaunorpi_list closed_start(KAUNORPI_NET, const uint16_t *initial, size_t initial_len, const uint16_t *list,
-                                         size_t list_len) {
+static inline kaunorpi_list closed_start(KAUNORPI_NET, const uint16_t *initial, size_t initial_len,
+                                         const uint16_t *list, size_t list_len) {
     uint32_t room[64] = {0};
     struct fault found = list_fault(places, transitions, pre, pre_len, post, post_len, caps, caps_len, initial,
                                     initial_len, list, list_len, 0);
@@ -159,11 +159,13 @@ kaunorpi_list same_closed_list(KAUNORPI_NET, const uint16_t *initial, size_t ini
     struct index index = {{0}, {0}};
     kaunorpi_list start = closed_start(places, transitions, pre, pre_len, post, post_len, caps, caps_len, initial,
                                        initial_len, list, list_len);
+    size_t count;
     if (start.number != 0)
         return start;
-    make_index(places, list_len / places, list, &index);
+    count = list_len / places;
+    make_index(places, count, list, &index);
     make_skips(places, transitions, pre, post, skips);
-    for (size_t k = 0; k < list_len / places; k++)
+    for (size_t k = 0; k < count; k++)
         for (size_t t = 0; t < transitions; t++)
             if (is_unlisted(places, transitions, pre, pre_len, post, post_len, caps, caps_len, list, &index, skips, t,
                             list + k * places, room))
@@ -176,11 +178,13 @@ kaunorpi_list plain_closed_list(KAUNORPI_NET, const uint16_t *initial, size_t in
                                 size_t list_len) {
     kaunorpi_list start = closed_start(places, transitions, pre, pre_len, post, post_len, caps, caps_len, initial,
                                        initial_len, list, list_len);
+    size_t count;
     if (start.number != 0)
         return start;
-    for (size_t k = 0; k < list_len / places; k++)
+    count = list_len / places;
+    for (size_t k = 0; k < count; k++)
         for (size_t t = 0; t < transitions; t++)
-            if (is_absent(places, transitions, pre, pre_len, post, post_len, caps, caps_len, list, list_len / places, k, t))
+            if (is_absent(places, transitions, pre, pre_len, post, post_len, caps, caps_len, list, count, k, t))
                 return (kaunorpi_list){KAUNORPI_ANSWERED, 2, k, t};
     return start;
 }
