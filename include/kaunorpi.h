@@ -11,11 +11,11 @@
  *
  * Stack. kaunorpi_order_logs needs some 340 KB for two logs of 255 letters, since it calls itself for each letter: 656
  * bytes for each letter of both logs, and 1.4 KB. kaunorpi_read_case needs some 75 KB, for rooms of its own in which a
- * whole file is read before anything is written; the functions about lists of markings need some 18 KB, for an index of
+ * whole file is read before anything is written; the functions about lists of markings need some 30 KB, for an index of
  * their own; every other function needs less than 4 KB. Measured in the machine code of the archive for x86-64: 74,960
- * bytes; at most 17,512 (kaunorpi_closed_target); and at most 3,392 (kaunorpi_summary_stretch); with what a function
- * calls and without memcpy and memset, which are the C library's. Of kaunorpi_order_logs, where 510 letters fire,
- * 335,936 bytes were seen to be written.
+ * bytes; at most 29,784 (kaunorpi_closed_target); and at most 3,392 (kaunorpi_summary_stretch); with what a function calls
+ * and without memcpy and memset, which are the C library's. Of kaunorpi_order_logs, where 510 letters fire, 335,936 bytes
+ * were seen to be written.
  *
  * What is proved. Each function's comment ends with its contract, which says that the answer is the entry's of that
  * name, number by number, and with theorems that say what such an answer means; docs/STATEMENTS.md has them in words,
