@@ -14,31 +14,32 @@ use Rattle.ground.specs.Lists.{tally}
 use Rattle.ground.proofs.Tests.{never, or-false, both-false, and-true}
 use Rattle.ground.proofs.Scan.{first-below, first-passes, first-most, tally-none}
 use Rattle.ground.proofs.Fill.{mapAt-length, mapAt-at}
-use Rattle.ground.proofs.Parts.{moved-le, moved-lt, moved-is}
-use Rattle.net.specs.Net.{Net, Pre, Post, capacity, tokens}
+use Rattle.ground.proofs.Parts.{moved-is}
+use Rattle.net.specs.Net.{Net, Pre, Post, capacity, mark, leavesFirst, tokens}
 use Rattle.net.specs.Firing.{Covers, Keeps, Enabled, Gives, LowestShort, LowestOver, Names}
 use Rattle.net.specs.Letter.{arcsAt, overAt, short, over, stops, lowestShort, lowestOver, cause, passes, after, judgeAt, firedAt}
 use Rattle.net.specs.declared.Cause.{Cause}
 use Rattle.net.specs.declared.Cause.the-variants.{Short, Over}
 use Rattle.net.specs.declared.Letter.the-variants.{Passes, Stops}
+use Rattle.net.proofs.Rule.{level-le, level-lt}
 use Rattle.net.proofs.Letters.{none-stops}
 use Rattle.net.proofs.Rows.{row-at}
 
 -- one place's capacity test
-over-no : (takes puts cap tokens : ℕ) → overAt takes puts cap tokens ≡ false → cap < noCapacity → tokens + puts ≤ cap + takes
-over-no takes puts cap tokens e h = ltb-false (cap + takes) (tokens + puts) (rw (lt-ltb cap noCapacity h) at e)
+over-no : (takes puts cap mark tokens : ℕ) → overAt takes puts cap mark tokens ≡ false → cap < noCapacity → tokens + puts ≤ cap + leavesFirst mark takes
+over-no takes puts cap mark tokens e h = ltb-false (cap + leavesFirst mark takes) (tokens + puts) (rw (lt-ltb cap noCapacity h) at e)
 
-no-over : (takes puts cap tokens : ℕ) → (cap < noCapacity → tokens + puts ≤ cap + takes) → overAt takes puts cap tokens ≡ false
-no-over takes puts cap tokens h = go (ltb cap noCapacity) refl
+no-over : (takes puts cap mark tokens : ℕ) → (cap < noCapacity → tokens + puts ≤ cap + leavesFirst mark takes) → overAt takes puts cap mark tokens ≡ false
+no-over takes puts cap mark tokens h = go (ltb cap noCapacity) refl
   where
-    go : (b : Bool) → ltb cap noCapacity ≡ b → (ltb cap noCapacity && ltb (cap + takes) (tokens + puts)) ≡ false
-    go true e = rw e (le-ltb (cap + takes) (tokens + puts) (h (ltb-true cap noCapacity e)))
+    go : (b : Bool) → ltb cap noCapacity ≡ b → (ltb cap noCapacity && ltb (cap + leavesFirst mark takes) (tokens + puts)) ≡ false
+    go true e = rw e (le-ltb (cap + leavesFirst mark takes) (tokens + puts) (h (ltb-true cap noCapacity e)))
     go false e = rw e
 
-over-yes : (takes puts cap tokens : ℕ) → overAt takes puts cap tokens ≡ true → (cap < noCapacity) × (cap + takes < tokens + puts)
-over-yes takes puts cap tokens e =
-    let a = and-true (ltb cap noCapacity) (ltb (cap + takes) (tokens + puts)) e in
-    (ltb-true cap noCapacity (a .0), ltb-true (cap + takes) (tokens + puts) (a .1))
+over-yes : (takes puts cap mark tokens : ℕ) → overAt takes puts cap mark tokens ≡ true → (cap < noCapacity) × (cap + leavesFirst mark takes < tokens + puts)
+over-yes takes puts cap mark tokens e =
+    let a = and-true (ltb cap noCapacity) (ltb (cap + leavesFirst mark takes) (tokens + puts)) e in
+    (ltb-true cap noCapacity (a .0), ltb-true (cap + leavesFirst mark takes) (tokens + puts) (a .1))
 
 module _ (net : Net) (m : List ℕ) (t : ℕ) (long : length m ≡ net .places) where
   module _ (p : ℕ) (h : p < net .places) where
@@ -56,10 +57,10 @@ module _ (net : Net) (m : List ℕ) (t : ℕ) (long : length m ≡ net .places) 
     of-covers c = le-ltb (tokens m p) (getD (arcsAt net t .takes) p 0) (rw pre-at c)
 
     keeps-of : over (arcsAt net t) m p ≡ false → Keeps net m t p
-    keeps-of e c = moved-le (tokens m p) (Post net p t) (Pre net p t) (capacity net p) .1 (rw (← pre-at, ← post-at) (over-no _ _ _ _ e c))
+    keeps-of e c = level-le net m t p (capacity net p) .1 (rw (← pre-at, ← post-at) (over-no _ _ _ _ _ e c))
 
     of-keeps : Keeps net m t p → over (arcsAt net t) m p ≡ false
-    of-keeps k = no-over (getD (arcsAt net t .takes) p 0) (getD (arcsAt net t .puts) p 0) (capacity net p) (tokens m p) (λ c. rw (pre-at, post-at) (moved-le (tokens m p) (Post net p t) (Pre net p t) (capacity net p) .0 (k c)))
+    of-keeps k = no-over (getD (arcsAt net t .takes) p 0) (getD (arcsAt net t .puts) p 0) (capacity net p) (mark net p) (tokens m p) (λ c. rw (pre-at, post-at) (level-le net m t p (capacity net p) .0 (k c)))
 
   -- a letter passes exactly where it is enabled
   pub enabled-of : passes (arcsAt net t) m ≡ true → Enabled net m t
@@ -120,13 +121,13 @@ module _ (net : Net) (m : List ℕ) (t : ℕ) (long : length m ≡ net .places) 
           at-over : Dec (lowestOver (arcsAt net t) m < length m) → LowestOver net m t (lowestOver (arcsAt net t) m)
           at-over (yes b) =
               let l : lowestOver (arcsAt net t) m < net .places = omega arith in
-              let o = over-yes _ _ _ _ (first-passes (over (arcsAt net t) m) (length m) b) in
+              let o = over-yes _ _ _ _ _ (first-passes (over (arcsAt net t) m) (length m) b) in
               record {
                 here = l;
                 covers = covers;
                 over = (
                   o .0,
-                  moved-lt (tokens m (lowestOver (arcsAt net t) m)) (Post net (lowestOver (arcsAt net t) m) t) (Pre net (lowestOver (arcsAt net t) m) t) (capacity net (lowestOver (arcsAt net t) m)) .1
+                  level-lt net m t (lowestOver (arcsAt net t) m) (capacity net (lowestOver (arcsAt net t) m)) .1
                       (rw (← pre-at _ l, ← post-at _ l) (o .1)),
                 );
                 lowest = λ p k. keeps p (omega arith) k;

@@ -17,14 +17,14 @@ use Rattle.net.specs.declared.Cause.the-variants.{Short, Over}
 use Rattle.net.specs.declared.Letter.the-variants.{Passes, Stops}
 
 -- one place's number: s and o are the two tests' answers
-module _ (s o : Bool) (takes puts cap tokens : ℕ) (es : s ≡ shortAt takes tokens) where
-  pub stop-short : s ≡ true → _≡_ {A = ℕ} 1 (bit (shortAt takes tokens || overAt takes puts cap tokens))
+module _ (s o : Bool) (takes puts cap mark tokens : ℕ) (es : s ≡ shortAt takes tokens) where
+  pub stop-short : s ≡ true → _≡_ {A = ℕ} 1 (bit (shortAt takes tokens || overAt takes puts cap mark tokens))
   stop-short h = rw (sym es ∙ h)
 
-  pub stop-over : s ≡ false → o ≡ overAt takes puts cap tokens → o ≡ true → _≡_ {A = ℕ} 1 (bit (shortAt takes tokens || overAt takes puts cap tokens))
+  pub stop-over : s ≡ false → o ≡ overAt takes puts cap mark tokens → o ≡ true → _≡_ {A = ℕ} 1 (bit (shortAt takes tokens || overAt takes puts cap mark tokens))
   stop-over h eo l = rw (sym es ∙ h, sym eo ∙ l)
 
-  pub stop-none : s ≡ false → o ≡ overAt takes puts cap tokens → o ≡ false → _≡_ {A = ℕ} 0 (bit (shortAt takes tokens || overAt takes puts cap tokens))
+  pub stop-none : s ≡ false → o ≡ overAt takes puts cap mark tokens → o ≡ false → _≡_ {A = ℕ} 0 (bit (shortAt takes tokens || overAt takes puts cap mark tokens))
   stop-none h eo l = rw (sym es ∙ h, sym eo ∙ l)
 
 pub ruleset place-stops = (stop-short, stop-over, stop-none)

@@ -10,23 +10,13 @@ use lib.IntN.{pos}
 use lib.Seq.{ext-getD}
 use Rattle.ground.specs.Limits.{weightLimit, tokenLimit, wordLimit, replayLimit}
 use Rattle.ground.specs.Parts.{up}
-use Rattle.ground.proofs.Parts.{moved-is, moved-le, le-pos}
-use Rattle.net.specs.Net.{Net, Pre, Post, rise, capacity, Capped, tokens, Light}
-use Rattle.net.specs.Firing.{causeNumber, causeValues, result, level, Keeps, Gives, Firing, Fires, nothing, letter, Reachable, Within}
+use Rattle.ground.proofs.Parts.{moved-is}
+use Rattle.net.specs.Net.{Net, Pre, Post, capacity, mark, tokens, Light}
+use Rattle.net.specs.Firing.{causeNumber, causeValues, Gives, Firing, Fires, nothing, letter, Reachable, Within}
 use Rattle.net.specs.Letter.{Small}
+use Rattle.net.proofs.Rule.{leaves-most, level-le}
 use Rattle.net.specs.declared.Cause.{Cause}
 use Rattle.net.specs.declared.Cause.the-variants.{Short, Over}
-
--- the capacity rule looks at 01's "m(p) + Change(p,t)"
-pub level-is-result : (net : Net) (m : List ℕ) (t p : ℕ) → level net m t p ≡ result net m t p
-level-is-result net m t p = refl
-
--- at a place that is within its capacity the rule keeps exactly where there is room for tokens plus rise
-pub keeps-rise : (net : Net) (m : List ℕ) (t p : ℕ) → (Capped net p → tokens m p ≤ capacity net p) → Keeps net m t p ↔ (Capped net p → tokens m p + rise net p t ≤ capacity net p)
-keeps-rise net m t p within = (
-  λ k c. let w = within c in omega (arith, moved-le (tokens m p) (Post net p t) (Pre net p t) (capacity net p) .0 (k c)),
-  λ r c. moved-le (tokens m p) (Post net p t) (Pre net p t) (capacity net p) .1 (let h = r c in let w = within c in omega arith),
-)
 
 -- a cause's number and values tell it apart
 pub cause-apart : (a b : Cause) → causeNumber a ≡ causeNumber b → causeValues a ≡ causeValues b → a ≡ b
@@ -86,7 +76,7 @@ pub firing-within : {net : Net} {m m′ : List ℕ} {t : ℕ} → Firing net m t
 firing-within {net} {m} {m′} {t} f =
     record {
       long = f .gives .long;
-      at = λ p h c. le-pos (pos (tokens m′ p)) (capacity net p) .0 (rw (f .gives .at p h) (f .enabled .keeps p h c));
+      at = λ p h c. omega (arith, gives-plain (f .gives) p h, level-le net m t p (capacity net p) .0 (f .enabled .keeps p h c), leaves-most (mark net p) (Pre net p t));
     }
 
 pub within-stays : {net : Net} {m w m′ : List ℕ} → Fires net m w m′ → Within net m → Within net m′

@@ -33,6 +33,7 @@ module _ (net : Net) (m : List ℕ) (t : ℕ) (sized : Sized net) (h : t < net .
         taken = row-length (net .places) t (net .pre) pre-end ∙ sym long;
         put = row-length (net .places) t (net .post) post-end ∙ sym long;
         capped = sized .capped ∙ sym long;
+        noted = sized .noted ∙ sym long;
         few = rw long (sized .few-places);
         small = s;
       }

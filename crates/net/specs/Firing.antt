@@ -1,12 +1,14 @@
--- To be believed: firing as published: 001's relation m[t> m′ with its capacity rule, and the words and markings that follow from it.
+-- To be believed: firing as published: 001's relation m[t> m′ with its capacity rule, 002's for pockets, and the words and markings that follow from it.
 -- It is said of every net, whether or not each node has an arc; that a net with a loose one is refused is 02's, E4 (wiring/specs/Wired.antt).
-use Prim.Native.Nat.{ℕ, _≤_, _<_}
+use Prim.Native.Nat.{ℕ, _+_, _≤_, _<_}
 use mathlib.Core.Path.{_≡_}
+use mathlib.Core.Bool.{cond}
 use mathlib.Core.List.{List, [], _∷_}
 use lib.ListN.{length}
+use lib.Dec.{eqb}
 use lib.IntN.{ℤ, pos, _+ℤ_, _-ℤ_}
 use lib.Signed.{_≤ℤ_, _<ℤ_}
-use Rattle.net.specs.Net.{Net, Pre, Post, Change, leaves, capacity, Capped, tokens}
+use Rattle.net.specs.Net.{Net, Pre, Post, Change, capacity, Capped, mark, tokens}
 use Rattle.net.specs.declared.Cause.{Cause}
 use Rattle.net.specs.declared.Cause.the-variants.{Short, Over}
 
@@ -18,12 +20,18 @@ result net m t p = pos (tokens m p) +ℤ Change net p t
 abbrev pub Covers : Net → List ℕ → ℕ → ℕ → Type 0
 Covers net m t p = Pre net p t ≤ tokens m p
 
--- what the capacity rule looks at: the tokens without what leaves first, with what t puts there. As all that t takes leaves first,
--- this is "m(p) + Change(p,t)" (`level-is-result` in proofs/Meaning.antt).
-abbrev pub level : Net → List ℕ → ℕ → ℕ → ℤ
-level net m t p = pos (tokens m p) +ℤ (pos (Post net p t) -ℤ pos (leaves net p t))
+-- What the capacity rule looks at, by the place's mark. A plain place: "m(p) + Change(p,t)", which is 001's. A pocket: "tokens plus Post",
+-- which is 002's; there what arrives finds all the tokens still in place.
+abbrev pub plainLevel : Net → List ℕ → ℕ → ℕ → ℤ
+plainLevel net m t p = result net m t p
 
--- one place: "m(p) + Change(p,t) <= capacity where there is one. .. This capacity rule is 001's."
+abbrev pub pocketLevel : Net → List ℕ → ℕ → ℕ → ℤ
+pocketLevel net m t p = pos (tokens m p + Post net p t)
+
+unfoldable pub level : Net → List ℕ → ℕ → ℕ → ℤ
+level net m t p = cond (eqb (mark net p) 0) (plainLevel net m t p) (pocketLevel net m t p)
+
+-- one place: "m(p) + Change(p,t) <= capacity where there is one"; for pockets "tokens plus Post must keep to the capacity"
 abbrev pub Keeps : Net → List ℕ → ℕ → ℕ → Type 0
 Keeps net m t p = Capped net p → level net m t p ≤ℤ pos (capacity net p)
 

@@ -18,31 +18,32 @@ abbrev pub shortAt : ℕ → ℕ → Bool
 shortAt takes tokens = ltb tokens takes
 
 -- one place is "over capacity": it has one, and its tokens, without what leaves first and with what is put, are above it
-abbrev pub overAt : ℕ → ℕ → ℕ → ℕ → Bool
-overAt takes puts cap tokens = ltb cap noCapacity && ltb (cap + leavesFirst takes) (tokens + puts)
+abbrev pub overAt : ℕ → ℕ → ℕ → ℕ → ℕ → Bool
+overAt takes puts cap mark tokens = ltb cap noCapacity && ltb (cap + leavesFirst mark takes) (tokens + puts)
 
--- one transition: what it takes and puts at each place, with the capacities
+-- one transition: what it takes and puts at each place, with the capacities and marks
 pub record Arcs : Type 0 where
   pub takes : List ℕ
   pub puts : List ℕ
   pub caps : List ℕ
+  pub marks : List ℕ
 
-abbrev pub arcsOf : List ℕ → List ℕ → List ℕ → Arcs
-arcsOf takes puts caps = record { takes = takes; puts = puts; caps = caps }
+abbrev pub arcsOf : List ℕ → List ℕ → List ℕ → List ℕ → Arcs
+arcsOf takes puts caps marks = record { takes = takes; puts = puts; caps = caps; marks = marks }
 
 -- row t of a table with rows of n entries
 abbrev pub row : ℕ → ℕ → List ℕ → List ℕ
 row n t l = take n (drop (t * n) l)
 
 abbrev pub arcsAt : Net → ℕ → Arcs
-arcsAt net t = arcsOf (row (net .places) t (net .pre)) (row (net .places) t (net .post)) (net .caps)
+arcsAt net t = arcsOf (row (net .places) t (net .pre)) (row (net .places) t (net .post)) (net .caps) (net .marks)
 
 -- place p of a marking, from the rows
 abbrev pub short : List ℕ → List ℕ → ℕ → Bool
 short takes m p = shortAt (getD takes p 0) (getD m p 0)
 
 abbrev pub over : Arcs → List ℕ → ℕ → Bool
-over arcs m p = overAt (getD (arcs .takes) p 0) (getD (arcs .puts) p 0) (getD (arcs .caps) p 0) (getD m p 0)
+over arcs m p = overAt (getD (arcs .takes) p 0) (getD (arcs .puts) p 0) (getD (arcs .caps) p 0) (getD (arcs .marks) p 0) (getD m p 0)
 
 -- place p stops the letter
 abbrev pub stops : Arcs → List ℕ → ℕ → Bool
@@ -97,6 +98,7 @@ pub record Rows (arcs : Arcs) (m : List ℕ) : Type 0 where
   pub taken : length (arcs .takes) ≡ length m
   pub put : length (arcs .puts) ≡ length m
   pub capped : length (arcs .caps) ≡ length m
+  pub noted : length (arcs .marks) ≡ length m
   pub few : length m ≤ countLimit
   pub small : Small replayLimit m
 

@@ -1,3 +1,4 @@
 pub mod Net
 pub mod Firing
 pub mod Letter
+pub mod Marks

@@ -1,5 +1,5 @@
 // Inner: the net as lent, and one letter judged and fired. A net is its counts, Pre and Post (flat,
-// transition by transition) and the capacities, in this order everywhere.
+// transition by transition), the capacities and the marks, in this order everywhere.
 use ground::NO_CAPACITY;
 use ground::Weight;
 ghost use mathlib.Core.Path.{_≡_};
@@ -8,7 +8,7 @@ ghost use Prim.Native.Nat.{_+_, _-_, _<_, _≤_};
 ghost use lib.ListN.{length};
 ghost use Rattle.ground.specs.Limits.{replayLimit};
 ghost use Rattle.ground.specs.Lists.{bit};
-ghost use Rattle.net.specs.Net.{netOf, leavesFirst, riseOf, Sized};
+ghost use Rattle.net.specs.Net.{netOf, inForce, leavesFirst, riseOf, Sized};
 ghost use Rattle.net.specs.Letter.{shortAt, overAt, arcsOf, arcsAt, lowestShort, lowestOver, cause, passes, fired, firedAt, Small, Enough, Rows, Played};
 
 // Why a letter is not enabled: short of tokens, or over capacity, at a place.
@@ -30,44 +30,51 @@ fn is_short(takes: Weight, tokens: u32) -> bool
     tokens < takes as u32
 }
 
-// Of what is taken from a place, what leaves before anything arrives: all of it, by 001's rule. Here
-// and in `leavesFirst` alone stands which rule is in force.
-fn leaves(takes: Weight) -> Weight
-    ensures { λ r. ⌜ r ≡ leavesFirst takes ⌝ }
+// Of what is taken from a place, what leaves before anything arrives: all of it from a plain place,
+// nothing from a pocket. Here and in `leavesFirst` alone stands which rule a mark means.
+fn leaves(mark: u8, takes: Weight) -> Weight
+    ensures { λ r. ⌜ r ≡ leavesFirst mark takes ⌝ }
 {
-    takes
+    if mark == 0 { takes } else { 0 }
+}
+
+// The mark that counts: a pocket without capacity behaves as a plain place.
+pub fn mark_in_force(cap: u16, mark: u8) -> u8
+    ensures { λ r. ⌜ r ≡ inForce cap mark ⌝ }
+{
+    if cap < NO_CAPACITY { mark } else { 0 }
 }
 
 // How far a place rises above its tokens: what is put there above what leaves first, or 0.
-pub fn rise(takes: Weight, puts: Weight) -> Weight
-    ensures { λ r. ⌜ r ≡ riseOf takes puts ⌝ }
+pub fn rise(mark: u8, takes: Weight, puts: Weight) -> Weight
+    ensures { λ r. ⌜ r ≡ riseOf mark takes puts ⌝ }
 {
-    let left = leaves(takes);
+    let left = leaves(mark, takes);
     if puts < left { 0 } else { puts - left }
 }
 
 // One place has a capacity and would hold more. Both sides have what leaves first added, so that
 // nothing is subtracted.
-fn is_over(takes: Weight, puts: Weight, cap: u16, tokens: u32) -> bool
+fn is_over(takes: Weight, puts: Weight, cap: u16, mark: u8, tokens: u32) -> bool
     requires { ⌜ tokens ≤ replayLimit ⌝ }
-    ensures { λ r. ⌜ r ≡ overAt takes puts cap tokens ⌝ }
+    ensures { λ r. ⌜ r ≡ overAt takes puts cap mark tokens ⌝ }
 {
     if cap < NO_CAPACITY {
-        let left = leaves(takes);
+        let left = leaves(mark, takes);
         return cap as u32 + (left as u32) < tokens + puts as u32;
     }
     false
 }
 
 // 1 where one place stops a letter, else 0: a number, so that a pass over the places only adds.
-fn stops_at(takes: Weight, puts: Weight, cap: u16, tokens: u32) -> u32
+fn stops_at(takes: Weight, puts: Weight, cap: u16, mark: u8, tokens: u32) -> u32
     requires { ⌜ tokens ≤ replayLimit ⌝ }
-    ensures { λ r. ⌜ r ≡ bit (shortAt takes tokens || overAt takes puts cap tokens) ⌝ }
+    ensures { λ r. ⌜ r ≡ bit (shortAt takes tokens || overAt takes puts cap mark tokens) ⌝ }
 {
     if is_short(takes, tokens) {
         return 1;
     }
-    if is_over(takes, puts, cap, tokens) {
+    if is_over(takes, puts, cap, mark, tokens) {
         1
     } else {
         0
@@ -84,14 +91,14 @@ fn moved(takes: Weight, puts: Weight, tokens: u32) -> u32
 }
 
 // Whether a letter passes: one plain pass over the places, with no way out on the way.
-fn may_fire(takes: &[Weight], puts: &[Weight], caps: &[u16], marking: &[u32]) -> bool
-    requires { ⌜ Rows (arcsOf (now takes) (now puts) (now caps)) (now marking) ⌝ }
-    ensures { λ r. ⌜ r ≡ passes (arcsOf (now (takes .entry)) (now (puts .entry)) (now (caps .entry))) (now (marking .entry)) ⌝ }
+fn may_fire(takes: &[Weight], puts: &[Weight], caps: &[u16], marks: &[u8], marking: &[u32]) -> bool
+    requires { ⌜ Rows (arcsOf (now takes) (now puts) (now caps) (now marks)) (now marking) ⌝ }
+    ensures { λ r. ⌜ r ≡ passes (arcsOf (now (takes .entry)) (now (puts .entry)) (now (caps .entry)) (now (marks .entry))) (now (marking .entry)) ⌝ }
 {
     let mut stopped: u32 = 0;
     let mut p = 0;
     while p < marking.len() {
-        stopped += stops_at(takes[p], puts[p], caps[p], marking[p]);
+        stopped += stops_at(takes[p], puts[p], caps[p], marks[p], marking[p]);
         p += 1;
     }
     stopped == 0
@@ -113,13 +120,19 @@ fn lowest_short(takes: &[Weight], marking: &[u32]) -> usize
 }
 
 // The lowest place that is over, or the number of places.
-fn lowest_over(takes: &[Weight], puts: &[Weight], caps: &[u16], marking: &[u32]) -> usize
-    requires { ⌜ Rows (arcsOf (now takes) (now puts) (now caps)) (now marking) ⌝ }
-    ensures { λ r. ⌜ r ≡ lowestOver (arcsOf (now (takes .entry)) (now (puts .entry)) (now (caps .entry))) (now (marking .entry)) ⌝ }
+fn lowest_over(
+    takes: &[Weight],
+    puts: &[Weight],
+    caps: &[u16],
+    marks: &[u8],
+    marking: &[u32],
+) -> usize
+    requires { ⌜ Rows (arcsOf (now takes) (now puts) (now caps) (now marks)) (now marking) ⌝ }
+    ensures { λ r. ⌜ r ≡ lowestOver (arcsOf (now (takes .entry)) (now (puts .entry)) (now (caps .entry)) (now (marks .entry))) (now (marking .entry)) ⌝ }
 {
     let mut p = 0;
     while p < marking.len() {
-        if is_over(takes[p], puts[p], caps[p], marking[p]) {
+        if is_over(takes[p], puts[p], caps[p], marks[p], marking[p]) {
             return p;
         }
         p += 1;
@@ -128,16 +141,22 @@ fn lowest_over(takes: &[Weight], puts: &[Weight], caps: &[u16], marking: &[u32])
 }
 
 // Why a letter that some place stops is stopped: the lowest short place, else the lowest place over.
-fn why_stopped(takes: &[Weight], puts: &[Weight], caps: &[u16], marking: &[u32]) -> Cause
-    requires { ⌜ Rows (arcsOf (now takes) (now puts) (now caps)) (now marking) ⌝ }
-    requires { ⌜ passes (arcsOf (now takes) (now puts) (now caps)) (now marking) ≡ false ⌝ }
-    ensures { λ r. ⌜ r ≡ cause (arcsOf (now (takes .entry)) (now (puts .entry)) (now (caps .entry))) (now (marking .entry)) ⌝ }
+fn why_stopped(
+    takes: &[Weight],
+    puts: &[Weight],
+    caps: &[u16],
+    marks: &[u8],
+    marking: &[u32],
+) -> Cause
+    requires { ⌜ Rows (arcsOf (now takes) (now puts) (now caps) (now marks)) (now marking) ⌝ }
+    requires { ⌜ passes (arcsOf (now takes) (now puts) (now caps) (now marks)) (now marking) ≡ false ⌝ }
+    ensures { λ r. ⌜ r ≡ cause (arcsOf (now (takes .entry)) (now (puts .entry)) (now (caps .entry)) (now (marks .entry))) (now (marking .entry)) ⌝ }
 {
     let s = lowest_short(takes, marking);
     if s < marking.len() {
         return Cause::Short(s);
     }
-    let o = lowest_over(takes, puts, caps, marking);
+    let o = lowest_over(takes, puts, caps, marks, marking);
     Cause::Over(o)
 }
 
@@ -157,15 +176,21 @@ pub fn fire(takes: &[Weight], puts: &[Weight], marking: &mut [u32])
 }
 
 // One letter by its rows: fires it in place, or says why not and leaves the marking.
-fn play_rows(takes: &[Weight], puts: &[Weight], caps: &[u16], marking: &mut [u32]) -> Letter
-    requires { ⌜ Rows (arcsOf (now takes) (now puts) (now caps)) (now marking) ⌝ }
-    ensures { λ r. ⌜ Played (arcsOf (now (takes .entry)) (now (puts .entry)) (now (caps .entry))) (now (marking .entry)) r (now (marking .exit)) ⌝ }
+fn play_rows(
+    takes: &[Weight],
+    puts: &[Weight],
+    caps: &[u16],
+    marks: &[u8],
+    marking: &mut [u32],
+) -> Letter
+    requires { ⌜ Rows (arcsOf (now takes) (now puts) (now caps) (now marks)) (now marking) ⌝ }
+    ensures { λ r. ⌜ Played (arcsOf (now (takes .entry)) (now (puts .entry)) (now (caps .entry)) (now (marks .entry))) (now (marking .entry)) r (now (marking .exit)) ⌝ }
 {
-    if may_fire(takes, puts, caps, marking) {
+    if may_fire(takes, puts, caps, marks, marking) {
         fire(takes, puts, marking);
         return Letter::Passes;
     }
-    let why = why_stopped(takes, puts, caps, marking);
+    let why = why_stopped(takes, puts, caps, marks, marking);
     Letter::Stops(why)
 }
 
@@ -176,18 +201,19 @@ pub fn play_letter(
     pre: &[Weight],
     post: &[Weight],
     caps: &[u16],
+    marks: &[u8],
     t: u8,
     marking: &mut [u32],
 ) -> Letter
-    requires { ⌜ Sized (netOf places transitions (now pre) (now post) (now caps)) ⌝ }
+    requires { ⌜ Sized (netOf places transitions (now pre) (now post) (now caps) (now marks)) ⌝ }
     requires { ⌜ length (now marking) ≡ places ⌝ }
     requires { ⌜ Small replayLimit (now marking) ⌝ }
     requires { ⌜ t < transitions ⌝ }
-    ensures { λ r. ⌜ Played (arcsAt (netOf places transitions (now (pre .entry)) (now (post .entry)) (now (caps .entry))) t) (now (marking .entry)) r (now (marking .exit)) ⌝ }
+    ensures { λ r. ⌜ Played (arcsAt (netOf places transitions (now (pre .entry)) (now (post .entry)) (now (caps .entry)) (now (marks .entry))) t) (now (marking .entry)) r (now (marking .exit)) ⌝ }
 {
     let a = t as usize * places;
     let e = a + places;
-    play_rows(&pre[a..e], &post[a..e], caps, marking)
+    play_rows(&pre[a..e], &post[a..e], caps, marks, marking)
 }
 
 // Whether a transition, by its number, may fire.
@@ -197,18 +223,19 @@ pub fn may_fire_at(
     pre: &[Weight],
     post: &[Weight],
     caps: &[u16],
+    marks: &[u8],
     t: usize,
     marking: &[u32],
 ) -> bool
-    requires { ⌜ Sized (netOf places transitions (now pre) (now post) (now caps)) ⌝ }
+    requires { ⌜ Sized (netOf places transitions (now pre) (now post) (now caps) (now marks)) ⌝ }
     requires { ⌜ length (now marking) ≡ places ⌝ }
     requires { ⌜ Small replayLimit (now marking) ⌝ }
     requires { ⌜ t < transitions ⌝ }
-    ensures { λ r. ⌜ r ≡ passes (arcsAt (netOf places transitions (now (pre .entry)) (now (post .entry)) (now (caps .entry))) t) (now (marking .entry)) ⌝ }
+    ensures { λ r. ⌜ r ≡ passes (arcsAt (netOf places transitions (now (pre .entry)) (now (post .entry)) (now (caps .entry)) (now (marks .entry))) t) (now (marking .entry)) ⌝ }
 {
     let a = t * places;
     let e = a + places;
-    may_fire(&pre[a..e], &post[a..e], caps, marking)
+    may_fire(&pre[a..e], &post[a..e], caps, marks, marking)
 }
 
 // Fires a transition that may fire, by its number, in place.
@@ -218,15 +245,16 @@ pub fn fire_at(
     pre: &[Weight],
     post: &[Weight],
     caps: &[u16],
+    marks: &[u8],
     t: usize,
     marking: &mut [u32],
 )
-    requires { ⌜ Sized (netOf places transitions (now pre) (now post) (now caps)) ⌝ }
+    requires { ⌜ Sized (netOf places transitions (now pre) (now post) (now caps) (now marks)) ⌝ }
     requires { ⌜ length (now marking) ≡ places ⌝ }
     requires { ⌜ Small replayLimit (now marking) ⌝ }
     requires { ⌜ t < transitions ⌝ }
-    requires { ⌜ passes (arcsAt (netOf places transitions (now pre) (now post) (now caps)) t) (now marking) ≡ true ⌝ }
-    ensures { λ r. ⌜ now (marking .exit) ≡ firedAt (netOf places transitions (now (pre .entry)) (now (post .entry)) (now (caps .entry))) t (now (marking .entry)) ⌝ }
+    requires { ⌜ passes (arcsAt (netOf places transitions (now pre) (now post) (now caps) (now marks)) t) (now marking) ≡ true ⌝ }
+    ensures { λ r. ⌜ now (marking .exit) ≡ firedAt (netOf places transitions (now (pre .entry)) (now (post .entry)) (now (caps .entry)) (now (marks .entry))) t (now (marking .entry)) ⌝ }
 {
     let a = t * places;
     let e = a + places;

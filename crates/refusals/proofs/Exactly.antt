@@ -165,11 +165,12 @@ module _ (net : Net) (fits : Bool) {Others : Type 0} (there : fits ≡ true → 
           let f = or-false (misfit net) (not fits) e in
           let x = or-false (unlike (length (net .pre)) (net .transitions * net .places)) _ (f .0) in
           let y = or-false (unlike (length (net .post)) (net .transitions * net .places)) _ (x .1) in
-          record { pres = unlike-false _ _ (x .0); posts = unlike-false _ _ (y .0); capped = unlike-false _ _ (y .1); others = there (not-false fits (f .1)) }
+          let z = or-false (unlike (length (net .caps)) (net .places)) (unlike (length (net .marks)) (net .places)) (y .1) in
+          record { pres = unlike-false _ _ (x .0); posts = unlike-false _ _ (y .0); capped = unlike-false _ _ (z .0); noted = unlike-false _ _ (z .1); others = there (not-false fits (f .1)) }
 
       of-lengths : Lengths net Others → (misfit net || not fits) ≡ false
       of-lengths l =
-          both-false _ _ (both-false _ _ (like-false _ _ (l .pres)) (both-false _ _ (like-false _ _ (l .posts)) (like-false _ _ (l .capped)))) (rw (back (l .others)))
+          both-false _ _ (both-false _ _ (like-false _ _ (l .pres)) (both-false _ _ (like-false _ _ (l .posts)) (both-false _ _ (like-false _ _ (l .capped)) (like-false _ _ (l .noted))))) (rw (back (l .others)))
 
   pub net-reads : Reads (netFault net fits) (NetFirst net Others)
   unfolding netFault

@@ -1,3 +1,4 @@
 pub mod Chains
 pub mod Refusals
 pub mod Exactly
+pub mod Marks

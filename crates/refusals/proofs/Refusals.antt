@@ -102,6 +102,7 @@ sized-of net c l =
     let o = or-false (outside (net .places)) (outside (net .transitions)) c in
     let x = or-false (unlike (length (net .pre)) (net .transitions * net .places)) _ l in
     let y = or-false (unlike (length (net .post)) (net .transitions * net .places)) _ (x .1) in
+    let z = or-false (unlike (length (net .caps)) (net .places)) (unlike (length (net .marks)) (net .places)) (y .1) in
     record {
       some-places = inside-of (net .places) (o .0) .0;
       few-places = inside-of (net .places) (o .0) .1;
@@ -109,7 +110,8 @@ sized-of net c l =
       few-transitions = inside-of (net .transitions) (o .1) .1;
       pres = unlike-false _ _ (x .0);
       posts = unlike-false _ _ (y .0);
-      capped = unlike-false _ _ (y .1);
+      capped = unlike-false _ _ (z .0);
+      noted = unlike-false _ _ (z .1);
     }
 
 -- the test of `Sized` as the code comes to it: a, b, d are the tests' answers
@@ -146,7 +148,7 @@ counts-inside net s =
     both-false _ _ (inside-is (net .places) (s .some-places) (s .few-places)) (inside-is (net .transitions) (s .some-transitions) (s .few-transitions))
 
 lengths-like : (net : Net) → Sized net → misfit net ≡ false
-lengths-like net s = both-false _ _ (like-false _ _ (s .pres)) (both-false _ _ (like-false _ _ (s .posts)) (like-false _ _ (s .capped)))
+lengths-like net s = both-false _ _ (like-false _ _ (s .pres)) (both-false _ _ (like-false _ _ (s .posts)) (both-false _ _ (like-false _ _ (s .capped)) (like-false _ _ (s .noted))))
 
 pub met-counts : (net : Net) (fits : Bool) → CountsMet net fits → countsFault net fits ≡ Sound
 unfolding countsFault

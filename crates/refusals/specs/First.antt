@@ -43,6 +43,7 @@ pub record Lengths (net : Net) (Others : Type 0) : Type 0 where
   pub pres : length (net .pre) ≡ net .transitions * net .places
   pub posts : length (net .post) ≡ net .transitions * net .places
   pub capped : length (net .caps) ≡ net .places
+  pub noted : length (net .marks) ≡ net .places
   pub others : Others
 
 -- 3 unless at each place: no more tokens than may be given, nor than its capacity

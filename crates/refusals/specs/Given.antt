@@ -34,7 +34,8 @@ abbrev pub misfit : Net → Bool
 misfit net =
     unlike (length (net .pre)) (net .transitions * net .places)
     || (unlike (length (net .post)) (net .transitions * net .places)
-    || unlike (length (net .caps)) (net .places))
+    || (unlike (length (net .caps)) (net .places)
+    || unlike (length (net .marks)) (net .places)))
 
 -- 3: "65,535 tokens where not allowed, or tokens above capacity"; position the place
 abbrev pub tokenBad : ℕ → ℕ → Bool

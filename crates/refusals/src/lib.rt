@@ -34,9 +34,10 @@ fn is_misfit(
     pre: &[Weight],
     post: &[Weight],
     caps: &[u16],
+    marks: &[u8],
 ) -> bool
     requires { ⌜ (places ≤ countLimit) × (transitions ≤ countLimit) ⌝ }
-    ensures { λ r. ⌜ r ≡ misfit (netOf places transitions (now (pre .entry)) (now (post .entry)) (now (caps .entry))) ⌝ }
+    ensures { λ r. ⌜ r ≡ misfit (netOf places transitions (now (pre .entry)) (now (post .entry)) (now (caps .entry)) (now (marks .entry))) ⌝ }
 {
     let cells = transitions * places;
     if pre.len() != cells {
@@ -45,7 +46,10 @@ fn is_misfit(
     if post.len() != cells {
         return true;
     }
-    caps.len() != places
+    if caps.len() != places {
+        return true;
+    }
+    marks.len() != places
 }
 
 // One place of a given marking has more tokens than may be given, or than its capacity.
@@ -80,8 +84,9 @@ pub fn is_sized(
     pre: &[Weight],
     post: &[Weight],
     caps: &[u16],
+    marks: &[u8],
 ) -> bool
-    ensures { λ r. ⌜ r ≡ sizedNet (netOf places transitions (now (pre .entry)) (now (post .entry)) (now (caps .entry))) ⌝ }
+    ensures { λ r. ⌜ r ≡ sizedNet (netOf places transitions (now (pre .entry)) (now (post .entry)) (now (caps .entry)) (now (marks .entry))) ⌝ }
 {
     if is_outside(places) {
         return false;
@@ -89,7 +94,7 @@ pub fn is_sized(
     if is_outside(transitions) {
         return false;
     }
-    !is_misfit(places, transitions, pre, post, caps)
+    !is_misfit(places, transitions, pre, post, caps, marks)
 }
 
 // Refusals 1 and 2: counts and lengths. `fits` tells whether the lengths of all else that an entry
@@ -100,9 +105,10 @@ pub fn counts_fault(
     pre: &[Weight],
     post: &[Weight],
     caps: &[u16],
+    marks: &[u8],
     fits: bool,
 ) -> Fault
-    ensures { λ r. ⌜ r ≡ countsFault (netOf places transitions (now (pre .entry)) (now (post .entry)) (now (caps .entry))) fits ⌝ }
+    ensures { λ r. ⌜ r ≡ countsFault (netOf places transitions (now (pre .entry)) (now (post .entry)) (now (caps .entry)) (now (marks .entry))) fits ⌝ }
 {
     if is_outside(places) {
         return Fault::Faulty(1, 0);
@@ -110,7 +116,7 @@ pub fn counts_fault(
     if is_outside(transitions) {
         return Fault::Faulty(1, 0);
     }
-    if is_misfit(places, transitions, pre, post, caps) {
+    if is_misfit(places, transitions, pre, post, caps, marks) {
         return Fault::Faulty(2, 0);
     }
     if fits {
@@ -142,12 +148,13 @@ pub fn loose_fault(
     pre: &[Weight],
     post: &[Weight],
     caps: &[u16],
+    marks: &[u8],
 ) -> Fault
-    requires { ⌜ Sized (netOf places transitions (now pre) (now post) (now caps)) ⌝ }
-    ensures { λ r. ⌜ r ≡ looseFault (netOf places transitions (now (pre .entry)) (now (post .entry)) (now (caps .entry))) ⌝ }
+    requires { ⌜ Sized (netOf places transitions (now pre) (now post) (now caps) (now marks)) ⌝ }
+    ensures { λ r. ⌜ r ≡ looseFault (netOf places transitions (now (pre .entry)) (now (post .entry)) (now (caps .entry)) (now (marks .entry))) ⌝ }
 {
-    let p = wiring::loose_place(places, transitions, pre, post, caps);
-    let t = wiring::loose_transition(places, transitions, pre, post, caps);
+    let p = wiring::loose_place(places, transitions, pre, post, caps, marks);
+    let t = wiring::loose_transition(places, transitions, pre, post, caps, marks);
     loose_node(places, transitions, p, t)
 }
 
@@ -158,14 +165,15 @@ pub fn net_fault(
     pre: &[Weight],
     post: &[Weight],
     caps: &[u16],
+    marks: &[u8],
     fits: bool,
 ) -> Fault
-    ensures { λ r. ⌜ r ≡ netFault (netOf places transitions (now (pre .entry)) (now (post .entry)) (now (caps .entry))) fits ⌝ }
+    ensures { λ r. ⌜ r ≡ netFault (netOf places transitions (now (pre .entry)) (now (post .entry)) (now (caps .entry)) (now (marks .entry))) fits ⌝ }
 {
-    let sizes = counts_fault(places, transitions, pre, post, caps, fits);
+    let sizes = counts_fault(places, transitions, pre, post, caps, marks, fits);
     match sizes {
         Fault::Faulty(number, at) => Fault::Faulty(number, at),
-        Fault::Sound => loose_fault(places, transitions, pre, post, caps),
+        Fault::Sound => loose_fault(places, transitions, pre, post, caps, marks),
     }
 }
 
@@ -190,15 +198,16 @@ pub fn start_fault(
     pre: &[Weight],
     post: &[Weight],
     caps: &[u16],
+    marks: &[u8],
     initial: &[u16],
     fits: bool,
 ) -> Fault
-    ensures { λ r. ⌜ r ≡ startFault (netOf places transitions (now (pre .entry)) (now (post .entry)) (now (caps .entry))) (now (initial .entry)) fits ⌝ }
+    ensures { λ r. ⌜ r ≡ startFault (netOf places transitions (now (pre .entry)) (now (post .entry)) (now (caps .entry)) (now (marks .entry))) (now (initial .entry)) fits ⌝ }
 {
     if initial.len() != places {
-        return counts_fault(places, transitions, pre, post, caps, false);
+        return counts_fault(places, transitions, pre, post, caps, marks, false);
     }
-    let found = counts_fault(places, transitions, pre, post, caps, fits);
+    let found = counts_fault(places, transitions, pre, post, caps, marks, fits);
     match found {
         Fault::Faulty(number, at) => Fault::Faulty(number, at),
         Fault::Sound => marking_fault(caps, initial),
@@ -212,15 +221,16 @@ pub fn marked_fault(
     pre: &[Weight],
     post: &[Weight],
     caps: &[u16],
+    marks: &[u8],
     initial: &[u16],
     fits: bool,
 ) -> Fault
-    ensures { λ r. ⌜ r ≡ markedFault (netOf places transitions (now (pre .entry)) (now (post .entry)) (now (caps .entry))) (now (initial .entry)) fits ⌝ }
+    ensures { λ r. ⌜ r ≡ markedFault (netOf places transitions (now (pre .entry)) (now (post .entry)) (now (caps .entry)) (now (marks .entry))) (now (initial .entry)) fits ⌝ }
 {
-    let found = start_fault(places, transitions, pre, post, caps, initial, fits);
+    let found = start_fault(places, transitions, pre, post, caps, marks, initial, fits);
     match found {
         Fault::Faulty(number, at) => Fault::Faulty(number, at),
-        Fault::Sound => loose_fault(places, transitions, pre, post, caps),
+        Fault::Sound => loose_fault(places, transitions, pre, post, caps, marks),
     }
 }
 

@@ -25,11 +25,12 @@ fn is_loose_place(
     pre: &[Weight],
     post: &[Weight],
     caps: &[u16],
+    marks: &[u8],
     p: usize,
 ) -> bool
-    requires { ⌜ Sized (netOf places transitions (now pre) (now post) (now caps)) ⌝ }
+    requires { ⌜ Sized (netOf places transitions (now pre) (now post) (now caps) (now marks)) ⌝ }
     requires { ⌜ p < places ⌝ }
-    ensures { λ r. ⌜ r ≡ loosePlace (netOf places transitions (now (pre .entry)) (now (post .entry)) (now (caps .entry))) p ⌝ }
+    ensures { λ r. ⌜ r ≡ loosePlace (netOf places transitions (now (pre .entry)) (now (post .entry)) (now (caps .entry)) (now (marks .entry))) p ⌝ }
 {
     let mut t = 0;
     while t < transitions {
@@ -49,11 +50,12 @@ fn is_loose_transition(
     pre: &[Weight],
     post: &[Weight],
     caps: &[u16],
+    marks: &[u8],
     t: usize,
 ) -> bool
-    requires { ⌜ Sized (netOf places transitions (now pre) (now post) (now caps)) ⌝ }
+    requires { ⌜ Sized (netOf places transitions (now pre) (now post) (now caps) (now marks)) ⌝ }
     requires { ⌜ t < transitions ⌝ }
-    ensures { λ r. ⌜ r ≡ looseTransition (netOf places transitions (now (pre .entry)) (now (post .entry)) (now (caps .entry))) t ⌝ }
+    ensures { λ r. ⌜ r ≡ looseTransition (netOf places transitions (now (pre .entry)) (now (post .entry)) (now (caps .entry)) (now (marks .entry))) t ⌝ }
 {
     let mut p = 0;
     while p < places {
@@ -73,13 +75,14 @@ pub fn loose_place(
     pre: &[Weight],
     post: &[Weight],
     caps: &[u16],
+    marks: &[u8],
 ) -> usize
-    requires { ⌜ Sized (netOf places transitions (now pre) (now post) (now caps)) ⌝ }
-    ensures { λ r. ⌜ r ≡ lowestLoosePlace (netOf places transitions (now (pre .entry)) (now (post .entry)) (now (caps .entry))) ⌝ }
+    requires { ⌜ Sized (netOf places transitions (now pre) (now post) (now caps) (now marks)) ⌝ }
+    ensures { λ r. ⌜ r ≡ lowestLoosePlace (netOf places transitions (now (pre .entry)) (now (post .entry)) (now (caps .entry)) (now (marks .entry))) ⌝ }
 {
     let mut p = 0;
     while p < places {
-        if is_loose_place(places, transitions, pre, post, caps, p) {
+        if is_loose_place(places, transitions, pre, post, caps, marks, p) {
             return p;
         }
         p += 1;
@@ -94,13 +97,14 @@ pub fn loose_transition(
     pre: &[Weight],
     post: &[Weight],
     caps: &[u16],
+    marks: &[u8],
 ) -> usize
-    requires { ⌜ Sized (netOf places transitions (now pre) (now post) (now caps)) ⌝ }
-    ensures { λ r. ⌜ r ≡ lowestLooseTransition (netOf places transitions (now (pre .entry)) (now (post .entry)) (now (caps .entry))) ⌝ }
+    requires { ⌜ Sized (netOf places transitions (now pre) (now post) (now caps) (now marks)) ⌝ }
+    ensures { λ r. ⌜ r ≡ lowestLooseTransition (netOf places transitions (now (pre .entry)) (now (post .entry)) (now (caps .entry)) (now (marks .entry))) ⌝ }
 {
     let mut t = 0;
     while t < transitions {
-        if is_loose_transition(places, transitions, pre, post, caps, t) {
+        if is_loose_transition(places, transitions, pre, post, caps, marks, t) {
             return t;
         }
         t += 1;

@@ -2,6 +2,7 @@ use Prim.Native.Nat.{_+_}
 use native.Mathlib.Omega.{arith}
 use borrow.Author.Tests.{ltb-true, ltb-false, leb-true, leb-false, lt-ltb}
 use Rattle.ground.specs.Limits.{noCapacity}
+use Rattle.net.specs.Net.{leavesFirst}
 use Rattle.ground.proofs.Tests.{tests, below-is, and-next}
 use borrow.Author.Needs.{needs}
 use Rattle.net.proofs.is_over.Statement.{statement}
@@ -25,7 +26,7 @@ returns c =
     let l : tie.After-leaves = search needs in
     let e = l .leaves .ensures in
     and-next _ _ _ (lt-ltb (s .args .cap) noCapacity (omega arith))
-    (below-is _ (s .args .cap + s .args .takes) (s .args .tokens + s .args .puts)
+    (below-is _ (s .args .cap + leavesFirst (s .args .mark) (s .args .takes)) (s .args .tokens + s .args .puts)
     (λ h. omega (arith, ltb-true, leb-true))
     (λ h. omega (arith, ltb-false, leb-false)))
 

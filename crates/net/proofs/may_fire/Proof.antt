@@ -10,10 +10,10 @@ use Rattle.net.proofs.may_fire.Statement.{statement}
 use Rattle.net.proofs.may_fire.Tie as tie
 
 abbrev Inv-loop : tie.InvT-loop
-Inv-loop takes puts caps marking stopped₀ p₀ stopped p = (p ≤ length marking) × (stopped ≡ tally (stops (arcsOf takes puts caps) marking) p)
+Inv-loop takes puts caps marks marking stopped₀ p₀ stopped p = (p ≤ length marking) × (stopped ≡ tally (stops (arcsOf takes puts caps marks) marking) p)
 
 abbrev μ-loop : tie.MeasureT-loop
-μ-loop takes puts caps marking stopped₀ p₀ stopped p = length marking - p
+μ-loop takes puts caps marks marking stopped₀ p₀ stopped p = length marking - p
 
 loop-holds : tie.Need-loop-holds Inv-loop μ-loop
 loop-holds c = search (tallies, needs)
@@ -30,11 +30,14 @@ mul-stops-at c = search needs
 shared-slice-read-stops-at-3 : tie.Need-shared-slice-read-stops-at-3 Inv-loop μ-loop
 shared-slice-read-stops-at-3 c = search needs
 
+shared-slice-read-stops-at-4 : tie.Need-shared-slice-read-stops-at-4 Inv-loop μ-loop
+shared-slice-read-stops-at-4 c = search needs
+
 mul-stops-at-2 : tie.Need-mul-stops-at-2 Inv-loop μ-loop
 mul-stops-at-2 c = search needs
 
-shared-slice-read-stops-at-4 : tie.Need-shared-slice-read-stops-at-4 Inv-loop μ-loop
-shared-slice-read-stops-at-4 c = search needs
+shared-slice-read-stops-at-5 : tie.Need-shared-slice-read-stops-at-5 Inv-loop μ-loop
+shared-slice-read-stops-at-5 c = search needs
 
 stops-at-requires : tie.Need-stops-at-requires Inv-loop μ-loop
 stops-at-requires c κs = search (small-at, needs)
@@ -65,8 +68,9 @@ may-fire-spec =
     shared-slice-read-stops-at-2
     mul-stops-at
     shared-slice-read-stops-at-3
-    mul-stops-at-2
     shared-slice-read-stops-at-4
+    mul-stops-at-2
+    shared-slice-read-stops-at-5
     stops-at-requires
     add-stopped
     add-p

@@ -11,7 +11,7 @@ use Rattle.net.proofs.may_fire_at.Tie as tie
 
 -- the net at the function's entry, and the ends of its rows
 at : tie.Start → Net
-at s = netOf (s .args .places) (s .args .transitions) (now (s .args .pre)) (now (s .args .post)) (now (s .args .caps))
+at s = netOf (s .args .places) (s .args .transitions) (now (s .args .pre)) (now (s .args .post)) (now (s .args .caps)) (now (s .args .marks))
 
 pre-ends : (s : tie.Start) → s .args .t * s .args .places + s .args .places ≤ length (now (s .args .pre))
 unfolding at
@@ -52,7 +52,7 @@ may-fire-requires c κs =
     let r = rows-of (at s) (now (s .args .marking)) (s .args .t) (s .pre .0) (s .pre .1 .1 .1) (s .pre .1 .0) (s .pre .1 .1 .0) in
     let taken = r .taken in
     let put = r .put in
-    simp add-sub-cancel-left (record { taken = search needs; put = search needs; capped = r .capped; few = r .few; small = r .small })
+    simp add-sub-cancel-left (record { taken = search needs; put = search needs; capped = r .capped; noted = r .noted; few = r .few; small = r .small })
 
 returns : tie.Need-returns
 returns c = let m : tie.After-may-fire = search needs in simp add-sub-cancel-left at (m .may-fire .ensures)

@@ -19,7 +19,7 @@ fire-requires c κs =
         search needs,
         (
           search needs,
-          enough-of (arcsOf (now (a .takes)) (now (a .puts)) (now (a .caps))) (now (a .marking)) _ (search needs) (m .may-fire .ensures) (search needs),
+          enough-of (arcsOf (now (a .takes)) (now (a .puts)) (now (a .caps)) (now (a .marks))) (now (a .marking)) _ (search needs) (m .may-fire .ensures) (search needs),
         ),
       ),
     )

@@ -16,5 +16,8 @@ returns-2 c = search (tests, needs)
 returns-3 : tie.Need-returns-3
 returns-3 c = search (tests, needs)
 
+returns-4 : tie.Need-returns-4
+returns-4 c = search (tests, needs)
+
 pub is-misfit-spec : {M : Type 1} → statement M
-is-misfit-spec = tie.close (tie.spec mul-cells returns returns-2 returns-3)
+is-misfit-spec = tie.close (tie.spec mul-cells returns returns-2 returns-3 returns-4)

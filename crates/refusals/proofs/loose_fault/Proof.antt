@@ -13,9 +13,9 @@ loose-transition-requires c κs = search needs
 
 loose-node-requires : tie.Need-loose-node-requires
 loose-node-requires c κs =
-    let s = c .before .before .before .before .before in
+    let s : tie.Start = search needs in
     let a = s .args in
-    loose-few (netOf (a .places) (a .transitions) (now (a .pre)) (now (a .post)) (now (a .caps))) _ (s .pre) (c .loose-transition .ensures)
+    loose-few (netOf (a .places) (a .transitions) (now (a .pre)) (now (a .post)) (now (a .caps)) (now (a .marks))) _ (s .pre) (c .loose-transition .ensures)
 
 returns : tie.Need-returns
 returns c = search (loose-is, needs)

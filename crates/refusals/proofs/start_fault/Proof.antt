@@ -25,7 +25,7 @@ marking-fault-requires c κs =
     let s : tie.Start = search needs in
     let f : tie.After-counts-fault2 = search needs in
     let a = s .args in
-    caps-long (netOf (a .places) (a .transitions) (now (a .pre)) (now (a .post)) (now (a .caps))) (now (a .initial)) (a .fits) _ (search needs) (f .counts-fault2 .ensures) (search needs)
+    caps-long (netOf (a .places) (a .transitions) (now (a .pre)) (now (a .post)) (now (a .caps)) (now (a .marks))) (now (a .initial)) (a .fits) _ (search needs) (f .counts-fault2 .ensures) (search needs)
 
 returns-2 : tie.Need-returns-2
 returns-2 c = search (start-faults, needs)

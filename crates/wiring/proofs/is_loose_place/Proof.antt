@@ -11,20 +11,23 @@ use Rattle.wiring.proofs.is_loose_place.Statement.{statement}
 use Rattle.wiring.proofs.is_loose_place.Tie as tie
 
 abbrev Inv-loop : tie.InvT-loop
-Inv-loop places transitions pre post caps p t₀ t = (t ≤ transitions) × Below (arc (netOf places transitions pre post caps) p) t
+Inv-loop places transitions pre post caps marks p t₀ t = (t ≤ transitions) × Below (arc (netOf places transitions pre post caps marks) p) t
 
 abbrev μ-loop : tie.MeasureT-loop
-μ-loop places transitions pre post caps p t₀ t = transitions - t
+μ-loop places transitions pre post caps marks p t₀ t = transitions - t
 
 loop-holds : tie.Need-loop-holds Inv-loop μ-loop
 loop-holds c = search (places-scanned, needs)
 
 -- the net at the function's entry, and the entry that the loop has come to, inside both tables
 abbrev at : tie.Start Inv-loop μ-loop → Net
-at s = netOf (s .args .places) (s .args .transitions) (now (s .args .pre)) (now (s .args .post)) (now (s .args .caps))
+at s = netOf (s .args .places) (s .args .transitions) (now (s .args .pre)) (now (s .args .post)) (now (s .args .caps)) (now (s .args .marks))
 
-inside : (c : tie.In-loop Inv-loop μ-loop) → (c .before .loop .t * c .before .before .before .before .before .args .places + c .before .before .before .before .before .args .p < length (now (c .before .before .before .before .before .args .pre))) × (c .before .loop .t * c .before .before .before .before .before .args .places + c .before .before .before .before .before .args .p < length (now (c .before .before .before .before .before .args .post)))
-inside c = cell-inside (at (c .before .before .before .before .before)) (c .before .before .before .before .before .args .p) (c .before .loop .t) (c .before .before .before .before .before .pre .0) (c .before .before .before .before .before .pre .1) (c .loop-test .taken)
+abbrev start : tie.In-loop Inv-loop μ-loop → tie.Start Inv-loop μ-loop
+start c = c .before .before .before .before .before .before
+
+inside : (c : tie.In-loop Inv-loop μ-loop) → (c .before .loop .t * start c .args .places + start c .args .p < length (now (start c .args .pre))) × (c .before .loop .t * start c .args .places + start c .args .p < length (now (start c .args .post)))
+inside c = cell-inside (at (start c)) (start c .args .p) (c .before .loop .t) (start c .pre .0) (start c .pre .1) (c .loop-test .taken)
 
 mul-at : tie.Need-mul-at Inv-loop μ-loop
 mul-at c = omega (arith, inside c)

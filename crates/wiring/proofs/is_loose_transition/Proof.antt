@@ -11,20 +11,23 @@ use Rattle.wiring.proofs.is_loose_transition.Statement.{statement}
 use Rattle.wiring.proofs.is_loose_transition.Tie as tie
 
 abbrev Inv-loop : tie.InvT-loop
-Inv-loop places transitions pre post caps t p₀ p = (p ≤ places) × Below (λ p. arc (netOf places transitions pre post caps) p t) p
+Inv-loop places transitions pre post caps marks t p₀ p = (p ≤ places) × Below (λ p. arc (netOf places transitions pre post caps marks) p t) p
 
 abbrev μ-loop : tie.MeasureT-loop
-μ-loop places transitions pre post caps t p₀ p = places - p
+μ-loop places transitions pre post caps marks t p₀ p = places - p
 
 loop-holds : tie.Need-loop-holds Inv-loop μ-loop
 loop-holds c = search (transitions-scanned, needs)
 
 -- the net at the function's entry, and the entry that the loop has come to, inside both tables
 abbrev at : tie.Start Inv-loop μ-loop → Net
-at s = netOf (s .args .places) (s .args .transitions) (now (s .args .pre)) (now (s .args .post)) (now (s .args .caps))
+at s = netOf (s .args .places) (s .args .transitions) (now (s .args .pre)) (now (s .args .post)) (now (s .args .caps)) (now (s .args .marks))
 
-inside : (c : tie.In-loop Inv-loop μ-loop) → (c .before .before .before .before .before .args .t * c .before .before .before .before .before .args .places + c .before .loop .p < length (now (c .before .before .before .before .before .args .pre))) × (c .before .before .before .before .before .args .t * c .before .before .before .before .before .args .places + c .before .loop .p < length (now (c .before .before .before .before .before .args .post)))
-inside c = cell-inside (at (c .before .before .before .before .before)) (c .before .loop .p) (c .before .before .before .before .before .args .t) (c .before .before .before .before .before .pre .0) (c .loop-test .taken) (c .before .before .before .before .before .pre .1)
+abbrev start : tie.In-loop Inv-loop μ-loop → tie.Start Inv-loop μ-loop
+start c = c .before .before .before .before .before .before
+
+inside : (c : tie.In-loop Inv-loop μ-loop) → (start c .args .t * start c .args .places + c .before .loop .p < length (now (start c .args .pre))) × (start c .args .t * start c .args .places + c .before .loop .p < length (now (start c .args .post)))
+inside c = cell-inside (at (start c)) (c .before .loop .p) (start c .args .t) (start c .pre .0) (c .loop-test .taken) (start c .pre .1)
 
 mul-at : tie.Need-mul-at Inv-loop μ-loop
 mul-at c = omega (arith, inside c)
@@ -53,7 +56,7 @@ loop-less c = search needs
 loop-again : tie.Need-loop-again Inv-loop μ-loop
 loop-again c =
     let i = c .before .before .before .before in
-    let s = i .before .before .before .before .before in
+    let s = start i in
     (omega (arith, i .loop-test .taken), transition-next (at s) (s .args .t) (i .before .loop .p) (i .before .loop .inv .1) _ (c .before .is-arc .ensures) (c .if1 .left))
 
 returns-2 : tie.Need-returns-2 Inv-loop μ-loop

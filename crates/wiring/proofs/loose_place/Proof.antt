@@ -7,10 +7,10 @@ use Rattle.wiring.proofs.loose_place.Statement.{statement}
 use Rattle.wiring.proofs.loose_place.Tie as tie
 
 abbrev Inv-loop : tie.InvT-loop
-Inv-loop places transitions pre post caps p₀ p = (p ≤ places) × Below (loosePlace (netOf places transitions pre post caps)) p
+Inv-loop places transitions pre post caps marks p₀ p = (p ≤ places) × Below (loosePlace (netOf places transitions pre post caps marks)) p
 
 abbrev μ-loop : tie.MeasureT-loop
-μ-loop places transitions pre post caps p₀ p = places - p
+μ-loop places transitions pre post caps marks p₀ p = places - p
 
 loop-holds : tie.Need-loop-holds Inv-loop μ-loop
 loop-holds c = search (scans, needs)

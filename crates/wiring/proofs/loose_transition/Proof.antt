@@ -7,10 +7,10 @@ use Rattle.wiring.proofs.loose_transition.Statement.{statement}
 use Rattle.wiring.proofs.loose_transition.Tie as tie
 
 abbrev Inv-loop : tie.InvT-loop
-Inv-loop places transitions pre post caps t₀ t = (t ≤ transitions) × Below (looseTransition (netOf places transitions pre post caps)) t
+Inv-loop places transitions pre post caps marks t₀ t = (t ≤ transitions) × Below (looseTransition (netOf places transitions pre post caps marks)) t
 
 abbrev μ-loop : tie.MeasureT-loop
-μ-loop places transitions pre post caps t₀ t = transitions - t
+μ-loop places transitions pre post caps marks t₀ t = transitions - t
 
 loop-holds : tie.Need-loop-holds Inv-loop μ-loop
 loop-holds c = search (scans, needs)
