@@ -38,19 +38,20 @@ pub extern "C" fn kaunorpi_summary_word(
     pre: &[Weight],
     post: &[Weight],
     caps: &[u16],
+    marks: &[u8],
     word: &[u8],
     need: &mut [u32],
     climb: &mut [u32],
     change: &mut [i32],
 ) -> SummaryAnswer
-    ensures { λ r. ⌜ HandedSummary (wordAnswer (netOf places transitions (now (pre .entry)) (now (post .entry)) (now (caps .entry))) (now (word .entry)) (fits (columnsOf (now (need .entry)) (now (climb .entry)) (now (change .entry))))) (columnsOf (now (need .entry)) (now (climb .entry)) (now (change .entry))) r (columnsOf (now (need .exit)) (now (climb .exit)) (now (change .exit))) ⌝ }
+    ensures { λ r. ⌜ HandedSummary (wordAnswer (netOf places transitions (now (pre .entry)) (now (post .entry)) (now (caps .entry)) (now (marks .entry))) (now (word .entry)) (fits (columnsOf (now (need .entry)) (now (climb .entry)) (now (change .entry))))) (columnsOf (now (need .entry)) (now (climb .entry)) (now (change .entry))) r (columnsOf (now (need .exit)) (now (climb .exit)) (now (change .exit))) ⌝ }
 {
     let fit = c_summary_lists::is_fitting(need.len(), climb.len(), change.len());
     if fit {
-        let made = summary::summary_word(places, transitions, pre, post, caps, word);
+        let made = summary::summary_word(places, transitions, pre, post, caps, marks, word);
         return c_summary_answer::hand_summed(made, need, climb, change);
     }
-    let none = summary::summary_stretch(places, transitions, pre, post, caps, word, 1, 0);
+    let none = summary::summary_stretch(places, transitions, pre, post, caps, marks, word, 1, 0);
     c_summary_answer::of_summed(none)
 }
 
@@ -62,6 +63,7 @@ pub extern "C" fn kaunorpi_summary_stretch(
     pre: &[Weight],
     post: &[Weight],
     caps: &[u16],
+    marks: &[u8],
     word: &[u8],
     start: usize,
     end: usize,
@@ -69,13 +71,23 @@ pub extern "C" fn kaunorpi_summary_stretch(
     climb: &mut [u32],
     change: &mut [i32],
 ) -> SummaryAnswer
-    ensures { λ r. ⌜ HandedSummary (wordAnswer (netOf places transitions (now (pre .entry)) (now (post .entry)) (now (caps .entry))) (stretch (now (word .entry)) start end) (inside (now (word .entry)) start end && fits (columnsOf (now (need .entry)) (now (climb .entry)) (now (change .entry))))) (columnsOf (now (need .entry)) (now (climb .entry)) (now (change .entry))) r (columnsOf (now (need .exit)) (now (climb .exit)) (now (change .exit))) ⌝ }
+    ensures { λ r. ⌜ HandedSummary (wordAnswer (netOf places transitions (now (pre .entry)) (now (post .entry)) (now (caps .entry)) (now (marks .entry))) (stretch (now (word .entry)) start end) (inside (now (word .entry)) start end && fits (columnsOf (now (need .entry)) (now (climb .entry)) (now (change .entry))))) (columnsOf (now (need .entry)) (now (climb .entry)) (now (change .entry))) r (columnsOf (now (need .exit)) (now (climb .exit)) (now (change .exit))) ⌝ }
 {
     let fit = c_summary_lists::is_fitting(need.len(), climb.len(), change.len());
     if fit {
-        let made = summary::summary_stretch(places, transitions, pre, post, caps, word, start, end);
+        let made = summary::summary_stretch(
+            places,
+            transitions,
+            pre,
+            post,
+            caps,
+            marks,
+            word,
+            start,
+            end,
+        );
         return c_summary_answer::hand_summed(made, need, climb, change);
     }
-    let none = summary::summary_stretch(places, transitions, pre, post, caps, word, 1, 0);
+    let none = summary::summary_stretch(places, transitions, pre, post, caps, marks, word, 1, 0);
     c_summary_answer::of_summed(none)
 }

@@ -49,8 +49,9 @@ fn refuse_asked(
     pre: &[Weight],
     post: &[Weight],
     caps: &[u16],
+    marks: &[u8],
 ) -> Answer
-    ensures { λ r. ⌜ r ≡ handed (askedNumbers (unfitAsked (orElse (refuse (outside count) 1 0) (countsFault (netOf places transitions (now (pre .entry)) (now (post .entry)) (now (caps .entry))) false)))) ⌝ }
+    ensures { λ r. ⌜ r ≡ handed (askedNumbers (unfitAsked (orElse (refuse (outside count) 1 0) (countsFault (netOf places transitions (now (pre .entry)) (now (post .entry)) (now (caps .entry)) (now (marks .entry))) false)))) ⌝ }
 {
     if refusals::is_outside(count) {
         return Answer {
@@ -59,7 +60,7 @@ fn refuse_asked(
             position: 0,
         };
     }
-    let found = refusals::counts_fault(places, transitions, pre, post, caps, false);
+    let found = refusals::counts_fault(places, transitions, pre, post, caps, marks, false);
     match found {
         Fault::Faulty(number, at) => Answer {
             kind: REFUSED,
@@ -82,6 +83,7 @@ pub extern "C" fn kaunorpi_ask_summary(
     pre: &[Weight],
     post: &[Weight],
     caps: &[u16],
+    marks: &[u8],
     marking: &[u16],
     count: usize,
     letters: u32,
@@ -90,7 +92,7 @@ pub extern "C" fn kaunorpi_ask_summary(
     change: &[i32],
     room: &mut [u32],
 ) -> Answer
-    ensures { λ r. ⌜ HandedReply (askFor (netOf places transitions (now (pre .entry)) (now (post .entry)) (now (caps .entry))) (now (marking .entry)) count letters (columnsOf (now (need .entry)) (now (climb .entry)) (now (change .entry))) (now (room .entry))) r (now (room .exit)) ⌝ }
+    ensures { λ r. ⌜ HandedReply (askFor (netOf places transitions (now (pre .entry)) (now (post .entry)) (now (caps .entry)) (now (marks .entry))) (now (marking .entry)) count letters (columnsOf (now (need .entry)) (now (climb .entry)) (now (change .entry))) (now (room .entry))) r (now (room .exit)) ⌝ }
 {
     let fit = c_summary_lists::is_fitting(need.len(), climb.len(), change.len());
     if fit {
@@ -101,11 +103,12 @@ pub extern "C" fn kaunorpi_ask_summary(
             pre,
             post,
             caps,
+            marks,
             marking,
             summary,
             room,
         );
         return of_asked(answer);
     }
-    refuse_asked(count, places, transitions, pre, post, caps)
+    refuse_asked(count, places, transitions, pre, post, caps, marks)
 }

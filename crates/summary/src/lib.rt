@@ -32,12 +32,13 @@ fn find_fault(
     pre: &[Weight],
     post: &[Weight],
     caps: &[u16],
+    marks: &[u8],
     part: &[u8],
     within: bool,
 ) -> Fault
-    ensures { λ r. ⌜ r ≡ partFault (netOf places transitions (now (pre .entry)) (now (post .entry)) (now (caps .entry))) (now (part .entry)) within ⌝ }
+    ensures { λ r. ⌜ r ≡ partFault (netOf places transitions (now (pre .entry)) (now (post .entry)) (now (caps .entry)) (now (marks .entry))) (now (part .entry)) within ⌝ }
 {
-    let found = refusals::net_fault(places, transitions, pre, post, caps, within);
+    let found = refusals::net_fault(places, transitions, pre, post, caps, marks, within);
     match found {
         Fault::Faulty(number, at) => Fault::Faulty(number, at),
         Fault::Sound => refusals::word_fault(transitions, part),
@@ -51,16 +52,25 @@ fn summary_part(
     pre: &[Weight],
     post: &[Weight],
     caps: &[u16],
+    marks: &[u8],
     part: &[u8],
     within: bool,
 ) -> Summed
-    ensures { λ r. ⌜ Answers (wordAnswer (netOf places transitions (now (pre .entry)) (now (post .entry)) (now (caps .entry))) (now (part .entry)) within) r ⌝ }
+    ensures { λ r. ⌜ Answers (wordAnswer (netOf places transitions (now (pre .entry)) (now (post .entry)) (now (caps .entry)) (now (marks .entry))) (now (part .entry)) within) r ⌝ }
 {
-    let found = find_fault(places, transitions, pre, post, caps, part, within);
+    let found = find_fault(places, transitions, pre, post, caps, marks, part, within);
     match found {
         Fault::Faulty(number, at) => summary_form::refuse_with(number, at),
         Fault::Sound => {
-            let slots = summary_place::word_slots(places, transitions, pre, post, caps, part);
+            let slots = summary_place::word_slots(
+                places,
+                transitions,
+                pre,
+                post,
+                caps,
+                marks,
+                part,
+            );
             let letters = part.len() as u32;
             Summed {
                 answer: Made::Done,
@@ -81,11 +91,12 @@ pub fn summary_word(
     pre: &[Weight],
     post: &[Weight],
     caps: &[u16],
+    marks: &[u8],
     word: &[u8],
 ) -> Summed
-    ensures { λ r. ⌜ Answers (wordAnswer (netOf places transitions (now (pre .entry)) (now (post .entry)) (now (caps .entry))) (now (word .entry)) true) r ⌝ }
+    ensures { λ r. ⌜ Answers (wordAnswer (netOf places transitions (now (pre .entry)) (now (post .entry)) (now (caps .entry)) (now (marks .entry))) (now (word .entry)) true) r ⌝ }
 {
-    summary_part(places, transitions, pre, post, caps, word, true)
+    summary_part(places, transitions, pre, post, caps, marks, word, true)
 }
 
 // The same for the letters from number start up to number end. Positions count from the stretch's
@@ -96,17 +107,18 @@ pub fn summary_stretch(
     pre: &[Weight],
     post: &[Weight],
     caps: &[u16],
+    marks: &[u8],
     word: &[u8],
     start: usize,
     end: usize,
 ) -> Summed
-    ensures { λ r. ⌜ Answers (wordAnswer (netOf places transitions (now (pre .entry)) (now (post .entry)) (now (caps .entry))) (stretch (now (word .entry)) start end) (inside (now (word .entry)) start end)) r ⌝ }
+    ensures { λ r. ⌜ Answers (wordAnswer (netOf places transitions (now (pre .entry)) (now (post .entry)) (now (caps .entry)) (now (marks .entry))) (stretch (now (word .entry)) start end) (inside (now (word .entry)) start end)) r ⌝ }
 {
     if end < start {
-        return summary_part(places, transitions, pre, post, caps, word, false);
+        return summary_part(places, transitions, pre, post, caps, marks, word, false);
     }
     if word.len() < end {
-        return summary_part(places, transitions, pre, post, caps, word, false);
+        return summary_part(places, transitions, pre, post, caps, marks, word, false);
     }
     summary_part(
         places,
@@ -114,6 +126,7 @@ pub fn summary_stretch(
         pre,
         post,
         caps,
+        marks,
         &word[start..end],
         true,
     )

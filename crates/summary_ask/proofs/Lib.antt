@@ -1,3 +1,4 @@
 pub mod Asking
 pub mod Meaning
 pub mod Exactly
+pub mod Marks

@@ -35,7 +35,7 @@ use Rattle.summary_ask.specs.declared.Asked.the-variants.{Yes, No}
 use Rattle.summary_ask.proofs.Asking.{asked-apart, slots-asked, yes-means, means-yes, no-means}
 use Rattle.summary_form.proofs.Places.{Room, room-less, rising, at-each, from-each, ends-at}
 use Rattle.summary_form.proofs.Formed.{at-formed}
-use Rattle.summary_form.proofs.Meaning.{climb-published, slot-here, word-well-formed}
+use Rattle.summary_form.proofs.Meaning.{climb-by-mark, slot-here, word-well-formed}
 
 -- ---- the promise has one answer, and one content of the room
 pub ask-unique : (net : Net) (m : List ℕ) (s : Summary) (room : List ℕ) (r r′ : Asked) (l l′ : List ℕ) → Replied net m s room r l → Replied net m s room r′ l′ → (r ≡ r′) × (l ≡ l′)
@@ -48,11 +48,11 @@ fires-iff net w m i letters = (
   λ f. record {
     at = λ p h.
         let q = fires-then (letterAt net p) (Room net p) (room-less net p) (rising net p) w (tokens m p) (i .at p h) (at-each (f .1) i p h) in
-        record { covers = rw (need-peak (letterAt net p) (rising net p) w) (q .0); keeps = rw (← climb-published net p w, climb-peak (letterAt net p) (rising net p) w) (q .1) };
+        record { covers = rw (need-peak (letterAt net p) (rising net p) w) (q .0); keeps = rw (← climb-by-mark net p w, climb-peak (letterAt net p) (rising net p) w) (q .1) };
   },
   λ k. from-each net w m (i .long) letters
       (λ p h. then-fires (letterAt net p) (Room net p) (room-less net p) (rising net p) w (tokens m p)
-      (rw (need-peak (letterAt net p) (rising net p) w) at (k .at p h .covers)) (rw (← climb-published net p w, climb-peak (letterAt net p) (rising net p) w) at (k .at p h .keeps))),
+      (rw (need-peak (letterAt net p) (rising net p) w) at (k .at p h .covers)) (rw (← climb-by-mark net p w, climb-peak (letterAt net p) (rising net p) w) at (k .at p h .keeps))),
 )
 
 pub fires-ends : {net : Net} {m w m′ : List ℕ} → Fires net m w m′ → (p : ℕ) → p < net .places → pos (tokens m′ p) ≡ pos (tokens m p) +ℤ change (letterAt net p) w
@@ -107,11 +107,11 @@ module _ (net : Net) (light : Light net) (m w room : List ℕ) (allowed : Allowe
 
   word-suffices : Suffices (slotsOf net w) (net .caps) m → SufficesWord net w m
   unfolding slotOf
-  word-suffices k = record { at = λ p h. rw (slot-is p h, climb-published net p w) at (k .at p (omega (arith, allowed .marked))) }
+  word-suffices k = record { at = λ p h. rw (slot-is p h, climb-by-mark net p w) at (k .at p (omega (arith, allowed .marked))) }
 
   suffices-word : SufficesWord net w m → Suffices (slotsOf net w) (net .caps) m
   unfolding slotOf
-  suffices-word k = record { at = λ p h. let l : p < net .places = omega (arith, allowed .marked) in rw (slot-is p l, climb-published net p w) (k .at p l) }
+  suffices-word k = record { at = λ p h. let l : p < net .places = omega (arith, allowed .marked) in rw (slot-is p l, climb-by-mark net p w) (k .at p l) }
 
   ends-is : (m′ : List ℕ) → Fires net m w m′ → ends (slotsOf net w) m ≡ m′
   unfolding slotOf

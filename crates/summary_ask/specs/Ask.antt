@@ -10,7 +10,7 @@ use Rattle.net.specs.Net.{Net, capacity, tokens}
 use Rattle.refusals.specs.Given.{refuse, orElse, outside, markedFault}
 use Rattle.refusals.specs.declared.Fault.{Fault}
 use Rattle.refusals.specs.declared.Fault.the-variants.{Sound, Faulty}
-use Rattle.summary_place.specs.Place.{letterAt, need, prefixClimb}
+use Rattle.summary_place.specs.Place.{letterAt, need, publishedClimb}
 use Rattle.summary_asked.specs.Asked.{lowestNo, ends, SufficesAt}
 use Rattle.summary_place.specs.declared.Slot.{Slot}
 use Rattle.summary_form.specs.Summary.{shapeFault}
@@ -57,6 +57,6 @@ pub record Replied (net : Net) (m : List ℕ) (s : Summary) (room : List ℕ) (r
   pub answer : askedNumbers r ≡ askedNumbers (askAnswer net m s room .answer)
   pub left : room′ ≡ askAnswer net m s room .left
 
--- demand 3's condition on a word: the marking covers the need and marking plus climb keeps to each capacity, with 01's climb over all prefixes
+-- demand 3's condition on a word: the marking covers the need and marking plus climb keeps to each capacity, with the climb of the mixed net
 pub record SufficesWord (net : Net) (w m : List ℕ) : Type 0 where
-  pub at : (p : ℕ) → p < net .places → SufficesAt (need (letterAt net p) w) (prefixClimb (letterAt net p) w) (capacity net p) (tokens m p)
+  pub at : (p : ℕ) → p < net .places → SufficesAt (need (letterAt net p) w) (publishedClimb net p w) (capacity net p) (tokens m p)

@@ -30,18 +30,19 @@ fn ask_fault(
     pre: &[Weight],
     post: &[Weight],
     caps: &[u16],
+    marks: &[u8],
     marking: &[u16],
     summary: Summary,
     roomy: bool,
 ) -> Fault
-    ensures { λ r. ⌜ r ≡ askFault (netOf places transitions (now (pre .entry)) (now (post .entry)) (now (caps .entry))) (now (marking .entry)) summary roomy ⌝ }
+    ensures { λ r. ⌜ r ≡ askFault (netOf places transitions (now (pre .entry)) (now (post .entry)) (now (caps .entry)) (now (marks .entry))) (now (marking .entry)) summary roomy ⌝ }
 {
     let count = summary.places;
     if refusals::is_outside(count) {
         return Fault::Faulty(1, 0);
     }
     let fits = same_count(roomy, count, places);
-    let found = refusals::marked_fault(places, transitions, pre, post, caps, marking, fits);
+    let found = refusals::marked_fault(places, transitions, pre, post, caps, marks, marking, fits);
     match found {
         Fault::Faulty(number, at) => Fault::Faulty(number, at),
         Fault::Sound => summary_form::shape_fault(summary),
@@ -79,11 +80,12 @@ pub fn ask_summary(
     pre: &[Weight],
     post: &[Weight],
     caps: &[u16],
+    marks: &[u8],
     marking: &[u16],
     summary: Summary,
     room: &mut [u32],
 ) -> Asked
-    ensures { λ r. ⌜ Replied (netOf places transitions (now (pre .entry)) (now (post .entry)) (now (caps .entry))) (now (marking .entry)) summary (now (room .entry)) r (now (room .exit)) ⌝ }
+    ensures { λ r. ⌜ Replied (netOf places transitions (now (pre .entry)) (now (post .entry)) (now (caps .entry)) (now (marks .entry))) (now (marking .entry)) summary (now (room .entry)) r (now (room .exit)) ⌝ }
 {
     let roomy = room.len() == places;
     let found = ask_fault(
@@ -92,6 +94,7 @@ pub fn ask_summary(
         pre,
         post,
         caps,
+        marks,
         marking,
         summary,
         roomy,

@@ -4,3 +4,4 @@ pub mod Formed
 pub mod Answers
 pub mod Meaning
 pub mod Exactly
+pub mod Marks

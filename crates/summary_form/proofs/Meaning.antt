@@ -1,40 +1,79 @@
 -- What a summary means: its numbers are the published ones, and it is well formed exactly where refusal 6 is not given. Assumes nothing.
-use Prim.Native.Nat.{ℕ, _≤_, _<_}
-use mathlib.Core.Path.{_≡_, refl, sym, _∙_}
+use Prim.Native.Nat.{ℕ, _-_, _≤_, _<_}
+use mathlib.Core.Path.{_≡_, refl, sym, ap, _∙_}
 use mathlib.Core.Bool.{Bool, true, false, cond}
 use mathlib.Core.List.{List, []}
 use mathlib.Core.Logic.{_↔_}
+use native.Mathlib.Decide.{decLt}
 use native.Mathlib.Omega.{arith}
 use lib.ListN.{length, getD, replicate, length-replicate, getD-replicate}
-use lib.Dec.{ltb}
+use lib.Dec.{ltb, eqb}
 use lib.Seq.{ext-getD}
-use borrow.Author.Tests.{lt-ltb}
-use Rattle.ground.specs.Limits.{countLimit, wordLimit}
+use borrow.Author.Tests.{lt-ltb, eqb-true, eqb-false}
+use Rattle.ground.specs.Limits.{countLimit, wordLimit, noCapacity}
 use Rattle.ground.specs.Lists.{most}
 use Rattle.ground.proofs.Fill.{table-length, table-at}
-use Rattle.net.specs.Net.{Net, Light, Sized}
+use Rattle.net.specs.Net.{Net, Pre, Post, capacity, Capped, mark, Pocket, inForce, Light, Sized}
+use Rattle.net.proofs.Rule.{leaves-plain, leaves-pocket, force-capped, force-uncapped}
 use Rattle.refusals.specs.declared.Fault.the-variants.{Sound}
-use Rattle.summary_place.specs.Place.{Move, letterAt, need, climb, change, prefixClimb}
+use Rattle.summary_place.specs.Place.{Move, letterAt, need, climb, change, prefixClimb, pocketClimb, publishedClimb}
 use Rattle.summary_place.specs.Slots.{nil, slotOf, slotAt, slotsOf}
-use Rattle.summary_place.proofs.Words.{climb-prefix}
+use Rattle.summary_place.proofs.Words.{climb-prefix, climb-puts}
 use Rattle.summary_form.specs.Summary.{summaryOf, emptySummary, shapeFault, WellFormed, Count, Held}
 use Rattle.summary_form.specs.declared.Summary.{Summary}
 use Rattle.summary_form.proofs.Formed.{Shaped, formed-of, of-formed, word-shaped, empty-shaped}
 
 -- ---- the numbers are the published ones
--- climb is "the largest change over all prefixes, the empty one (0) included"
-pub climb-published : (net : Net) (p : ℕ) (w : List ℕ) → climb (letterAt net p) w ≡ prefixClimb (letterAt net p) w
-climb-published net p w = climb-prefix (letterAt net p) (λ t. refl) w
+-- the mark in force is 0 at a place that is no pocket with a capacity
+force-plain : (cap mark : ℕ) → (cap < noCapacity → mark ≡ 0) → inForce cap mark ≡ 0
+force-plain cap mark h =
+    elim (decLt cap noCapacity) [
+      | yes c ↦ force-capped cap mark c ∙ h c
+      | no n ↦ force-uncapped cap mark (omega arith)
+    ]
+
+-- climb is, at a place that is no pocket with a capacity, "the largest change over all prefixes, the empty one (0) included"
+pub climb-published : (net : Net) (p : ℕ) (w : List ℕ) → (Capped net p → mark net p ≡ 0) → climb (letterAt net p) w ≡ prefixClimb (letterAt net p) w
+climb-published net p w h = climb-prefix (letterAt net p) (λ t. ap (λ (n : ℕ). Post net p t - n) (leaves-plain _ (Pre net p t) (force-plain (capacity net p) (mark net p) h))) w
+
+-- at a pocket with a capacity "the largest of 0 and, for each letter, the change before it plus its Post"
+pub climb-pocket : (net : Net) (p : ℕ) (w : List ℕ) → Capped net p → Pocket net p → climb (letterAt net p) w ≡ pocketClimb (letterAt net p) w
+climb-pocket net p w c k = climb-puts (letterAt net p) (λ t. rw (force-capped (capacity net p) (mark net p) c, leaves-pocket (mark net p) (Pre net p t) k) (omega arith)) w
+
+published-plain : (net : Net) (p : ℕ) (w : List ℕ) → eqb (inForce (capacity net p) (mark net p)) 0 ≡ true → publishedClimb net p w ≡ prefixClimb (letterAt net p) w
+unfolding publishedClimb
+published-plain net p w e = rw e
+
+published-pocket : (net : Net) (p : ℕ) (w : List ℕ) → eqb (inForce (capacity net p) (mark net p)) 0 ≡ false → publishedClimb net p w ≡ pocketClimb (letterAt net p) w
+unfolding publishedClimb
+published-pocket net p w e = rw e
+
+-- so it is the climb of the mixed net, by capacity and mark
+pub climb-by-mark : (net : Net) (p : ℕ) (w : List ℕ) → climb (letterAt net p) w ≡ publishedClimb net p w
+climb-by-mark net p w = go (eqb (inForce (capacity net p) (mark net p)) 0) refl
+  where
+    go : (b : Bool) → eqb (inForce (capacity net p) (mark net p)) 0 ≡ b → climb (letterAt net p) w ≡ publishedClimb net p w
+    go true e =
+        let z = eqb-true (inForce (capacity net p) (mark net p)) 0 e in
+        climb-published net p w (λ c. sym (force-capped (capacity net p) (mark net p) c) ∙ z) ∙ sym (published-plain net p w e)
+    go false e =
+        let z = eqb-false (inForce (capacity net p) (mark net p)) 0 e in
+        let c : Capped net p = capped (decLt (capacity net p) noCapacity) z in
+        climb-pocket net p w c (λ h. z (force-capped (capacity net p) (mark net p) c ∙ h)) ∙ sym (published-pocket net p w e)
+      where
+        capped : Dec (Capped net p) → (inForce (capacity net p) (mark net p) ≡ 0 → ⊥) → Capped net p
+        capped (yes c) z = c
+        capped (no n) z = absurd (z (force-uncapped (capacity net p) (mark net p) (omega arith)))
 
 pub slot-here : (net : Net) (w : List ℕ) (p : ℕ) → net .places ≤ countLimit → p < net .places → getD (slotsOf net w) p nil ≡ slotOf (letterAt net p) w
 slot-here net w p h l = table-at (slotAt net w) countLimit p nil (omega arith) ∙ rw (lt-ltb p (net .places) l)
 
 -- a word's summary holds, at each place, its need, climb and change as published
-pub summary-published : (net : Net) (w : List ℕ) (p : ℕ) → net .places ≤ countLimit → p < net .places → getD (summaryOf net w .slots) p nil ≡ record { need = need (letterAt net p) w; climb = prefixClimb (letterAt net p) w; change = change (letterAt net p) w }
+pub summary-published : (net : Net) (w : List ℕ) (p : ℕ) → net .places ≤ countLimit → p < net .places → getD (summaryOf net w .slots) p nil ≡ record { need = need (letterAt net p) w; climb = publishedClimb net p w; change = change (letterAt net p) w }
 unfolding slotOf
 summary-published net w p h l =
     slot-here net w p h l
-    ∙ (λ i. record { need = need (letterAt net p) w; climb = climb-published net p w i; change = change (letterAt net p) w })
+    ∙ (λ i. record { need = need (letterAt net p) w; climb = climb-by-mark net p w i; change = change (letterAt net p) w })
 
 -- the summary of the empty word is the empty summary
 slot-none : (at : ℕ → Move) → slotOf at [] ≡ nil

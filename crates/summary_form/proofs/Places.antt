@@ -6,10 +6,11 @@ use native.Mathlib.Omega.{arith}
 use native.Mathlib.Nat.{le-trans}
 use lib.ListN.{length}
 use lib.IntN.{ℤ, pos, _+ℤ_, +ℤ-assoc, +ℤ-idr}
-use Rattle.net.specs.Net.{Net, Pre, Post, Change, rise, capacity, Capped, tokens}
+use Rattle.net.specs.Net.{Net, Pre, Post, Change, rise, capacity, Capped, mark, inForce, tokens}
 use Rattle.net.specs.Letter.{firedAt}
 use Rattle.net.specs.Firing.{Enabled, Gives, Fires, nothing, letter, Within}
-use Rattle.net.proofs.Meaning.{keeps-rise, gives-plain, firing-within}
+use Rattle.net.proofs.Meaning.{gives-plain, firing-within}
+use Rattle.net.proofs.Rule.{leaves-most, keeps-rise}
 use Rattle.net.proofs.Judged.{gives-fired}
 use Rattle.refusals.specs.Given.{Letters}
 use Rattle.summary_place.specs.Place.{letterAt, change}
@@ -24,7 +25,7 @@ pub room-less : (net : Net) (p m n : ℕ) → m ≤ n → Room net p n → Room 
 room-less net p m n h r c = le-trans h (r c)
 
 pub rising : (net : Net) (p : ℕ) → Rising (letterAt net p)
-rising net p = record { kept = λ t. omega arith }
+rising net p = record { kept = λ t. omega (arith, leaves-most (inForce (capacity net p) (mark net p)) (Pre net p t)) }
 
 pub tail-letters : (n t : ℕ) (w : List ℕ) → Letters n (t ∷ w) → Letters n w
 tail-letters n t w l = record { at = λ k h. l .at (suc k) (omega arith) }

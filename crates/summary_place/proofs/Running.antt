@@ -14,7 +14,7 @@ use Rattle.ground.specs.Limits.{countLimit, weightLimit}
 use Rattle.ground.specs.Lists.{most}
 use Rattle.ground.proofs.Most.{most-none}
 use Rattle.ground.proofs.Fill.{Filled, table-length, table-at}
-use Rattle.net.specs.Net.{Net, Pre, Post, riseOf, Light}
+use Rattle.net.specs.Net.{Net, Pre, Post, capacity, mark, inForce, riseOf, Light}
 use Rattle.refusals.specs.Given.{Letters}
 use Rattle.summary_place.specs.Place.{Move, letterAt}
 use Rattle.summary_place.specs.Slots.{nil, slotOf, slotAt, slotsOf}
@@ -73,12 +73,12 @@ module _ (at : ℕ → Move) (w : List ℕ) where
           change = (e ∙ ap₂ subℕ (run .gains ∙ ap (total (puts at)) t) (run .losses ∙ ap (total (takes at)) t) ∙ sym (change-is at w)) j;
         }
 
--- one letter of a net: x and y are its cells, whose limit is the net's
+-- one letter of a net: f is the mark in force, x and y are its cells, whose limit is the net's
 module _ (net : Net) (light : Light net) (p : ℕ) (w : List ℕ) (g l n k i : ℕ) (run : Running (letterAt net p) w g l n k i) where
-  pub run-letter : (x y r n′ k′ : ℕ) → i < length w → x ≡ Pre net p (getD w i 0) → y ≡ Post net p (getD w i 0) → r ≡ riseOf x y → n′ ≡ step n x l g → k′ ≡ step k r g l → Running (letterAt net p) w (g + y) (l + x) n′ k′ (i + 1)
-  run-letter x y r n′ k′ h ex ey er en ek =
+  pub run-letter : (f x y r n′ k′ : ℕ) → i < length w → f ≡ inForce (capacity net p) (mark net p) → x ≡ Pre net p (getD w i 0) → y ≡ Post net p (getD w i 0) → r ≡ riseOf f x y → n′ ≡ step n x l g → k′ ≡ step k r g l → Running (letterAt net p) w (g + y) (l + x) n′ k′ (i + 1)
+  run-letter f x y r n′ k′ h ef ex ey er en ek =
       let t = getD w i 0 in
-      run-next (letterAt net p) w g l n k i run x y r n′ k′ h ex ey (er ∙ ap₂ riseOf ex ey) en ek
+      run-next (letterAt net p) w g l n k i run x y r n′ k′ h ex ey (er ∙ (λ j. riseOf (ef j) (ex j) (ey j))) en ek
       (rw ex (light .pre (t * net .places + p))) (rw ey (light .post (t * net .places + p)))
 
 pub ruleset runs = (cell-inside, run-start, run-end)

@@ -10,7 +10,7 @@ use Rattle.ground.specs.Lists.{most}
 use Rattle.ground.specs.Parts.{up, dn}
 use Rattle.ground.proofs.Most.{most-at, most-least, most-same}
 use Rattle.ground.proofs.Parts.{up-sub, dn-sub, minus-is, sub-sum, up-sum, pos-minus}
-use Rattle.summary_place.specs.Place.{Move, change, need, climb, prefixClimb}
+use Rattle.summary_place.specs.Place.{Move, change, need, climb, prefixClimb, pocketClimb}
 use Rattle.summary_place.specs.Slots.{slotOf, joined}
 use Rattle.summary_place.specs.Walk.{step, Well}
 use Rattle.summary_place.proofs.Steps.{step-is, step-diff}
@@ -136,3 +136,9 @@ module _ (at : ℕ → Move) where
         back (suc i) b =
             let c : i < n = le-of-suc-le-suc b in
             omega (arith, most-at n h i c, plain (getD w i 0), up-change (take (suc i) w), total-more puts w i c, total-more takes w i c)
+
+  -- where the rise is all that is put, climb is "the largest of 0 and, for each letter, the change before it plus its Post"
+  module _ (pocket : (t : ℕ) → rise t ≡ puts t) where
+    pub climb-puts : (w : List ℕ) → climb at w ≡ pocketClimb at w
+    unfolding climb pocketClimb
+    climb-puts w = most-same (length w) _ _ (λ i. ap (λ (r : ℕ). up (change at (take i w) +ℤ pos r)) (pocket (getD w i 0)))

@@ -50,23 +50,26 @@ fn cell(table: &[Weight], places: usize, t: u8, p: usize) -> Weight
     table[i]
 }
 
-// One place of a word's summary, from what the letters so far have lost and gained there.
+// One place of a word's summary, from what the letters so far have lost and gained there. Which of
+// the two capacity rules the place has is the same for every letter.
 fn slot_of(
     places: usize,
     transitions: usize,
     pre: &[Weight],
     post: &[Weight],
     caps: &[u16],
+    marks: &[u8],
     p: usize,
     word: &[u8],
 ) -> Slot
-    requires { ⌜ Sized (netOf places transitions (now pre) (now post) (now caps)) ⌝ }
-    requires { ⌜ Light (netOf places transitions (now pre) (now post) (now caps)) ⌝ }
+    requires { ⌜ Sized (netOf places transitions (now pre) (now post) (now caps) (now marks)) ⌝ }
+    requires { ⌜ Light (netOf places transitions (now pre) (now post) (now caps) (now marks)) ⌝ }
     requires { ⌜ p < places ⌝ }
     requires { ⌜ length (now word) ≤ wordLimit ⌝ }
     requires { ⌜ Letters transitions (now word) ⌝ }
-    ensures { λ r. ⌜ r ≡ slotOf (letterAt (netOf places transitions (now (pre .entry)) (now (post .entry)) (now (caps .entry))) p) (now (word .entry)) ⌝ }
+    ensures { λ r. ⌜ r ≡ slotOf (letterAt (netOf places transitions (now (pre .entry)) (now (post .entry)) (now (caps .entry)) (now (marks .entry))) p) (now (word .entry)) ⌝ }
 {
+    let mark = net::mark_in_force(caps[p], marks[p]);
     let mut gained: u32 = 0;
     let mut lost: u32 = 0;
     let mut need: u32 = 0;
@@ -76,7 +79,7 @@ fn slot_of(
         let t = word[i];
         let takes = cell(pre, places, t, p);
         let puts = cell(post, places, t, p);
-        let rises = net::rise(takes, puts);
+        let rises = net::rise(mark, takes, puts);
         let taken = takes as u32;
         need = larger(need, taken, lost, gained);
         climb = larger(climb, rises as u32, gained, lost);
@@ -99,18 +102,19 @@ pub fn word_slots(
     pre: &[Weight],
     post: &[Weight],
     caps: &[u16],
+    marks: &[u8],
     word: &[u8],
 ) -> [Slot; COUNT_LIMIT]
-    requires { ⌜ Sized (netOf places transitions (now pre) (now post) (now caps)) ⌝ }
-    requires { ⌜ Light (netOf places transitions (now pre) (now post) (now caps)) ⌝ }
+    requires { ⌜ Sized (netOf places transitions (now pre) (now post) (now caps) (now marks)) ⌝ }
+    requires { ⌜ Light (netOf places transitions (now pre) (now post) (now caps) (now marks)) ⌝ }
     requires { ⌜ length (now word) ≤ wordLimit ⌝ }
     requires { ⌜ Letters transitions (now word) ⌝ }
-    ensures { λ r. ⌜ r ≡ slotsOf (netOf places transitions (now (pre .entry)) (now (post .entry)) (now (caps .entry))) (now (word .entry)) ⌝ }
+    ensures { λ r. ⌜ r ≡ slotsOf (netOf places transitions (now (pre .entry)) (now (post .entry)) (now (caps .entry)) (now (marks .entry))) (now (word .entry)) ⌝ }
 {
     let mut slots = no_slots();
     let mut p: usize = 0;
     while p < places {
-        let s = slot_of(places, transitions, pre, post, caps, p, word);
+        let s = slot_of(places, transitions, pre, post, caps, marks, p, word);
         slots[p] = s;
         p += 1;
     }

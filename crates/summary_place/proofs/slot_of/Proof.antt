@@ -9,11 +9,23 @@ use Rattle.summary_place.proofs.slot_of.Statement.{statement}
 use Rattle.summary_place.proofs.slot_of.Tie as tie
 
 abbrev Inv-loop : tie.InvT-loop
-Inv-loop places transitions pre post caps p word gained₀ lost₀ need₀ climb₀ i₀ gained lost need climb i =
-    Running (letterAt (netOf places transitions pre post caps) p) word gained lost need climb i
+Inv-loop places transitions pre post caps marks p word mark gained₀ lost₀ need₀ climb₀ i₀ gained lost need climb i =
+    Running (letterAt (netOf places transitions pre post caps marks) p) word gained lost need climb i
 
 abbrev μ-loop : tie.MeasureT-loop
-μ-loop places transitions pre post caps p word gained₀ lost₀ need₀ climb₀ i₀ gained lost need climb i = length word - i
+μ-loop places transitions pre post caps marks p word mark gained₀ lost₀ need₀ climb₀ i₀ gained lost need climb i = length word - i
+
+mul-mark-in-force : tie.Need-mul-mark-in-force Inv-loop μ-loop
+mul-mark-in-force c = search needs
+
+shared-slice-read-mark-in-force : tie.Need-shared-slice-read-mark-in-force Inv-loop μ-loop
+shared-slice-read-mark-in-force c = search needs
+
+shared-slice-read-mark-in-force-2 : tie.Need-shared-slice-read-mark-in-force-2 Inv-loop μ-loop
+shared-slice-read-mark-in-force-2 c = search needs
+
+mark-in-force-requires : tie.Need-mark-in-force-requires Inv-loop μ-loop
+mark-in-force-requires c κs = search needs
 
 loop-holds : tie.Need-loop-holds Inv-loop μ-loop
 loop-holds c = search (runs, needs)
@@ -63,12 +75,13 @@ loop-again c =
     let a = s .args in
     let l : tie.In-loop Inv-loop μ-loop = search needs in
     let b = l .before .loop in
+    let f : tie.After-mark-in-force Inv-loop μ-loop = search needs in
     let x : tie.After-cell Inv-loop μ-loop = search needs in
     let y : tie.After-cell2 Inv-loop μ-loop = search needs in
     let r : tie.After-rise Inv-loop μ-loop = search needs in
     let n : tie.After-larger Inv-loop μ-loop = search needs in
-    run-letter (netOf (a .places) (a .transitions) (now (a .pre)) (now (a .post)) (now (a .caps))) (search needs) (a .p) (now (a .word)) (b .gained) (b .lost) (b .need) (b .climb) (b .i) (b .inv) _ _ _ _ _ (search needs)
-    (x .cell .ensures) (y .cell2 .ensures) (r .rise .ensures) (n .larger .ensures) (c .larger2 .ensures)
+    run-letter (netOf (a .places) (a .transitions) (now (a .pre)) (now (a .post)) (now (a .caps)) (now (a .marks))) (search needs) (a .p) (now (a .word)) (b .gained) (b .lost) (b .need) (b .climb) (b .i) (b .inv) _ _ _ _ _ _ (search needs)
+    (f .mark-in-force .ensures) (x .cell .ensures) (y .cell2 .ensures) (r .rise .ensures) (n .larger .ensures) (c .larger2 .ensures)
 
 less-requires : tie.Need-less-requires Inv-loop μ-loop
 less-requires c κs = search needs
@@ -82,6 +95,10 @@ slot-of-spec =
     (tie.spec
     Inv-loop
     μ-loop
+    mul-mark-in-force
+    shared-slice-read-mark-in-force
+    shared-slice-read-mark-in-force-2
+    mark-in-force-requires
     loop-holds
     shared-slice-read-t
     cell-requires

@@ -14,11 +14,11 @@ use Rattle.summary_place.proofs.word_slots.Statement.{statement}
 use Rattle.summary_place.proofs.word_slots.Tie as tie
 
 abbrev Inv-loop : tie.InvT-loop
-Inv-loop places transitions pre post caps word slots₀ p₀ slots p =
-    (p ≤ places) × Filled nil (λ k x. slotOf (letterAt (netOf places transitions pre post caps) k) word) slots₀ p slots
+Inv-loop places transitions pre post caps marks word slots₀ p₀ slots p =
+    (p ≤ places) × Filled nil (λ k x. slotOf (letterAt (netOf places transitions pre post caps marks) k) word) slots₀ p slots
 
 abbrev μ-loop : tie.MeasureT-loop
-μ-loop places transitions pre post caps word slots₀ p₀ slots p = places - p
+μ-loop places transitions pre post caps marks word slots₀ p₀ slots p = places - p
 
 no-slots-requires : tie.Need-no-slots-requires Inv-loop μ-loop
 no-slots-requires c κs = search needs
@@ -47,11 +47,11 @@ loop-again c =
     let a = s .args in
     let l : tie.In-loop Inv-loop μ-loop = search needs in
     let n : tie.After-no-slots Inv-loop μ-loop = search needs in
-    let z : Sized (netOf (a .places) (a .transitions) (now (a .pre)) (now (a .post)) (now (a .caps))) = search needs in
+    let z : Sized (netOf (a .places) (a .transitions) (now (a .pre)) (now (a .post)) (now (a .caps)) (now (a .marks))) = search needs in
     let e : length (l .before .loop .slots) ≡ countLimit = search needs in
     let h : l .before .loop .p < length (l .before .loop .slots) = omega arith in (
       search needs,
-      fill-next nil (λ k x. slotOf (letterAt (netOf (a .places) (a .transitions) (now (a .pre)) (now (a .post)) (now (a .caps))) k) (now (a .word))) (n .no-slots .result)
+      fill-next nil (λ k x. slotOf (letterAt (netOf (a .places) (a .transitions) (now (a .pre)) (now (a .post)) (now (a .caps)) (now (a .marks))) k) (now (a .word))) (n .no-slots .result)
           (l .before .loop .p) (l .before .loop .slots) _ (l .before .loop .inv .1) h (c .slot-of .ensures),
     )
 
