@@ -103,12 +103,13 @@ pub extern "C" fn kaunorpi_closed_list(
     pre: &[Weight],
     post: &[Weight],
     caps: &[u16],
+    marks: &[u8],
     initial: &[u16],
     list: &[u16],
 ) -> ListNumbers
-    ensures { λ r. ⌜ r ≡ handedList (numbers (listOf Closed (netOf places transitions (now (pre .entry)) (now (post .entry)) (now (caps .entry))) (now (initial .entry)) (now (list .entry)) true Sound)) ⌝ }
+    ensures { λ r. ⌜ r ≡ handedList (numbers (listOf Closed (netOf places transitions (now (pre .entry)) (now (post .entry)) (now (caps .entry)) (now (marks .entry))) (now (initial .entry)) (now (list .entry)) true Sound)) ⌝ }
 {
-    let answer = closed::closed_list(places, transitions, pre, post, caps, initial, list);
+    let answer = closed::closed_list(places, transitions, pre, post, caps, marks, initial, list);
     of_list(answer)
 }
 
@@ -120,13 +121,24 @@ pub extern "C" fn kaunorpi_closed_target(
     pre: &[Weight],
     post: &[Weight],
     caps: &[u16],
+    marks: &[u8],
     initial: &[u16],
     list: &[u16],
     target: &[u16],
 ) -> ListNumbers
-    ensures { λ r. ⌜ r ≡ handedList (claimNumbers (targetOf Closed (netOf places transitions (now (pre .entry)) (now (post .entry)) (now (caps .entry))) (now (initial .entry)) (now (list .entry)) (now (target .entry)))) ⌝ }
+    ensures { λ r. ⌜ r ≡ handedList (claimNumbers (targetOf Closed (netOf places transitions (now (pre .entry)) (now (post .entry)) (now (caps .entry)) (now (marks .entry))) (now (initial .entry)) (now (list .entry)) (now (target .entry)))) ⌝ }
 {
-    let answer = closed::closed_target(places, transitions, pre, post, caps, initial, list, target);
+    let answer = closed::closed_target(
+        places,
+        transitions,
+        pre,
+        post,
+        caps,
+        marks,
+        initial,
+        list,
+        target,
+    );
     of_claim(answer)
 }
 
@@ -138,12 +150,13 @@ pub extern "C" fn kaunorpi_closed_stall(
     pre: &[Weight],
     post: &[Weight],
     caps: &[u16],
+    marks: &[u8],
     initial: &[u16],
     list: &[u16],
 ) -> ListNumbers
-    ensures { λ r. ⌜ r ≡ handedList (claimNumbers (stallOf (netOf places transitions (now (pre .entry)) (now (post .entry)) (now (caps .entry))) (now (initial .entry)) (now (list .entry)))) ⌝ }
+    ensures { λ r. ⌜ r ≡ handedList (claimNumbers (stallOf (netOf places transitions (now (pre .entry)) (now (post .entry)) (now (caps .entry)) (now (marks .entry))) (now (initial .entry)) (now (list .entry)))) ⌝ }
 {
-    let answer = closed::closed_stall(places, transitions, pre, post, caps, initial, list);
+    let answer = closed::closed_stall(places, transitions, pre, post, caps, marks, initial, list);
     of_claim(answer)
 }
 
@@ -155,12 +168,13 @@ pub extern "C" fn kaunorpi_cover_list(
     pre: &[Weight],
     post: &[Weight],
     caps: &[u16],
+    marks: &[u8],
     initial: &[u16],
     list: &[u16],
 ) -> ListNumbers
-    ensures { λ r. ⌜ r ≡ handedList (numbers (listOf Cover (netOf places transitions (now (pre .entry)) (now (post .entry)) (now (caps .entry))) (now (initial .entry)) (now (list .entry)) true Sound)) ⌝ }
+    ensures { λ r. ⌜ r ≡ handedList (numbers (listOf Cover (netOf places transitions (now (pre .entry)) (now (post .entry)) (now (caps .entry)) (now (marks .entry))) (now (initial .entry)) (now (list .entry)) true Sound)) ⌝ }
 {
-    let answer = cover::cover_list(places, transitions, pre, post, caps, initial, list);
+    let answer = cover::cover_list(places, transitions, pre, post, caps, marks, initial, list);
     of_list(answer)
 }
 
@@ -172,12 +186,23 @@ pub extern "C" fn kaunorpi_cover_target(
     pre: &[Weight],
     post: &[Weight],
     caps: &[u16],
+    marks: &[u8],
     initial: &[u16],
     list: &[u16],
     target: &[u16],
 ) -> ListNumbers
-    ensures { λ r. ⌜ r ≡ handedList (claimNumbers (targetOf Cover (netOf places transitions (now (pre .entry)) (now (post .entry)) (now (caps .entry))) (now (initial .entry)) (now (list .entry)) (now (target .entry)))) ⌝ }
+    ensures { λ r. ⌜ r ≡ handedList (claimNumbers (targetOf Cover (netOf places transitions (now (pre .entry)) (now (post .entry)) (now (caps .entry)) (now (marks .entry))) (now (initial .entry)) (now (list .entry)) (now (target .entry)))) ⌝ }
 {
-    let answer = cover::cover_target(places, transitions, pre, post, caps, initial, list, target);
+    let answer = cover::cover_target(
+        places,
+        transitions,
+        pre,
+        post,
+        caps,
+        marks,
+        initial,
+        list,
+        target,
+    );
     of_claim(answer)
 }

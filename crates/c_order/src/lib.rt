@@ -59,13 +59,14 @@ pub extern "C" fn kaunorpi_order_logs(
     pre: &[Weight],
     post: &[Weight],
     caps: &[u16],
+    marks: &[u8],
     initial: &[u16],
     first: &[u8],
     second: &[u8],
     room: &mut [u8],
     work: &mut [u8],
 ) -> Answer
-    ensures { λ r. ⌜ HandedOrder (orderOf (netOf places transitions (now (pre .entry)) (now (post .entry)) (now (caps .entry))) (now (initial .entry)) (now (first .entry)) (now (second .entry)) (now (room .entry)) (now (work .entry))) r (now (room .exit)) (now (work .exit)) ⌝ }
+    ensures { λ r. ⌜ HandedOrder (orderOf (netOf places transitions (now (pre .entry)) (now (post .entry)) (now (caps .entry)) (now (marks .entry))) (now (initial .entry)) (now (first .entry)) (now (second .entry)) (now (room .entry)) (now (work .entry))) r (now (room .exit)) (now (work .exit)) ⌝ }
 {
     let answer = order::order_logs(
         places,
@@ -73,6 +74,7 @@ pub extern "C" fn kaunorpi_order_logs(
         pre,
         post,
         caps,
+        marks,
         initial,
         first,
         second,

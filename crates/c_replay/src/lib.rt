@@ -74,13 +74,24 @@ pub extern "C" fn kaunorpi_replay_word(
     pre: &[Weight],
     post: &[Weight],
     caps: &[u16],
+    marks: &[u8],
     initial: &[u16],
     word: &[u8],
     room: &mut [u32],
 ) -> ReplayAnswer
-    ensures { λ r. ⌜ HandedReplay (replayOf (netOf places transitions (now (pre .entry)) (now (post .entry)) (now (caps .entry))) (now (initial .entry)) (now (word .entry)) true (now (room .entry))) r (now (room .exit)) ⌝ }
+    ensures { λ r. ⌜ HandedReplay (replayOf (netOf places transitions (now (pre .entry)) (now (post .entry)) (now (caps .entry)) (now (marks .entry))) (now (initial .entry)) (now (word .entry)) true (now (room .entry))) r (now (room .exit)) ⌝ }
 {
-    let answer = replay::replay_word(places, transitions, pre, post, caps, initial, word, room);
+    let answer = replay::replay_word(
+        places,
+        transitions,
+        pre,
+        post,
+        caps,
+        marks,
+        initial,
+        word,
+        room,
+    );
     of_replay(answer)
 }
 
@@ -92,13 +103,14 @@ pub extern "C" fn kaunorpi_replay_stretch(
     pre: &[Weight],
     post: &[Weight],
     caps: &[u16],
+    marks: &[u8],
     initial: &[u16],
     word: &[u8],
     start: usize,
     end: usize,
     room: &mut [u32],
 ) -> ReplayAnswer
-    ensures { λ r. ⌜ HandedReplay (replayOf (netOf places transitions (now (pre .entry)) (now (post .entry)) (now (caps .entry))) (now (initial .entry)) (stretch (now (word .entry)) start end) (inside (now (word .entry)) start end) (now (room .entry))) r (now (room .exit)) ⌝ }
+    ensures { λ r. ⌜ HandedReplay (replayOf (netOf places transitions (now (pre .entry)) (now (post .entry)) (now (caps .entry)) (now (marks .entry))) (now (initial .entry)) (stretch (now (word .entry)) start end) (inside (now (word .entry)) start end) (now (room .entry))) r (now (room .exit)) ⌝ }
 {
     let answer = replay::replay_stretch(
         places,
@@ -106,6 +118,7 @@ pub extern "C" fn kaunorpi_replay_stretch(
         pre,
         post,
         caps,
+        marks,
         initial,
         word,
         start,

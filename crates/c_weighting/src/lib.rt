@@ -60,11 +60,12 @@ pub extern "C" fn kaunorpi_place_weighting(
     pre: &[Weight],
     post: &[Weight],
     caps: &[u16],
+    marks: &[u8],
     y: &[i16],
 ) -> Answer
-    ensures { λ r. ⌜ r ≡ handed (placeNumbers (placeOf (netOf places transitions (now (pre .entry)) (now (post .entry)) (now (caps .entry))) (now (y .entry)))) ⌝ }
+    ensures { λ r. ⌜ r ≡ handed (placeNumbers (placeOf (netOf places transitions (now (pre .entry)) (now (post .entry)) (now (caps .entry)) (now (marks .entry))) (now (y .entry)))) ⌝ }
 {
-    let answer = weighting::place_weighting(places, transitions, pre, post, caps, y);
+    let answer = weighting::place_weighting(places, transitions, pre, post, caps, marks, y);
     of_place(answer)
 }
 
@@ -104,11 +105,12 @@ pub extern "C" fn kaunorpi_transition_weighting(
     pre: &[Weight],
     post: &[Weight],
     caps: &[u16],
+    marks: &[u8],
     x: &[i16],
 ) -> Answer
-    ensures { λ r. ⌜ r ≡ handed (transitionNumbers (transitionOf (netOf places transitions (now (pre .entry)) (now (post .entry)) (now (caps .entry))) (now (x .entry)))) ⌝ }
+    ensures { λ r. ⌜ r ≡ handed (transitionNumbers (transitionOf (netOf places transitions (now (pre .entry)) (now (post .entry)) (now (caps .entry)) (now (marks .entry))) (now (x .entry)))) ⌝ }
 {
-    let answer = weighting::transition_weighting(places, transitions, pre, post, caps, x);
+    let answer = weighting::transition_weighting(places, transitions, pre, post, caps, marks, x);
     of_transition(answer)
 }
 
@@ -167,11 +169,12 @@ pub extern "C" fn kaunorpi_place_bound(
     pre: &[Weight],
     post: &[Weight],
     caps: &[u16],
+    marks: &[u8],
     initial: &[u16],
     y: &[i16],
     place: usize,
 ) -> BoundAnswer
-    ensures { λ r. ⌜ r ≡ handedBound (boundNumbers (boundOf (netOf places transitions (now (pre .entry)) (now (post .entry)) (now (caps .entry))) (now (initial .entry)) (now (y .entry)) place)) ⌝ }
+    ensures { λ r. ⌜ r ≡ handedBound (boundNumbers (boundOf (netOf places transitions (now (pre .entry)) (now (post .entry)) (now (caps .entry)) (now (marks .entry))) (now (initial .entry)) (now (y .entry)) place)) ⌝ }
 {
     let answer = weighting_bound::place_bound(
         places,
@@ -179,6 +182,7 @@ pub extern "C" fn kaunorpi_place_bound(
         pre,
         post,
         caps,
+        marks,
         initial,
         y,
         place,
@@ -217,11 +221,12 @@ pub extern "C" fn kaunorpi_siphon_set(
     pre: &[Weight],
     post: &[Weight],
     caps: &[u16],
+    marks: &[u8],
     set: &[u8],
 ) -> Answer
-    ensures { λ r. ⌜ r ≡ handed (setNumbers (siphonOf (netOf places transitions (now (pre .entry)) (now (post .entry)) (now (caps .entry))) (now (set .entry)))) ⌝ }
+    ensures { λ r. ⌜ r ≡ handed (setNumbers (siphonOf (netOf places transitions (now (pre .entry)) (now (post .entry)) (now (caps .entry)) (now (marks .entry))) (now (set .entry)))) ⌝ }
 {
-    let answer = sets::siphon_set(places, transitions, pre, post, caps, set);
+    let answer = sets::siphon_set(places, transitions, pre, post, caps, marks, set);
     of_set(answer)
 }
 
@@ -233,10 +238,11 @@ pub extern "C" fn kaunorpi_trap_set(
     pre: &[Weight],
     post: &[Weight],
     caps: &[u16],
+    marks: &[u8],
     set: &[u8],
 ) -> Answer
-    ensures { λ r. ⌜ r ≡ handed (setNumbers (trapOf (netOf places transitions (now (pre .entry)) (now (post .entry)) (now (caps .entry))) (now (set .entry)))) ⌝ }
+    ensures { λ r. ⌜ r ≡ handed (setNumbers (trapOf (netOf places transitions (now (pre .entry)) (now (post .entry)) (now (caps .entry)) (now (marks .entry))) (now (set .entry)))) ⌝ }
 {
-    let answer = sets::trap_set(places, transitions, pre, post, caps, set);
+    let answer = sets::trap_set(places, transitions, pre, post, caps, marks, set);
     of_set(answer)
 }

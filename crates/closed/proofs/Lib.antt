@@ -3,3 +3,4 @@ pub mod Listed
 pub mod Meaning
 pub mod Exactly
 pub mod Promise
+pub mod Marks

@@ -25,17 +25,18 @@ fn enables_none(
     pre: &[Weight],
     post: &[Weight],
     caps: &[u16],
+    marks: &[u8],
     listed: &[u16],
     room: &mut [u32],
 ) -> bool
-    requires { ⌜ Sized (netOf places transitions (now pre) (now post) (now caps)) ⌝ }
+    requires { ⌜ Sized (netOf places transitions (now pre) (now post) (now caps) (now marks)) ⌝ }
     requires { ⌜ (length (now listed) ≡ places) × (length (now room) ≡ places) ⌝ }
-    ensures { λ r. ⌜ r ≡ enablesNone (netOf places transitions (now (pre .entry)) (now (post .entry)) (now (caps .entry))) (now (listed .entry)) ⌝ }
+    ensures { λ r. ⌜ r ≡ enablesNone (netOf places transitions (now (pre .entry)) (now (post .entry)) (now (caps .entry)) (now (marks .entry))) (now (listed .entry)) ⌝ }
 {
     net::load(listed, room);
     let mut t = 0;
     while t < transitions {
-        if net::may_fire_at(places, transitions, pre, post, caps, t, room) {
+        if net::may_fire_at(places, transitions, pre, post, caps, marks, t, room) {
             return false;
         }
         t += 1;
@@ -50,13 +51,14 @@ fn is_dead(
     pre: &[Weight],
     post: &[Weight],
     caps: &[u16],
+    marks: &[u8],
     list: &[u16],
     count: usize,
     k: usize,
 ) -> bool
-    requires { ⌜ Ready (netOf places transitions (now pre) (now post) (now caps)) count (now list) ⌝ }
+    requires { ⌜ Ready (netOf places transitions (now pre) (now post) (now caps) (now marks)) count (now list) ⌝ }
     requires { ⌜ k < count ⌝ }
-    ensures { λ r. ⌜ r ≡ dead (netOf places transitions (now (pre .entry)) (now (post .entry)) (now (caps .entry))) (now (list .entry)) k ⌝ }
+    ensures { λ r. ⌜ r ≡ dead (netOf places transitions (now (pre .entry)) (now (post .entry)) (now (caps .entry)) (now (marks .entry))) (now (list .entry)) k ⌝ }
 {
     let mut room = lists::no_tokens();
     let a = k * places;
@@ -67,6 +69,7 @@ fn is_dead(
         pre,
         post,
         caps,
+        marks,
         &list[a..e],
         &mut room[..places],
     )
@@ -79,15 +82,16 @@ fn some_dead(
     pre: &[Weight],
     post: &[Weight],
     caps: &[u16],
+    marks: &[u8],
     list: &[u16],
     count: usize,
 ) -> bool
-    requires { ⌜ Ready (netOf places transitions (now pre) (now post) (now caps)) count (now list) ⌝ }
-    ensures { λ r. ⌜ r ≡ someDead (netOf places transitions (now (pre .entry)) (now (post .entry)) (now (caps .entry))) count (now (list .entry)) ⌝ }
+    requires { ⌜ Ready (netOf places transitions (now pre) (now post) (now caps) (now marks)) count (now list) ⌝ }
+    ensures { λ r. ⌜ r ≡ someDead (netOf places transitions (now (pre .entry)) (now (post .entry)) (now (caps .entry)) (now (marks .entry))) count (now (list .entry)) ⌝ }
 {
     let mut k = 0;
     while k < count {
-        if is_dead(places, transitions, pre, post, caps, list, count, k) {
+        if is_dead(places, transitions, pre, post, caps, marks, list, count, k) {
             return true;
         }
         k += 1;
@@ -103,10 +107,11 @@ pub fn closed_list(
     pre: &[Weight],
     post: &[Weight],
     caps: &[u16],
+    marks: &[u8],
     initial: &[u16],
     list: &[u16],
 ) -> ListAnswer
-    ensures { λ r. ⌜ numbers r ≡ numbers (listOf Closed (netOf places transitions (now (pre .entry)) (now (post .entry)) (now (caps .entry))) (now (initial .entry)) (now (list .entry)) true Sound) ⌝ }
+    ensures { λ r. ⌜ numbers r ≡ numbers (listOf Closed (netOf places transitions (now (pre .entry)) (now (post .entry)) (now (caps .entry)) (now (marks .entry))) (now (initial .entry)) (now (list .entry)) true Sound) ⌝ }
 {
     list_check::check_list(
         Kind::Closed,
@@ -115,6 +120,7 @@ pub fn closed_list(
         pre,
         post,
         caps,
+        marks,
         initial,
         list,
         true,
@@ -129,11 +135,12 @@ pub fn closed_target(
     pre: &[Weight],
     post: &[Weight],
     caps: &[u16],
+    marks: &[u8],
     initial: &[u16],
     list: &[u16],
     target: &[u16],
 ) -> ClaimAnswer
-    ensures { λ r. ⌜ claimNumbers r ≡ claimNumbers (targetOf Closed (netOf places transitions (now (pre .entry)) (now (post .entry)) (now (caps .entry))) (now (initial .entry)) (now (list .entry)) (now (target .entry))) ⌝ }
+    ensures { λ r. ⌜ claimNumbers r ≡ claimNumbers (targetOf Closed (netOf places transitions (now (pre .entry)) (now (post .entry)) (now (caps .entry)) (now (marks .entry))) (now (initial .entry)) (now (list .entry)) (now (target .entry))) ⌝ }
 {
     list_check::check_target(
         Kind::Closed,
@@ -142,6 +149,7 @@ pub fn closed_target(
         pre,
         post,
         caps,
+        marks,
         initial,
         list,
         target,
@@ -155,10 +163,11 @@ pub fn closed_stall(
     pre: &[Weight],
     post: &[Weight],
     caps: &[u16],
+    marks: &[u8],
     initial: &[u16],
     list: &[u16],
 ) -> ClaimAnswer
-    ensures { λ r. ⌜ claimNumbers r ≡ claimNumbers (stallOf (netOf places transitions (now (pre .entry)) (now (post .entry)) (now (caps .entry))) (now (initial .entry)) (now (list .entry))) ⌝ }
+    ensures { λ r. ⌜ claimNumbers r ≡ claimNumbers (stallOf (netOf places transitions (now (pre .entry)) (now (post .entry)) (now (caps .entry)) (now (marks .entry))) (now (initial .entry)) (now (list .entry))) ⌝ }
 {
     let found = list_check::check_list(
         Kind::Closed,
@@ -167,6 +176,7 @@ pub fn closed_stall(
         pre,
         post,
         caps,
+        marks,
         initial,
         list,
         true,
@@ -177,7 +187,7 @@ pub fn closed_stall(
         ListAnswer::Failed(why) => ClaimAnswer::Failed(why),
         ListAnswer::Accepted => {
             let n = list.len() / places;
-            if some_dead(places, transitions, pre, post, caps, list, n) {
+            if some_dead(places, transitions, pre, post, caps, marks, list, n) {
                 ClaimAnswer::NotShown
             } else {
                 ClaimAnswer::Shown

@@ -21,10 +21,11 @@ pub fn cover_list(
     pre: &[Weight],
     post: &[Weight],
     caps: &[u16],
+    marks: &[u8],
     initial: &[u16],
     list: &[u16],
 ) -> ListAnswer
-    ensures { λ r. ⌜ numbers r ≡ numbers (listOf Cover (netOf places transitions (now (pre .entry)) (now (post .entry)) (now (caps .entry))) (now (initial .entry)) (now (list .entry)) true Sound) ⌝ }
+    ensures { λ r. ⌜ numbers r ≡ numbers (listOf Cover (netOf places transitions (now (pre .entry)) (now (post .entry)) (now (caps .entry)) (now (marks .entry))) (now (initial .entry)) (now (list .entry)) true Sound) ⌝ }
 {
     list_check::check_list(
         Kind::Cover,
@@ -33,6 +34,7 @@ pub fn cover_list(
         pre,
         post,
         caps,
+        marks,
         initial,
         list,
         true,
@@ -47,11 +49,12 @@ pub fn cover_target(
     pre: &[Weight],
     post: &[Weight],
     caps: &[u16],
+    marks: &[u8],
     initial: &[u16],
     list: &[u16],
     target: &[u16],
 ) -> ClaimAnswer
-    ensures { λ r. ⌜ claimNumbers r ≡ claimNumbers (targetOf Cover (netOf places transitions (now (pre .entry)) (now (post .entry)) (now (caps .entry))) (now (initial .entry)) (now (list .entry)) (now (target .entry))) ⌝ }
+    ensures { λ r. ⌜ claimNumbers r ≡ claimNumbers (targetOf Cover (netOf places transitions (now (pre .entry)) (now (post .entry)) (now (caps .entry)) (now (marks .entry))) (now (initial .entry)) (now (list .entry)) (now (target .entry))) ⌝ }
 {
     list_check::check_target(
         Kind::Cover,
@@ -60,6 +63,7 @@ pub fn cover_target(
         pre,
         post,
         caps,
+        marks,
         initial,
         list,
         target,

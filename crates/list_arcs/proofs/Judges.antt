@@ -12,7 +12,7 @@ use Rattle.ground.specs.Limits.{noCapacity}
 use Rattle.ground.specs.Lists.{tally}
 use Rattle.ground.proofs.Tests.{never, both-false, or-false}
 use Rattle.ground.proofs.Scan.{Below, none-of, tally-none}
-use Rattle.net.specs.Net.{Net, Sized}
+use Rattle.net.specs.Net.{Net, leavesFirst, Sized}
 use Rattle.net.specs.Letter.{shortAt, overAt, arcsAt, stops, passes}
 use Rattle.net.proofs.Rows.{row-at, pre-end}
 use Rattle.list_arcs.specs.Arc.{Skips, Within}
@@ -23,10 +23,10 @@ and-false true b e = e
 and-false false b e = refl
 
 -- a place without an arc, within its capacity, does not stop a transition
-bare-passes : (takes puts cap tokens : ℕ) → takes ≡ 0 → puts ≡ 0 → tokens ≤ cap → (shortAt takes tokens || overAt takes puts cap tokens) ≡ false
-bare-passes takes puts cap tokens e f h =
-    both-false (ltb tokens takes) (ltb cap noCapacity && ltb (cap + takes) (tokens + puts)) (le-ltb tokens takes (omega arith))
-    (and-false (ltb cap noCapacity) (ltb (cap + takes) (tokens + puts)) (le-ltb (cap + takes) (tokens + puts) (omega arith)))
+bare-passes : (takes puts cap mark tokens : ℕ) → takes ≡ 0 → puts ≡ 0 → tokens ≤ cap → (shortAt takes tokens || overAt takes puts cap mark tokens) ≡ false
+bare-passes takes puts cap mark tokens e f h =
+    both-false (ltb tokens takes) (ltb cap noCapacity && ltb (cap + leavesFirst mark takes) (tokens + puts)) (le-ltb tokens takes (omega arith))
+    (and-false (ltb cap noCapacity) (ltb (cap + leavesFirst mark takes) (tokens + puts)) (le-ltb (cap + leavesFirst mark takes) (tokens + puts) (omega arith)))
 
 -- nothing from i on, of n, passes the test: what a pass from the last place down knows at i
 pub record Above (f : ℕ → Bool) (i n : ℕ) : Type 0 where
@@ -56,7 +56,7 @@ none-counts f n p hi h = sym (eq-eqb (tally f n) 0 (tally-none f n (record { non
 
 module _ (net : Net) (skips m : List ℕ) (t : ℕ) (sized : Sized net) (sk : Skips (net .places) (net .pre) (net .post) skips) (long : length m ≡ net .places) (h : t < net .transitions) (w : Within (net .caps) m) where
   -- a place's test by the net's entries
-  place-stops : (p : ℕ) → p < net .places → (shortAt (getD (net .pre) (t * net .places + p) 0) (getD m p 0) || overAt (getD (net .pre) (t * net .places + p) 0) (getD (net .post) (t * net .places + p) 0) (getD (net .caps) p 0) (getD m p 0)) ≡ stops (arcsAt net t) m p
+  place-stops : (p : ℕ) → p < net .places → (shortAt (getD (net .pre) (t * net .places + p) 0) (getD m p 0) || overAt (getD (net .pre) (t * net .places + p) 0) (getD (net .post) (t * net .places + p) 0) (getD (net .caps) p 0) (getD (net .marks) p 0) (getD m p 0)) ≡ stops (arcsAt net t) m p
   place-stops p l = rw (row-at (net .places) t (net .pre) p l, row-at (net .places) t (net .post) p l)
 
   pub judge-start : (p : ℕ) → p ≡ net .places → Above (stops (arcsAt net t) m) p (length m)
@@ -70,11 +70,11 @@ module _ (net : Net) (skips m : List ℕ) (t : ℕ) (sized : Sized net) (sk : Sk
     judge-within = w .at q (omega (arith, next .less))
 
     -- r is the test's answer at q
-    module _ (r : Bool) (e : r ≡ (shortAt (getD (net .pre) (t * net .places + q) 0) (getD m q 0) || overAt (getD (net .pre) (t * net .places + q) 0) (getD (net .post) (t * net .places + q) 0) (getD (net .caps) q 0) (getD m q 0))) where
+    module _ (r : Bool) (e : r ≡ (shortAt (getD (net .pre) (t * net .places + q) 0) (getD m q 0) || overAt (getD (net .pre) (t * net .places + q) 0) (getD (net .post) (t * net .places + q) 0) (getD (net .caps) q 0) (getD (net .marks) q 0) (getD m q 0))) where
       pub judge-next : r ≡ false → Above (stops (arcsAt net t) m) p (length m) → Above (stops (arcsAt net t) m) q (length m)
       judge-next f a =
           above-next (stops (arcsAt net t) m) p q (length m) a
-          (λ j b d. sym (place-stops j (omega arith)) ∙ bare-passes _ _ (getD (net .caps) j 0) (getD m j 0) (next .bare j b d .0) (next .bare j b d .1) (w .at j (omega arith)))
+          (λ j b d. sym (place-stops j (omega arith)) ∙ bare-passes _ _ (getD (net .caps) j 0) (getD (net .marks) j 0) (getD m j 0) (next .bare j b d .0) (next .bare j b d .1) (w .at j (omega arith)))
           (sym (place-stops q (omega (arith, next .less))) ∙ sym e ∙ f)
 
       pub judge-seen : r ≡ true → false ≡ passes (arcsAt net t) m

@@ -84,15 +84,15 @@ fn next_place(skips: &[u8], a: usize, p: usize) -> usize
 
 // One place stops a transition at a marking within the capacities: it has fewer tokens than are taken,
 // or it has a capacity and would rise above it.
-fn is_stopped(takes: Weight, puts: Weight, cap: u16, tokens: u16) -> bool
+fn is_stopped(takes: Weight, puts: Weight, cap: u16, mark: u8, tokens: u16) -> bool
     requires { ⌜ tokens ≤ cap ⌝ }
-    ensures { λ r. ⌜ r ≡ (shortAt takes tokens || overAt takes puts cap tokens) ⌝ }
+    ensures { λ r. ⌜ r ≡ (shortAt takes tokens || overAt takes puts cap mark tokens) ⌝ }
 {
     if tokens < takes as u16 {
         return true;
     }
     if cap < NO_CAPACITY {
-        let rise = net::rise(takes, puts);
+        let rise = net::rise(mark, takes, puts);
         return (cap as u32) < tokens as u32 + rise as u32;
     }
     false
@@ -105,22 +105,23 @@ pub fn may_fire_listed(
     pre: &[Weight],
     post: &[Weight],
     caps: &[u16],
+    marks: &[u8],
     skips: &[u8],
     t: usize,
     listed: &[u16],
 ) -> bool
-    requires { ⌜ Sized (netOf places transitions (now pre) (now post) (now caps)) ⌝ }
+    requires { ⌜ Sized (netOf places transitions (now pre) (now post) (now caps) (now marks)) ⌝ }
     requires { ⌜ Skips places (now pre) (now post) (now skips) ⌝ }
     requires { ⌜ (length (now listed) ≡ places) × (t < transitions) ⌝ }
     requires { ⌜ Within (now caps) (now listed) ⌝ }
-    ensures { λ r. ⌜ r ≡ passes (arcsAt (netOf places transitions (now (pre .entry)) (now (post .entry)) (now (caps .entry))) t) (now (listed .entry)) ⌝ }
+    ensures { λ r. ⌜ r ≡ passes (arcsAt (netOf places transitions (now (pre .entry)) (now (post .entry)) (now (caps .entry)) (now (marks .entry))) t) (now (listed .entry)) ⌝ }
 {
     let a = t * places;
     let mut p = places;
     while 0 < p {
         p = next_place(skips, a, p);
         let e = a + p;
-        if is_stopped(pre[e], post[e], caps[p], listed[p]) {
+        if is_stopped(pre[e], post[e], caps[p], marks[p], listed[p]) {
             return false;
         }
     }
@@ -142,17 +143,18 @@ fn fire_arcs(
     pre: &[Weight],
     post: &[Weight],
     caps: &[u16],
+    marks: &[u8],
     skips: &[u8],
     t: usize,
     listed: &[u16],
     room: &mut [u32],
 )
-    requires { ⌜ Sized (netOf places transitions (now pre) (now post) (now caps)) ⌝ }
+    requires { ⌜ Sized (netOf places transitions (now pre) (now post) (now caps) (now marks)) ⌝ }
     requires { ⌜ Skips places (now pre) (now post) (now skips) ⌝ }
     requires { ⌜ (length (now listed) ≡ places) × (t < transitions) ⌝ }
-    requires { ⌜ passes (arcsAt (netOf places transitions (now pre) (now post) (now caps)) t) (now listed) ≡ true ⌝ }
+    requires { ⌜ passes (arcsAt (netOf places transitions (now pre) (now post) (now caps) (now marks)) t) (now listed) ≡ true ⌝ }
     requires { ⌜ now room ≡ now listed ⌝ }
-    ensures { λ r. ⌜ now (room .exit) ≡ firedAt (netOf places transitions (now (pre .entry)) (now (post .entry)) (now (caps .entry))) t (now (listed .entry)) ⌝ }
+    ensures { λ r. ⌜ now (room .exit) ≡ firedAt (netOf places transitions (now (pre .entry)) (now (post .entry)) (now (caps .entry)) (now (marks .entry))) t (now (listed .entry)) ⌝ }
 {
     let a = t * places;
     let mut p = places;
@@ -170,18 +172,30 @@ pub fn fire_listed(
     pre: &[Weight],
     post: &[Weight],
     caps: &[u16],
+    marks: &[u8],
     skips: &[u8],
     t: usize,
     listed: &[u16],
     room: &mut [u32],
 )
-    requires { ⌜ Sized (netOf places transitions (now pre) (now post) (now caps)) ⌝ }
+    requires { ⌜ Sized (netOf places transitions (now pre) (now post) (now caps) (now marks)) ⌝ }
     requires { ⌜ Skips places (now pre) (now post) (now skips) ⌝ }
     requires { ⌜ (length (now listed) ≡ places) × (t < transitions) ⌝ }
-    requires { ⌜ passes (arcsAt (netOf places transitions (now pre) (now post) (now caps)) t) (now listed) ≡ true ⌝ }
+    requires { ⌜ passes (arcsAt (netOf places transitions (now pre) (now post) (now caps) (now marks)) t) (now listed) ≡ true ⌝ }
     requires { ⌜ length (now room) ≡ places ⌝ }
-    ensures { λ r. ⌜ now (room .exit) ≡ firedAt (netOf places transitions (now (pre .entry)) (now (post .entry)) (now (caps .entry))) t (now (listed .entry)) ⌝ }
+    ensures { λ r. ⌜ now (room .exit) ≡ firedAt (netOf places transitions (now (pre .entry)) (now (post .entry)) (now (caps .entry)) (now (marks .entry))) t (now (listed .entry)) ⌝ }
 {
     net::load(listed, room);
-    fire_arcs(places, transitions, pre, post, caps, skips, t, listed, room);
+    fire_arcs(
+        places,
+        transitions,
+        pre,
+        post,
+        caps,
+        marks,
+        skips,
+        t,
+        listed,
+        room,
+    );
 }

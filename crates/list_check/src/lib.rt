@@ -24,18 +24,19 @@ fn look_through(
     pre: &[Weight],
     post: &[Weight],
     caps: &[u16],
+    marks: &[u8],
     initial: &[u16],
     list: &[u16],
 ) -> ListAnswer
-    requires { ⌜ Ready (netOf places transitions (now pre) (now post) (now caps)) (count places (now list)) (now list) ⌝ }
+    requires { ⌜ Ready (netOf places transitions (now pre) (now post) (now caps) (now marks)) (count places (now list)) (now list) ⌝ }
     requires { ⌜ length (now initial) ≡ places ⌝ }
     requires { ⌜ count places (now list) ≤ listLimit ⌝ }
-    requires { ⌜ Kept kind (netOf places transitions (now pre) (now post) (now caps)) (count places (now list)) (now list) ⌝ }
-    ensures { λ r. ⌜ r ≡ looked kind (netOf places transitions (now (pre .entry)) (now (post .entry)) (now (caps .entry))) (now (initial .entry)) (now (list .entry)) ⌝ }
+    requires { ⌜ Kept kind (netOf places transitions (now pre) (now post) (now caps) (now marks)) (count places (now list)) (now list) ⌝ }
+    ensures { λ r. ⌜ r ≡ looked kind (netOf places transitions (now (pre .entry)) (now (post .entry)) (now (caps .entry)) (now (marks .entry))) (now (initial .entry)) (now (list .entry)) ⌝ }
 {
     let n = list.len() / places;
     if lists::holds(kind, places, n, list, initial) {
-        return list_pairs::look_up(kind, places, transitions, pre, post, caps, list, n);
+        return list_pairs::look_up(kind, places, transitions, pre, post, caps, marks, list, n);
     }
     ListAnswer::Failed(Failure::InitialMissing)
 }
@@ -47,14 +48,15 @@ fn then_loose(
     pre: &[Weight],
     post: &[Weight],
     caps: &[u16],
+    marks: &[u8],
     next: Fault,
 ) -> Fault
-    requires { ⌜ Sized (netOf places transitions (now pre) (now post) (now caps)) ⌝ }
-    ensures { λ r. ⌜ r ≡ orElse next (looseFault (netOf places transitions (now (pre .entry)) (now (post .entry)) (now (caps .entry)))) ⌝ }
+    requires { ⌜ Sized (netOf places transitions (now pre) (now post) (now caps) (now marks)) ⌝ }
+    ensures { λ r. ⌜ r ≡ orElse next (looseFault (netOf places transitions (now (pre .entry)) (now (post .entry)) (now (caps .entry)) (now (marks .entry)))) ⌝ }
 {
     match next {
         Fault::Faulty(number, at) => Fault::Faulty(number, at),
-        Fault::Sound => refusals::loose_fault(places, transitions, pre, post, caps),
+        Fault::Sound => refusals::loose_fault(places, transitions, pre, post, caps, marks),
     }
 }
 
@@ -67,19 +69,20 @@ fn find_fault(
     pre: &[Weight],
     post: &[Weight],
     caps: &[u16],
+    marks: &[u8],
     initial: &[u16],
     list: &[u16],
     fits: bool,
     next: Fault,
 ) -> Fault
-    ensures { λ r. ⌜ r ≡ givenFault kind (netOf places transitions (now (pre .entry)) (now (post .entry)) (now (caps .entry))) (now (initial .entry)) (now (list .entry)) fits next ⌝ }
+    ensures { λ r. ⌜ r ≡ givenFault kind (netOf places transitions (now (pre .entry)) (now (post .entry)) (now (caps .entry)) (now (marks .entry))) (now (initial .entry)) (now (list .entry)) fits next ⌝ }
 {
     let agree = list_refusals::is_fitting(places, list, fits);
-    let found = refusals::start_fault(places, transitions, pre, post, caps, initial, agree);
+    let found = refusals::start_fault(places, transitions, pre, post, caps, marks, initial, agree);
     match found {
         Fault::Faulty(number, at) => Fault::Faulty(number, at),
         Fault::Sound => {
-            let later = then_loose(places, transitions, pre, post, caps, next);
+            let later = then_loose(places, transitions, pre, post, caps, marks, next);
             list_refusals::list_fault(kind, places, caps, list, later)
         }
     }
@@ -93,12 +96,13 @@ pub fn check_list(
     pre: &[Weight],
     post: &[Weight],
     caps: &[u16],
+    marks: &[u8],
     initial: &[u16],
     list: &[u16],
     fits: bool,
     next: Fault,
 ) -> ListAnswer
-    ensures { λ r. ⌜ r ≡ listOf kind (netOf places transitions (now (pre .entry)) (now (post .entry)) (now (caps .entry))) (now (initial .entry)) (now (list .entry)) fits next ⌝ }
+    ensures { λ r. ⌜ r ≡ listOf kind (netOf places transitions (now (pre .entry)) (now (post .entry)) (now (caps .entry)) (now (marks .entry))) (now (initial .entry)) (now (list .entry)) fits next ⌝ }
 {
     let found = find_fault(
         kind,
@@ -107,6 +111,7 @@ pub fn check_list(
         pre,
         post,
         caps,
+        marks,
         initial,
         list,
         fits,
@@ -114,7 +119,17 @@ pub fn check_list(
     );
     match found {
         Fault::Faulty(number, at) => ListAnswer::Refused(number, at),
-        Fault::Sound => look_through(kind, places, transitions, pre, post, caps, initial, list),
+        Fault::Sound => look_through(
+            kind,
+            places,
+            transitions,
+            pre,
+            post,
+            caps,
+            marks,
+            initial,
+            list,
+        ),
     }
 }
 
@@ -127,11 +142,12 @@ pub fn check_target(
     pre: &[Weight],
     post: &[Weight],
     caps: &[u16],
+    marks: &[u8],
     initial: &[u16],
     list: &[u16],
     target: &[u16],
 ) -> ClaimAnswer
-    ensures { λ r. ⌜ r ≡ targetOf kind (netOf places transitions (now (pre .entry)) (now (post .entry)) (now (caps .entry))) (now (initial .entry)) (now (list .entry)) (now (target .entry)) ⌝ }
+    ensures { λ r. ⌜ r ≡ targetOf kind (netOf places transitions (now (pre .entry)) (now (post .entry)) (now (caps .entry)) (now (marks .entry))) (now (initial .entry)) (now (list .entry)) (now (target .entry)) ⌝ }
 {
     let fits = target.len() == places;
     let next = list_refusals::target_fault(target);
@@ -142,6 +158,7 @@ pub fn check_target(
         pre,
         post,
         caps,
+        marks,
         initial,
         list,
         fits,

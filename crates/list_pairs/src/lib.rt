@@ -86,6 +86,7 @@ fn is_unlisted(
     pre: &[Weight],
     post: &[Weight],
     caps: &[u16],
+    marks: &[u8],
     list: &[u16],
     count: usize,
     heads: &[u16],
@@ -95,15 +96,36 @@ fn is_unlisted(
     listed: &[u16],
     room: &mut [u32],
 ) -> bool
-    requires { ⌜ Ready (netOf places transitions (now pre) (now post) (now caps)) count (now list) ⌝ }
+    requires { ⌜ Ready (netOf places transitions (now pre) (now post) (now caps) (now marks)) count (now list) ⌝ }
     requires { ⌜ (length (now listed) ≡ places) × (length (now room) ≡ places) ⌝ }
     requires { ⌜ t < transitions ⌝ }
     requires { ⌜ Indexed places count (now list) (now heads) (now links) ⌝ }
     requires { ⌜ Skips places (now pre) (now post) (now skips) × Within (now caps) (now listed) ⌝ }
-    ensures { λ r. ⌜ r ≡ unlisted (netOf places transitions (now (pre .entry)) (now (post .entry)) (now (caps .entry))) count (now (list .entry)) t (now (listed .entry)) ⌝ }
+    ensures { λ r. ⌜ r ≡ unlisted (netOf places transitions (now (pre .entry)) (now (post .entry)) (now (caps .entry)) (now (marks .entry))) count (now (list .entry)) t (now (listed .entry)) ⌝ }
 {
-    if list_arcs::may_fire_listed(places, transitions, pre, post, caps, skips, t, listed) {
-        list_arcs::fire_listed(places, transitions, pre, post, caps, skips, t, listed, room);
+    if list_arcs::may_fire_listed(
+        places,
+        transitions,
+        pre,
+        post,
+        caps,
+        marks,
+        skips,
+        t,
+        listed,
+    ) {
+        list_arcs::fire_listed(
+            places,
+            transitions,
+            pre,
+            post,
+            caps,
+            marks,
+            skips,
+            t,
+            listed,
+            room,
+        );
         return !list_index::find(places, count, list, heads, links, room);
     }
     false
@@ -141,6 +163,7 @@ fn is_absent(
     pre: &[Weight],
     post: &[Weight],
     caps: &[u16],
+    marks: &[u8],
     list: &[u16],
     count: usize,
     heads: &[u16],
@@ -150,12 +173,12 @@ fn is_absent(
     listed: &[u16],
     room: &mut [u32],
 ) -> bool
-    requires { ⌜ Ready (netOf places transitions (now pre) (now post) (now caps)) count (now list) ⌝ }
+    requires { ⌜ Ready (netOf places transitions (now pre) (now post) (now caps) (now marks)) count (now list) ⌝ }
     requires { ⌜ (length (now listed) ≡ places) × (length (now room) ≡ places) ⌝ }
     requires { ⌜ t < transitions ⌝ }
     requires { ⌜ Found kind places count (now list) (now heads) (now links) ⌝ }
     requires { ⌜ Skipped kind places (now pre) (now post) (now skips) × Fitting kind (now caps) (now listed) ⌝ }
-    ensures { λ r. ⌜ r ≡ absent kind (netOf places transitions (now (pre .entry)) (now (post .entry)) (now (caps .entry))) count (now (list .entry)) t (now (listed .entry)) ⌝ }
+    ensures { λ r. ⌜ r ≡ absent kind (netOf places transitions (now (pre .entry)) (now (post .entry)) (now (caps .entry)) (now (marks .entry))) count (now (list .entry)) t (now (listed .entry)) ⌝ }
 {
     match kind {
         Kind::Closed => is_unlisted(
@@ -164,6 +187,7 @@ fn is_absent(
             pre,
             post,
             caps,
+            marks,
             list,
             count,
             heads,
@@ -185,6 +209,7 @@ fn is_missing(
     pre: &[Weight],
     post: &[Weight],
     caps: &[u16],
+    marks: &[u8],
     list: &[u16],
     count: usize,
     heads: &[u16],
@@ -194,13 +219,13 @@ fn is_missing(
     t: usize,
     room: &mut [u32],
 ) -> bool
-    requires { ⌜ Ready (netOf places transitions (now pre) (now post) (now caps)) count (now list) ⌝ }
+    requires { ⌜ Ready (netOf places transitions (now pre) (now post) (now caps) (now marks)) count (now list) ⌝ }
     requires { ⌜ (k < count) × (t < transitions) ⌝ }
     requires { ⌜ Found kind places count (now list) (now heads) (now links) ⌝ }
     requires { ⌜ Skipped kind places (now pre) (now post) (now skips) ⌝ }
-    requires { ⌜ Kept kind (netOf places transitions (now pre) (now post) (now caps)) count (now list) ⌝ }
+    requires { ⌜ Kept kind (netOf places transitions (now pre) (now post) (now caps) (now marks)) count (now list) ⌝ }
     requires { ⌜ length (now room) ≡ places ⌝ }
-    ensures { λ r. ⌜ r ≡ missing kind (netOf places transitions (now (pre .entry)) (now (post .entry)) (now (caps .entry))) count (now (list .entry)) k t ⌝ }
+    ensures { λ r. ⌜ r ≡ missing kind (netOf places transitions (now (pre .entry)) (now (post .entry)) (now (caps .entry)) (now (marks .entry))) count (now (list .entry)) k t ⌝ }
 {
     let a = k * places;
     let e = a + places;
@@ -211,6 +236,7 @@ fn is_missing(
         pre,
         post,
         caps,
+        marks,
         list,
         count,
         heads,
@@ -230,6 +256,7 @@ fn first_missing(
     pre: &[Weight],
     post: &[Weight],
     caps: &[u16],
+    marks: &[u8],
     list: &[u16],
     count: usize,
     heads: &[u16],
@@ -237,12 +264,12 @@ fn first_missing(
     skips: &[u8],
     room: &mut [u32],
 ) -> ListAnswer
-    requires { ⌜ Ready (netOf places transitions (now pre) (now post) (now caps)) count (now list) ⌝ }
+    requires { ⌜ Ready (netOf places transitions (now pre) (now post) (now caps) (now marks)) count (now list) ⌝ }
     requires { ⌜ Found kind places count (now list) (now heads) (now links) ⌝ }
     requires { ⌜ Skipped kind places (now pre) (now post) (now skips) ⌝ }
-    requires { ⌜ Kept kind (netOf places transitions (now pre) (now post) (now caps)) count (now list) ⌝ }
+    requires { ⌜ Kept kind (netOf places transitions (now pre) (now post) (now caps) (now marks)) count (now list) ⌝ }
     requires { ⌜ length (now room) ≡ places ⌝ }
-    ensures { λ r. ⌜ r ≡ results kind (netOf places transitions (now (pre .entry)) (now (post .entry)) (now (caps .entry))) count (now (list .entry)) ⌝ }
+    ensures { λ r. ⌜ r ≡ results kind (netOf places transitions (now (pre .entry)) (now (post .entry)) (now (caps .entry)) (now (marks .entry))) count (now (list .entry)) ⌝ }
 {
     let mut k = 0;
     let mut t = 0;
@@ -256,6 +283,7 @@ fn first_missing(
                 pre,
                 post,
                 caps,
+                marks,
                 list,
                 count,
                 heads,
@@ -315,13 +343,14 @@ pub fn look_up(
     pre: &[Weight],
     post: &[Weight],
     caps: &[u16],
+    marks: &[u8],
     list: &[u16],
     count: usize,
 ) -> ListAnswer
-    requires { ⌜ Ready (netOf places transitions (now pre) (now post) (now caps)) count (now list) ⌝ }
+    requires { ⌜ Ready (netOf places transitions (now pre) (now post) (now caps) (now marks)) count (now list) ⌝ }
     requires { ⌜ count ≤ listLimit ⌝ }
-    requires { ⌜ Kept kind (netOf places transitions (now pre) (now post) (now caps)) count (now list) ⌝ }
-    ensures { λ r. ⌜ r ≡ results kind (netOf places transitions (now (pre .entry)) (now (post .entry)) (now (caps .entry))) count (now (list .entry)) ⌝ }
+    requires { ⌜ Kept kind (netOf places transitions (now pre) (now post) (now caps) (now marks)) count (now list) ⌝ }
+    ensures { λ r. ⌜ r ≡ results kind (netOf places transitions (now (pre .entry)) (now (post .entry)) (now (caps .entry)) (now (marks .entry))) count (now (list .entry)) ⌝ }
 {
     let mut heads = list_index::no_heads();
     let mut links = list_index::no_links();
@@ -345,6 +374,7 @@ pub fn look_up(
         pre,
         post,
         caps,
+        marks,
         list,
         count,
         &heads,

@@ -1,3 +1,4 @@
 pub mod Exactly
 pub mod Answers
 pub mod Meaning
+pub mod Marks

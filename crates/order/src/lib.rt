@@ -57,14 +57,15 @@ fn find_fault(
     pre: &[Weight],
     post: &[Weight],
     caps: &[u16],
+    marks: &[u8],
     initial: &[u16],
     first: &[u8],
     second: &[u8],
     fits: bool,
 ) -> Fault
-    ensures { λ r. ⌜ r ≡ orderFault (netOf places transitions (now (pre .entry)) (now (post .entry)) (now (caps .entry))) (now (initial .entry)) (now (first .entry)) (now (second .entry)) fits ⌝ }
+    ensures { λ r. ⌜ r ≡ orderFault (netOf places transitions (now (pre .entry)) (now (post .entry)) (now (caps .entry)) (now (marks .entry))) (now (initial .entry)) (now (first .entry)) (now (second .entry)) fits ⌝ }
 {
-    let found = refusals::marked_fault(places, transitions, pre, post, caps, initial, fits);
+    let found = refusals::marked_fault(places, transitions, pre, post, caps, marks, initial, fits);
     match found {
         Fault::Faulty(number, at) => Fault::Faulty(number, at),
         Fault::Sound => logs_fault(transitions, first, second),
@@ -80,13 +81,14 @@ pub fn order_logs(
     pre: &[Weight],
     post: &[Weight],
     caps: &[u16],
+    marks: &[u8],
     initial: &[u16],
     first: &[u8],
     second: &[u8],
     room: &mut [u8],
     work: &mut [u8],
 ) -> LogOrder
-    ensures { λ r. ⌜ Ordered (netOf places transitions (now (pre .entry)) (now (post .entry)) (now (caps .entry))) (now (initial .entry)) (now (first .entry)) (now (second .entry)) (now (room .entry)) (now (work .entry)) r (now (room .exit)) (now (work .exit)) ⌝ }
+    ensures { λ r. ⌜ Ordered (netOf places transitions (now (pre .entry)) (now (post .entry)) (now (caps .entry)) (now (marks .entry))) (now (initial .entry)) (now (first .entry)) (now (second .entry)) (now (room .entry)) (now (work .entry)) r (now (room .exit)) (now (work .exit)) ⌝ }
 {
     let fits = is_fitting(room.len(), work.len(), first.len(), second.len());
     let found = find_fault(
@@ -95,6 +97,7 @@ pub fn order_logs(
         pre,
         post,
         caps,
+        marks,
         initial,
         first,
         second,
@@ -109,6 +112,7 @@ pub fn order_logs(
                 pre,
                 post,
                 caps,
+                marks,
                 initial,
                 first,
                 second,

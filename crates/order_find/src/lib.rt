@@ -101,6 +101,7 @@ fn take(
     pre: &[Weight],
     post: &[Weight],
     caps: &[u16],
+    marks: &[u8],
     first: &[u8],
     second: &[u8],
     which: usize,
@@ -111,17 +112,17 @@ fn take(
     work: &mut [u8],
 ) -> bool
     requires { ⌜ which < 2 ⌝ }
-    requires { ⌜ Stands (logsOf (netOf places transitions (now pre) (now post) (now caps)) (now first) (now second)) n k (now marking) (now path) (now work) ⌝ }
-    ensures { λ r. ⌜ Ends (logsOf (netOf places transitions (now (pre .entry)) (now (post .entry)) (now (caps .entry))) (now (first .entry)) (now (second .entry))) n k (now (marking .entry)) (now (path .entry)) (wayBy (logsOf (netOf places transitions (now (pre .entry)) (now (post .entry)) (now (caps .entry))) (now (first .entry)) (now (second .entry))) which n k (now (marking .entry))) r (now (marking .exit)) (now (path .exit)) (now (work .exit)) ⌝ }
+    requires { ⌜ Stands (logsOf (netOf places transitions (now pre) (now post) (now caps) (now marks)) (now first) (now second)) n k (now marking) (now path) (now work) ⌝ }
+    ensures { λ r. ⌜ Ends (logsOf (netOf places transitions (now (pre .entry)) (now (post .entry)) (now (caps .entry)) (now (marks .entry))) (now (first .entry)) (now (second .entry))) n k (now (marking .entry)) (now (path .entry)) (wayBy (logsOf (netOf places transitions (now (pre .entry)) (now (post .entry)) (now (caps .entry)) (now (marks .entry))) (now (first .entry)) (now (second .entry))) which n k (now (marking .entry))) r (now (marking .exit)) (now (path .exit)) (now (work .exit)) ⌝ }
 {
     let t = letter_of(transitions, first, second, which, n, k);
     if transitions <= t {
         return false;
     }
-    if !net::may_fire_at(places, transitions, pre, post, caps, t, marking) {
+    if !net::may_fire_at(places, transitions, pre, post, caps, marks, t, marking) {
         return false;
     }
-    net::fire_at(places, transitions, pre, post, caps, t, marking);
+    net::fire_at(places, transitions, pre, post, caps, marks, t, marking);
     path[n + k] = which as u8;
     if look(
         places,
@@ -129,6 +130,7 @@ fn take(
         pre,
         post,
         caps,
+        marks,
         first,
         second,
         n + (1 - which),
@@ -150,6 +152,7 @@ fn look(
     pre: &[Weight],
     post: &[Weight],
     caps: &[u16],
+    marks: &[u8],
     first: &[u8],
     second: &[u8],
     n: usize,
@@ -158,8 +161,8 @@ fn look(
     path: &mut [u8],
     work: &mut [u8],
 ) -> bool
-    requires { ⌜ Stands (logsOf (netOf places transitions (now pre) (now post) (now caps)) (now first) (now second)) n k (now marking) (now path) (now work) ⌝ }
-    ensures { λ r. ⌜ Ends (logsOf (netOf places transitions (now (pre .entry)) (now (post .entry)) (now (caps .entry))) (now (first .entry)) (now (second .entry))) n k (now (marking .entry)) (now (path .entry)) (wayFrom (logsOf (netOf places transitions (now (pre .entry)) (now (post .entry)) (now (caps .entry))) (now (first .entry)) (now (second .entry))) n k (now (marking .entry))) r (now (marking .exit)) (now (path .exit)) (now (work .exit)) ⌝ }
+    requires { ⌜ Stands (logsOf (netOf places transitions (now pre) (now post) (now caps) (now marks)) (now first) (now second)) n k (now marking) (now path) (now work) ⌝ }
+    ensures { λ r. ⌜ Ends (logsOf (netOf places transitions (now (pre .entry)) (now (post .entry)) (now (caps .entry)) (now (marks .entry))) (now (first .entry)) (now (second .entry))) n k (now (marking .entry)) (now (path .entry)) (wayFrom (logsOf (netOf places transitions (now (pre .entry)) (now (post .entry)) (now (caps .entry)) (now (marks .entry))) (now (first .entry)) (now (second .entry))) n k (now (marking .entry))) r (now (marking .exit)) (now (path .exit)) (now (work .exit)) ⌝ }
 {
     if n + k == first.len() + second.len() {
         return true;
@@ -174,6 +177,7 @@ fn look(
         pre,
         post,
         caps,
+        marks,
         first,
         second,
         FIRST_LOG,
@@ -191,6 +195,7 @@ fn look(
         pre,
         post,
         caps,
+        marks,
         first,
         second,
         SECOND_LOG,
@@ -224,6 +229,7 @@ fn start(
     pre: &[Weight],
     post: &[Weight],
     caps: &[u16],
+    marks: &[u8],
     initial: &[u16],
     first: &[u8],
     second: &[u8],
@@ -232,8 +238,8 @@ fn start(
     work: &mut [u8],
 ) -> bool
     requires { ⌜ length (now marking) ≡ places ⌝ }
-    requires { ⌜ Stands (logsOf (netOf places transitions (now pre) (now post) (now caps)) (now first) (now second)) 0 0 (now initial) (now path) (now work) ⌝ }
-    ensures { λ r. ⌜ Ends (logsOf (netOf places transitions (now (pre .entry)) (now (post .entry)) (now (caps .entry))) (now (first .entry)) (now (second .entry))) 0 0 (now (initial .entry)) (now (path .entry)) (wayFrom (logsOf (netOf places transitions (now (pre .entry)) (now (post .entry)) (now (caps .entry))) (now (first .entry)) (now (second .entry))) 0 0 (now (initial .entry))) r (now (marking .exit)) (now (path .exit)) (now (work .exit)) ⌝ }
+    requires { ⌜ Stands (logsOf (netOf places transitions (now pre) (now post) (now caps) (now marks)) (now first) (now second)) 0 0 (now initial) (now path) (now work) ⌝ }
+    ensures { λ r. ⌜ Ends (logsOf (netOf places transitions (now (pre .entry)) (now (post .entry)) (now (caps .entry)) (now (marks .entry))) (now (first .entry)) (now (second .entry))) 0 0 (now (initial .entry)) (now (path .entry)) (wayFrom (logsOf (netOf places transitions (now (pre .entry)) (now (post .entry)) (now (caps .entry)) (now (marks .entry))) (now (first .entry)) (now (second .entry))) 0 0 (now (initial .entry))) r (now (marking .exit)) (now (path .exit)) (now (work .exit)) ⌝ }
 {
     net::load(initial, marking);
     look(
@@ -242,6 +248,7 @@ fn start(
         pre,
         post,
         caps,
+        marks,
         first,
         second,
         0,
@@ -272,14 +279,15 @@ pub fn find_order(
     pre: &[Weight],
     post: &[Weight],
     caps: &[u16],
+    marks: &[u8],
     initial: &[u16],
     first: &[u8],
     second: &[u8],
     room: &mut [u8],
     work: &mut [u8],
 ) -> bool
-    requires { ⌜ Begins (logsOf (netOf places transitions (now pre) (now post) (now caps)) (now first) (now second)) (now initial) (now room) (now work) ⌝ }
-    ensures { λ r. ⌜ Sought (logsOf (netOf places transitions (now (pre .entry)) (now (post .entry)) (now (caps .entry))) (now (first .entry)) (now (second .entry))) (now (initial .entry)) (now (room .entry)) r (now (room .exit)) (now (work .exit)) ⌝ }
+    requires { ⌜ Begins (logsOf (netOf places transitions (now pre) (now post) (now caps) (now marks)) (now first) (now second)) (now initial) (now room) (now work) ⌝ }
+    ensures { λ r. ⌜ Sought (logsOf (netOf places transitions (now (pre .entry)) (now (post .entry)) (now (caps .entry)) (now (marks .entry))) (now (first .entry)) (now (second .entry))) (now (initial .entry)) (now (room .entry)) r (now (room .exit)) (now (work .exit)) ⌝ }
 {
     clear(work);
     let mut marking = [0u32; COUNT_LIMIT];
@@ -290,6 +298,7 @@ pub fn find_order(
         pre,
         post,
         caps,
+        marks,
         initial,
         first,
         second,

@@ -2,3 +2,4 @@ pub mod Words
 pub mod Answers
 pub mod Ending
 pub mod Meaning
+pub mod Marks

@@ -31,20 +31,30 @@ fn play_word(
     pre: &[Weight],
     post: &[Weight],
     caps: &[u16],
+    marks: &[u8],
     word: &[u8],
     marking: &mut [u32],
 ) -> Replay
-    requires { ⌜ Sized (netOf places transitions (now pre) (now post) (now caps)) ⌝ }
-    requires { ⌜ Light (netOf places transitions (now pre) (now post) (now caps)) ⌝ }
+    requires { ⌜ Sized (netOf places transitions (now pre) (now post) (now caps) (now marks)) ⌝ }
+    requires { ⌜ Light (netOf places transitions (now pre) (now post) (now caps) (now marks)) ⌝ }
     requires { ⌜ length (now marking) ≡ places ⌝ }
     requires { ⌜ Small tokenLimit (now marking) ⌝ }
     requires { ⌜ Letters transitions (now word) ⌝ }
     requires { ⌜ length (now word) ≤ wordLimit ⌝ }
-    ensures { λ r. ⌜ Ended (netOf places transitions (now (pre .entry)) (now (post .entry)) (now (caps .entry))) (now (marking .entry)) (now (word .entry)) r (now (marking .exit)) ⌝ }
+    ensures { λ r. ⌜ Ended (netOf places transitions (now (pre .entry)) (now (post .entry)) (now (caps .entry)) (now (marks .entry))) (now (marking .entry)) (now (word .entry)) r (now (marking .exit)) ⌝ }
 {
     let mut i = 0;
     while i < word.len() {
-        let played = net::play_letter(places, transitions, pre, post, caps, word[i], marking);
+        let played = net::play_letter(
+            places,
+            transitions,
+            pre,
+            post,
+            caps,
+            marks,
+            word[i],
+            marking,
+        );
         match played {
             Letter::Passes => {
                 i += 1;
@@ -64,13 +74,14 @@ fn find_fault(
     pre: &[Weight],
     post: &[Weight],
     caps: &[u16],
+    marks: &[u8],
     initial: &[u16],
     word: &[u8],
     fits: bool,
 ) -> Fault
-    ensures { λ r. ⌜ r ≡ replayFault (netOf places transitions (now (pre .entry)) (now (post .entry)) (now (caps .entry))) (now (initial .entry)) (now (word .entry)) fits ⌝ }
+    ensures { λ r. ⌜ r ≡ replayFault (netOf places transitions (now (pre .entry)) (now (post .entry)) (now (caps .entry)) (now (marks .entry))) (now (initial .entry)) (now (word .entry)) fits ⌝ }
 {
-    let found = refusals::marked_fault(places, transitions, pre, post, caps, initial, fits);
+    let found = refusals::marked_fault(places, transitions, pre, post, caps, marks, initial, fits);
     match found {
         Fault::Faulty(number, at) => Fault::Faulty(number, at),
         Fault::Sound => refusals::word_fault(transitions, word),
@@ -91,20 +102,31 @@ fn replay_part(
     pre: &[Weight],
     post: &[Weight],
     caps: &[u16],
+    marks: &[u8],
     initial: &[u16],
     part: &[u8],
     within: bool,
     room: &mut [u32],
 ) -> Replay
-    ensures { λ r. ⌜ Replayed (netOf places transitions (now (pre .entry)) (now (post .entry)) (now (caps .entry))) (now (initial .entry)) (now (part .entry)) within (now (room .entry)) r (now (room .exit)) ⌝ }
+    ensures { λ r. ⌜ Replayed (netOf places transitions (now (pre .entry)) (now (post .entry)) (now (caps .entry)) (now (marks .entry))) (now (initial .entry)) (now (part .entry)) within (now (room .entry)) r (now (room .exit)) ⌝ }
 {
     let fits = is_fitting(room.len(), places, within);
-    let found = find_fault(places, transitions, pre, post, caps, initial, part, fits);
+    let found = find_fault(
+        places,
+        transitions,
+        pre,
+        post,
+        caps,
+        marks,
+        initial,
+        part,
+        fits,
+    );
     match found {
         Fault::Faulty(number, at) => Replay::Refused(number, at),
         Fault::Sound => {
             net::load(initial, room);
-            play_word(places, transitions, pre, post, caps, part, room)
+            play_word(places, transitions, pre, post, caps, marks, part, room)
         }
     }
 }
@@ -117,11 +139,12 @@ pub fn replay_word(
     pre: &[Weight],
     post: &[Weight],
     caps: &[u16],
+    marks: &[u8],
     initial: &[u16],
     word: &[u8],
     room: &mut [u32],
 ) -> Replay
-    ensures { λ r. ⌜ Replayed (netOf places transitions (now (pre .entry)) (now (post .entry)) (now (caps .entry))) (now (initial .entry)) (now (word .entry)) true (now (room .entry)) r (now (room .exit)) ⌝ }
+    ensures { λ r. ⌜ Replayed (netOf places transitions (now (pre .entry)) (now (post .entry)) (now (caps .entry)) (now (marks .entry))) (now (initial .entry)) (now (word .entry)) true (now (room .entry)) r (now (room .exit)) ⌝ }
 {
     replay_part(
         places,
@@ -129,6 +152,7 @@ pub fn replay_word(
         pre,
         post,
         caps,
+        marks,
         initial,
         word,
         true,
@@ -144,13 +168,14 @@ pub fn replay_stretch(
     pre: &[Weight],
     post: &[Weight],
     caps: &[u16],
+    marks: &[u8],
     initial: &[u16],
     word: &[u8],
     start: usize,
     end: usize,
     room: &mut [u32],
 ) -> Replay
-    ensures { λ r. ⌜ Replayed (netOf places transitions (now (pre .entry)) (now (post .entry)) (now (caps .entry))) (now (initial .entry)) (stretch (now (word .entry)) start end) (inside (now (word .entry)) start end) (now (room .entry)) r (now (room .exit)) ⌝ }
+    ensures { λ r. ⌜ Replayed (netOf places transitions (now (pre .entry)) (now (post .entry)) (now (caps .entry)) (now (marks .entry))) (now (initial .entry)) (stretch (now (word .entry)) start end) (inside (now (word .entry)) start end) (now (room .entry)) r (now (room .exit)) ⌝ }
 {
     if end < start {
         return replay_part(
@@ -159,6 +184,7 @@ pub fn replay_stretch(
             pre,
             post,
             caps,
+            marks,
             initial,
             word,
             false,
@@ -172,6 +198,7 @@ pub fn replay_stretch(
             pre,
             post,
             caps,
+            marks,
             initial,
             word,
             false,
@@ -184,6 +211,7 @@ pub fn replay_stretch(
         pre,
         post,
         caps,
+        marks,
         initial,
         &word[start..end],
         true,

@@ -6,7 +6,7 @@ use mathlib.Core.List.{List, [], _∷_, map}
 use native.Mathlib.Omega.{arith}
 use lib.IntN.{pos}
 use Rattle.ground.specs.Lists.{first, tally, most, mapAt, table}
-use Rattle.net.specs.Net.{tokens}
+use Rattle.net.specs.Net.{leavesFirst, inForce, tokens}
 use Rattle.net.specs.Firing.{Fires, Reachable, Names}
 use Rattle.net.specs.declared.Cause.the-variants.{Over}
 use Rattle.wiring.specs.Wired.{loosePlace, looseTransition}
@@ -41,13 +41,13 @@ use Rattle.samples.specs.Samples.{net, initial, coverSample, answerOf, s
 
 -- each question has the answer that 01 gives, whatever numbers a, b, c the room of a replay held before
 pub twelve : (a b c : ℕ) → map (λ s. answerOf (a ∷ b ∷ c ∷ []) (s .question)) samples ≡ map (λ s. s .answer) samples
-unfolding first tally most mapAt table countsFault looseFault loosePlace looseTransition netFault markingFault startFault markedFault wordFault playFrom replayFault change need climb slotOf joined slotBad partFault shapeFault laterFault joinFault sum foundBound touches escapes setFault some none targetFault firstBad entryFault sizeFault listFault claimOf matches resultsOf lookedOf absent givenFault listOf
+unfolding first tally most mapAt leavesFirst inForce table countsFault looseFault loosePlace looseTransition netFault markingFault startFault markedFault wordFault playFrom replayFault change need climb slotOf joined slotBad partFault shapeFault laterFault joinFault sum foundBound touches escapes setFault some none targetFault firstBad entryFault sizeFault listFault claimOf matches resultsOf lookedOf absent givenFault listOf
 twelve a b c = refl
 
 -- ---- what some of them mean in the published definitions, by the theorems of their crates
 -- sample 1: the word fires letter by letter, to that marking
 replayed-1 : Replayed net initial (0 ∷ 1 ∷ 0 ∷ 1 ∷ []) true (0 ∷ 0 ∷ 0 ∷ []) (Fired 4) (1 ∷ 0 ∷ 4 ∷ [])
-unfolding first tally mapAt countsFault looseFault loosePlace looseTransition netFault markingFault startFault markedFault wordFault playFrom replayFault
+unfolding first tally mapAt leavesFirst countsFault looseFault loosePlace looseTransition netFault markingFault startFault markedFault wordFault playFrom replayFault
 replayed-1 = record { answer = refl; left = refl }
 
 pub sample-fires : Fires net initial (0 ∷ 1 ∷ 0 ∷ 1 ∷ []) (1 ∷ 0 ∷ 4 ∷ [])
@@ -57,7 +57,7 @@ sample-fires =
 
 -- sample 2: letter 5 is transition 1; at the marking left no place is short for it, and place 2 is the lowest over
 replayed-2 : Replayed net initial (0 ∷ 1 ∷ 0 ∷ 1 ∷ 0 ∷ 1 ∷ []) true (0 ∷ 0 ∷ 0 ∷ []) (Blocked 5 (Over 2)) (0 ∷ 1 ∷ 4 ∷ [])
-unfolding first tally mapAt countsFault looseFault loosePlace looseTransition netFault markingFault startFault markedFault wordFault playFrom replayFault
+unfolding first tally mapAt leavesFirst countsFault looseFault loosePlace looseTransition netFault markingFault startFault markedFault wordFault playFrom replayFault
 replayed-2 = record { answer = refl; left = refl }
 
 pub sample-blocked : Names net (0 ∷ 1 ∷ 4 ∷ []) 1 (Over 2)

@@ -39,7 +39,7 @@ use Rattle.lists.specs.declared.ClaimAnswer.the-variants.{Shown}
 use Rattle.list_check.specs.Given.{listOf, targetOf}
 
 -- the case's net, by its frames: 3 places and 3 transitions (01); capacities none, none, 5 (02); for each transition what it takes and
--- puts (04): 0 takes (1,0,0) and puts (0,1,0), 1 takes (0,1,0) and puts (1,0,2), 2 takes (0,0,3) and puts nothing
+-- puts (04): 0 takes (1,0,0) and puts (0,1,0), 1 takes (0,1,0) and puts (1,0,2), 2 takes (0,0,3) and puts nothing. It has no pockets: all marks are 0
 abbrev pub pres : List ℕ
 pres = 1 ∷ 0 ∷ 0 ∷ 0 ∷ 1 ∷ 0 ∷ 0 ∷ 0 ∷ 3 ∷ []
 
@@ -47,7 +47,7 @@ abbrev pub posts : List ℕ
 posts = 0 ∷ 1 ∷ 0 ∷ 1 ∷ 0 ∷ 2 ∷ 0 ∷ 0 ∷ 0 ∷ []
 
 abbrev pub net : Net
-net = netOf 3 3 pres posts (noCapacity ∷ noCapacity ∷ 5 ∷ [])
+net = netOf 3 3 pres posts (noCapacity ∷ noCapacity ∷ 5 ∷ []) (0 ∷ 0 ∷ 0 ∷ [])
 
 -- its initial marking (03)
 abbrev pub initial : List ℕ

@@ -114,4 +114,5 @@ turned-sized net z =
       pres = z .posts;
       posts = z .pres;
       capped = z .capped;
+      noted = z .noted;
     }

@@ -31,7 +31,7 @@ lowestEscape net s = first (escapes net s) (net .transitions)
 
 -- the net with all arcs turned round: its siphons are the net's traps
 abbrev pub turned : Net → Net
-turned net = netOf (net .places) (net .transitions) (net .post) (net .pre) (net .caps)
+turned net = netOf (net .places) (net .transitions) (net .post) (net .pre) (net .caps) (net .marks)
 
 -- 8: "a set without places"
 abbrev pub noPlaces : List ℕ → Bool

@@ -47,13 +47,14 @@ fn is_escape(
     pre: &[Weight],
     post: &[Weight],
     caps: &[u16],
+    marks: &[u8],
     set: &[u8],
     t: usize,
 ) -> bool
-    requires { ⌜ Sized (netOf places transitions (now pre) (now post) (now caps)) ⌝ }
+    requires { ⌜ Sized (netOf places transitions (now pre) (now post) (now caps) (now marks)) ⌝ }
     requires { ⌜ length (now set) ≡ places ⌝ }
     requires { ⌜ t < transitions ⌝ }
-    ensures { λ r. ⌜ r ≡ escapes (netOf places transitions (now (pre .entry)) (now (post .entry)) (now (caps .entry))) (now (set .entry)) t ⌝ }
+    ensures { λ r. ⌜ r ≡ escapes (netOf places transitions (now (pre .entry)) (now (post .entry)) (now (caps .entry)) (now (marks .entry))) (now (set .entry)) t ⌝ }
 {
     let start = t * places;
     if is_touching(post, start, set) {
@@ -69,15 +70,16 @@ fn lowest_escape(
     pre: &[Weight],
     post: &[Weight],
     caps: &[u16],
+    marks: &[u8],
     set: &[u8],
 ) -> usize
-    requires { ⌜ Sized (netOf places transitions (now pre) (now post) (now caps)) ⌝ }
+    requires { ⌜ Sized (netOf places transitions (now pre) (now post) (now caps) (now marks)) ⌝ }
     requires { ⌜ length (now set) ≡ places ⌝ }
-    ensures { λ r. ⌜ r ≡ lowestEscape (netOf places transitions (now (pre .entry)) (now (post .entry)) (now (caps .entry))) (now (set .entry)) ⌝ }
+    ensures { λ r. ⌜ r ≡ lowestEscape (netOf places transitions (now (pre .entry)) (now (post .entry)) (now (caps .entry)) (now (marks .entry))) (now (set .entry)) ⌝ }
 {
     let mut t = 0;
     while t < transitions {
-        if is_escape(places, transitions, pre, post, caps, set, t) {
+        if is_escape(places, transitions, pre, post, caps, marks, set, t) {
             return t;
         }
         t += 1;
@@ -92,12 +94,13 @@ fn set_fault(
     pre: &[Weight],
     post: &[Weight],
     caps: &[u16],
+    marks: &[u8],
     set: &[u8],
 ) -> Fault
-    ensures { λ r. ⌜ r ≡ setFault (netOf places transitions (now (pre .entry)) (now (post .entry)) (now (caps .entry))) (now (set .entry)) ⌝ }
+    ensures { λ r. ⌜ r ≡ setFault (netOf places transitions (now (pre .entry)) (now (post .entry)) (now (caps .entry)) (now (marks .entry))) (now (set .entry)) ⌝ }
 {
     let fits = set.len() == places;
-    let found = refusals::net_fault(places, transitions, pre, post, caps, fits);
+    let found = refusals::net_fault(places, transitions, pre, post, caps, marks, fits);
     match found {
         Fault::Faulty(number, at) => Fault::Faulty(number, at),
         Fault::Sound => {
@@ -117,13 +120,14 @@ fn judge_set(
     pre: &[Weight],
     post: &[Weight],
     caps: &[u16],
+    marks: &[u8],
     set: &[u8],
 ) -> SetAnswer
-    requires { ⌜ Sized (netOf places transitions (now pre) (now post) (now caps)) ⌝ }
+    requires { ⌜ Sized (netOf places transitions (now pre) (now post) (now caps) (now marks)) ⌝ }
     requires { ⌜ length (now set) ≡ places ⌝ }
-    ensures { λ r. ⌜ r ≡ judgedSet (netOf places transitions (now (pre .entry)) (now (post .entry)) (now (caps .entry))) (now (set .entry)) ⌝ }
+    ensures { λ r. ⌜ r ≡ judgedSet (netOf places transitions (now (pre .entry)) (now (post .entry)) (now (caps .entry)) (now (marks .entry))) (now (set .entry)) ⌝ }
 {
-    let t = lowest_escape(places, transitions, pre, post, caps, set);
+    let t = lowest_escape(places, transitions, pre, post, caps, marks, set);
     if t < transitions {
         SetAnswer::No(t)
     } else {
@@ -138,14 +142,15 @@ pub fn siphon_set(
     pre: &[Weight],
     post: &[Weight],
     caps: &[u16],
+    marks: &[u8],
     set: &[u8],
 ) -> SetAnswer
-    ensures { λ r. ⌜ setNumbers r ≡ setNumbers (siphonOf (netOf places transitions (now (pre .entry)) (now (post .entry)) (now (caps .entry))) (now (set .entry))) ⌝ }
+    ensures { λ r. ⌜ setNumbers r ≡ setNumbers (siphonOf (netOf places transitions (now (pre .entry)) (now (post .entry)) (now (caps .entry)) (now (marks .entry))) (now (set .entry))) ⌝ }
 {
-    let found = set_fault(places, transitions, pre, post, caps, set);
+    let found = set_fault(places, transitions, pre, post, caps, marks, set);
     match found {
         Fault::Faulty(number, at) => SetAnswer::Refused(number, at),
-        Fault::Sound => judge_set(places, transitions, pre, post, caps, set),
+        Fault::Sound => judge_set(places, transitions, pre, post, caps, marks, set),
     }
 }
 
@@ -157,13 +162,14 @@ pub fn trap_set(
     pre: &[Weight],
     post: &[Weight],
     caps: &[u16],
+    marks: &[u8],
     set: &[u8],
 ) -> SetAnswer
-    ensures { λ r. ⌜ setNumbers r ≡ setNumbers (trapOf (netOf places transitions (now (pre .entry)) (now (post .entry)) (now (caps .entry))) (now (set .entry))) ⌝ }
+    ensures { λ r. ⌜ setNumbers r ≡ setNumbers (trapOf (netOf places transitions (now (pre .entry)) (now (post .entry)) (now (caps .entry)) (now (marks .entry))) (now (set .entry))) ⌝ }
 {
-    let found = set_fault(places, transitions, pre, post, caps, set);
+    let found = set_fault(places, transitions, pre, post, caps, marks, set);
     match found {
         Fault::Faulty(number, at) => SetAnswer::Refused(number, at),
-        Fault::Sound => judge_set(places, transitions, post, pre, caps, set),
+        Fault::Sound => judge_set(places, transitions, post, pre, caps, marks, set),
     }
 }

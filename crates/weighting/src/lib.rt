@@ -32,13 +32,14 @@ fn weighting_fault(
     pre: &[Weight],
     post: &[Weight],
     caps: &[u16],
+    marks: &[u8],
     entries: usize,
     y: &[i16],
 ) -> Fault
-    ensures { λ r. ⌜ r ≡ weightingFault (netOf places transitions (now (pre .entry)) (now (post .entry)) (now (caps .entry))) entries (now (y .entry)) ⌝ }
+    ensures { λ r. ⌜ r ≡ weightingFault (netOf places transitions (now (pre .entry)) (now (post .entry)) (now (caps .entry)) (now (marks .entry))) entries (now (y .entry)) ⌝ }
 {
     let fits = y.len() == entries;
-    let found = refusals::net_fault(places, transitions, pre, post, caps, fits);
+    let found = refusals::net_fault(places, transitions, pre, post, caps, marks, fits);
     match found {
         Fault::Faulty(number, at) => Fault::Faulty(number, at),
         Fault::Sound => weighting_sums::zero_fault(y),
@@ -53,15 +54,24 @@ pub fn place_weighting(
     pre: &[Weight],
     post: &[Weight],
     caps: &[u16],
+    marks: &[u8],
     y: &[i16],
 ) -> PlaceWeighting
-    ensures { λ r. ⌜ placeNumbers r ≡ placeNumbers (placeOf (netOf places transitions (now (pre .entry)) (now (post .entry)) (now (caps .entry))) (now (y .entry))) ⌝ }
+    ensures { λ r. ⌜ placeNumbers r ≡ placeNumbers (placeOf (netOf places transitions (now (pre .entry)) (now (post .entry)) (now (caps .entry)) (now (marks .entry))) (now (y .entry))) ⌝ }
 {
-    let found = weighting_fault(places, transitions, pre, post, caps, places, y);
+    let found = weighting_fault(places, transitions, pre, post, caps, marks, places, y);
     match found {
         Fault::Faulty(number, at) => PlaceWeighting::Refused(number, at),
         Fault::Sound => {
-            let t = weighting_sums::lowest_transition(places, transitions, pre, post, caps, y);
+            let t = weighting_sums::lowest_transition(
+                places,
+                transitions,
+                pre,
+                post,
+                caps,
+                marks,
+                y,
+            );
             if t < transitions {
                 PlaceWeighting::NotInvariant(t)
             } else {
@@ -79,15 +89,16 @@ pub fn transition_weighting(
     pre: &[Weight],
     post: &[Weight],
     caps: &[u16],
+    marks: &[u8],
     x: &[i16],
 ) -> TransitionWeighting
-    ensures { λ r. ⌜ transitionNumbers r ≡ transitionNumbers (transitionOf (netOf places transitions (now (pre .entry)) (now (post .entry)) (now (caps .entry))) (now (x .entry))) ⌝ }
+    ensures { λ r. ⌜ transitionNumbers r ≡ transitionNumbers (transitionOf (netOf places transitions (now (pre .entry)) (now (post .entry)) (now (caps .entry)) (now (marks .entry))) (now (x .entry))) ⌝ }
 {
-    let found = weighting_fault(places, transitions, pre, post, caps, transitions, x);
+    let found = weighting_fault(places, transitions, pre, post, caps, marks, transitions, x);
     match found {
         Fault::Faulty(number, at) => TransitionWeighting::Refused(number, at),
         Fault::Sound => {
-            let p = weighting_sums::lowest_place(places, transitions, pre, post, caps, x);
+            let p = weighting_sums::lowest_place(places, transitions, pre, post, caps, marks, x);
             if p < places {
                 return TransitionWeighting::NotInvariant(p);
             }

@@ -29,14 +29,15 @@ fn bound_fault(
     pre: &[Weight],
     post: &[Weight],
     caps: &[u16],
+    marks: &[u8],
     initial: &[u16],
     y: &[i16],
     place: usize,
 ) -> Fault
-    ensures { λ r. ⌜ r ≡ boundFault (netOf places transitions (now (pre .entry)) (now (post .entry)) (now (caps .entry))) (now (initial .entry)) (now (y .entry)) place ⌝ }
+    ensures { λ r. ⌜ r ≡ boundFault (netOf places transitions (now (pre .entry)) (now (post .entry)) (now (caps .entry)) (now (marks .entry))) (now (initial .entry)) (now (y .entry)) place ⌝ }
 {
     let fits = y.len() == places;
-    let found = refusals::marked_fault(places, transitions, pre, post, caps, initial, fits);
+    let found = refusals::marked_fault(places, transitions, pre, post, caps, marks, initial, fits);
     match found {
         Fault::Faulty(number, at) => Fault::Faulty(number, at),
         Fault::Sound => {
@@ -62,17 +63,19 @@ fn find_bound(
     pre: &[Weight],
     post: &[Weight],
     caps: &[u16],
+    marks: &[u8],
     initial: &[u16],
     y: &[i16],
     place: usize,
 ) -> Bound
-    requires { ⌜ Sized (netOf places transitions (now pre) (now post) (now caps)) ⌝ }
+    requires { ⌜ Sized (netOf places transitions (now pre) (now post) (now caps) (now marks)) ⌝ }
     requires { ⌜ length (now initial) ≡ places ⌝ }
     requires { ⌜ length (now y) ≡ places ⌝ }
     requires { ⌜ place < places ⌝ }
-    ensures { λ r. ⌜ r ≡ foundBound (netOf places transitions (now (pre .entry)) (now (post .entry)) (now (caps .entry))) (now (initial .entry)) (now (y .entry)) place ⌝ }
+    ensures { λ r. ⌜ r ≡ foundBound (netOf places transitions (now (pre .entry)) (now (post .entry)) (now (caps .entry)) (now (marks .entry))) (now (initial .entry)) (now (y .entry)) place ⌝ }
 {
-    if weighting_sums::lowest_transition(places, transitions, pre, post, caps, y) < transitions {
+    let t = weighting_sums::lowest_transition(places, transitions, pre, post, caps, marks, y);
+    if t < transitions {
         return Bound::NoBound(NoBoundCause::NotInvariant);
     }
     if weighting_sums::lowest_entry(y, true) < y.len() {
@@ -82,7 +85,8 @@ fn find_bound(
     if 0 < own {
         let sum = weighting_sums::weigh(y, initial);
         let divisor = own as u64;
-        return Bound::Bounded(sum / divisor);
+        let most = sum / divisor;
+        return Bound::Bounded(most);
     }
     Bound::NoBound(NoBoundCause::NotPositive)
 }
@@ -95,15 +99,36 @@ pub fn place_bound(
     pre: &[Weight],
     post: &[Weight],
     caps: &[u16],
+    marks: &[u8],
     initial: &[u16],
     y: &[i16],
     place: usize,
 ) -> Bound
-    ensures { λ r. ⌜ boundNumbers r ≡ boundNumbers (boundOf (netOf places transitions (now (pre .entry)) (now (post .entry)) (now (caps .entry))) (now (initial .entry)) (now (y .entry)) place) ⌝ }
+    ensures { λ r. ⌜ boundNumbers r ≡ boundNumbers (boundOf (netOf places transitions (now (pre .entry)) (now (post .entry)) (now (caps .entry)) (now (marks .entry))) (now (initial .entry)) (now (y .entry)) place) ⌝ }
 {
-    let found = bound_fault(places, transitions, pre, post, caps, initial, y, place);
+    let found = bound_fault(
+        places,
+        transitions,
+        pre,
+        post,
+        caps,
+        marks,
+        initial,
+        y,
+        place,
+    );
     match found {
         Fault::Faulty(number, at) => Bound::Refused(number, at),
-        Fault::Sound => find_bound(places, transitions, pre, post, caps, initial, y, place),
+        Fault::Sound => find_bound(
+            places,
+            transitions,
+            pre,
+            post,
+            caps,
+            marks,
+            initial,
+            y,
+            place,
+        ),
     }
 }

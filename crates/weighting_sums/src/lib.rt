@@ -102,11 +102,12 @@ pub fn lowest_transition(
     pre: &[Weight],
     post: &[Weight],
     caps: &[u16],
+    marks: &[u8],
     y: &[i16],
 ) -> usize
-    requires { ⌜ Sized (netOf places transitions (now pre) (now post) (now caps)) ⌝ }
+    requires { ⌜ Sized (netOf places transitions (now pre) (now post) (now caps) (now marks)) ⌝ }
     requires { ⌜ length (now y) ≡ places ⌝ }
-    ensures { λ r. ⌜ r ≡ lowestTransition (netOf places transitions (now (pre .entry)) (now (post .entry)) (now (caps .entry))) (now (y .entry)) ⌝ }
+    ensures { λ r. ⌜ r ≡ lowestTransition (netOf places transitions (now (pre .entry)) (now (post .entry)) (now (caps .entry)) (now (marks .entry))) (now (y .entry)) ⌝ }
 {
     lowest_failing(pre, post, y, transitions, places, 1)
 }
@@ -118,11 +119,12 @@ pub fn lowest_place(
     pre: &[Weight],
     post: &[Weight],
     caps: &[u16],
+    marks: &[u8],
     x: &[i16],
 ) -> usize
-    requires { ⌜ Sized (netOf places transitions (now pre) (now post) (now caps)) ⌝ }
+    requires { ⌜ Sized (netOf places transitions (now pre) (now post) (now caps) (now marks)) ⌝ }
     requires { ⌜ length (now x) ≡ transitions ⌝ }
-    ensures { λ r. ⌜ r ≡ lowestPlace (netOf places transitions (now (pre .entry)) (now (post .entry)) (now (caps .entry))) (now (x .entry)) ⌝ }
+    ensures { λ r. ⌜ r ≡ lowestPlace (netOf places transitions (now (pre .entry)) (now (post .entry)) (now (caps .entry)) (now (marks .entry))) (now (x .entry)) ⌝ }
 {
     lowest_failing(pre, post, x, places, 1, places)
 }

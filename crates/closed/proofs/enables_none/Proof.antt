@@ -12,10 +12,10 @@ use Rattle.closed.proofs.enables_none.Statement.{statement}
 use Rattle.closed.proofs.enables_none.Tie as tie
 
 abbrev Inv-loop : tie.InvT-loop
-Inv-loop places transitions pre post caps listed room t₀ t = (t ≤ transitions) × Below (λ t. passes (arcsAt (netOf places transitions pre post caps) t) room) t
+Inv-loop places transitions pre post caps marks listed room t₀ t = (t ≤ transitions) × Below (λ t. passes (arcsAt (netOf places transitions pre post caps marks) t) room) t
 
 abbrev μ-loop : tie.MeasureT-loop
-μ-loop places transitions pre post caps listed room t₀ t = transitions - t
+μ-loop places transitions pre post caps marks listed room t₀ t = transitions - t
 
 load-requires : tie.Need-load-requires Inv-loop μ-loop
 load-requires c κs = search needs
@@ -26,9 +26,9 @@ loop-holds c = search (scans, needs)
 may-fire-at-requires : tie.Need-may-fire-at-requires Inv-loop μ-loop
 may-fire-at-requires c κs =
     let s : tie.Start Inv-loop μ-loop = search needs in
-    let k : tie.After-shared-slice-known4 Inv-loop μ-loop = search needs in
+    let k : tie.After-shared-slice-known5 Inv-loop μ-loop = search needs in
     let l : tie.After-load Inv-loop μ-loop = search needs in
-    (search needs, (search needs, (small-as _ (now (s .args .listed)) (l .load .ensures) (λ p. omega (arith, k .shared-slice-known4 .given p)), search needs)))
+    (search needs, (search needs, (small-as _ (now (s .args .listed)) (l .load .ensures) (λ p. omega (arith, k .shared-slice-known5 .given p)), search needs)))
 
 same-length : tie.Need-same-length Inv-loop μ-loop
 same-length c = search needs

@@ -18,7 +18,7 @@ abbrev made : tie.After-room → tie.After-no-tokens
 made c = c .before .before
 
 abbrev start : tie.After-room → tie.Start
-start c = made c .before .before .before .before .before
+start c = made c .before .before .before .before .before .before
 
 few : (c : tie.After-room) → start c .args .places ≤ countLimit
 few c = start c .pre .0 .sized .few-places

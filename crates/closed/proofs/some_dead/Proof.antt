@@ -8,10 +8,10 @@ use Rattle.closed.proofs.some_dead.Statement.{statement}
 use Rattle.closed.proofs.some_dead.Tie as tie
 
 abbrev Inv-loop : tie.InvT-loop
-Inv-loop places transitions pre post caps list count k₀ k = (k ≤ count) × Below (dead (netOf places transitions pre post caps) list) k
+Inv-loop places transitions pre post caps marks list count k₀ k = (k ≤ count) × Below (dead (netOf places transitions pre post caps marks) list) k
 
 abbrev μ-loop : tie.MeasureT-loop
-μ-loop places transitions pre post caps list count k₀ k = count - k
+μ-loop places transitions pre post caps marks list count k₀ k = count - k
 
 loop-holds : tie.Need-loop-holds Inv-loop μ-loop
 loop-holds c = search (scans, needs)

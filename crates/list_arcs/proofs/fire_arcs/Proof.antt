@@ -12,14 +12,14 @@ use Rattle.list_arcs.proofs.fire_arcs.Statement.{statement}
 use Rattle.list_arcs.proofs.fire_arcs.Tie as tie
 
 abbrev Inv-loop : tie.InvT-loop
-Inv-loop places transitions pre post caps skips t listed room₀ a p₀ room p = (p ≤ places) × Firing (netOf places transitions pre post caps) t listed p room
+Inv-loop places transitions pre post caps marks skips t listed room₀ a p₀ room p = (p ≤ places) × Firing (netOf places transitions pre post caps marks) t listed p room
 
 abbrev μ-loop : tie.MeasureT-loop
-μ-loop places transitions pre post caps skips t listed room₀ a p₀ room p = p
+μ-loop places transitions pre post caps marks skips t listed room₀ a p₀ room p = p
 
 -- the net at the function's entry
 abbrev at : tie.Start Inv-loop μ-loop → Net
-at s = netOf (s .args .places) (s .args .transitions) (now (s .args .pre)) (now (s .args .post)) (now (s .args .caps))
+at s = netOf (s .args .places) (s .args .transitions) (now (s .args .pre)) (now (s .args .post)) (now (s .args .caps)) (now (s .args .marks))
 
 mul-a : tie.Need-mul-a Inv-loop μ-loop
 mul-a c =

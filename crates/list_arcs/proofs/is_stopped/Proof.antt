@@ -2,6 +2,7 @@ use Prim.Native.Nat.{_+_}
 use native.Mathlib.Omega.{arith}
 use borrow.Author.Tests.{ltb-true, ltb-false, lt-ltb, le-ltb}
 use Rattle.ground.specs.Limits.{noCapacity}
+use Rattle.net.specs.Net.{leavesFirst}
 use Rattle.ground.proofs.Tests.{or-next, and-next, below-is}
 use borrow.Author.Needs.{needs}
 use Rattle.list_arcs.proofs.is_stopped.Statement.{statement}
@@ -30,7 +31,7 @@ returns-2 c =
     let w = s .pre in
     or-next _ _ _ (le-ltb (s .args .tokens) (s .args .takes) (omega arith))
     (and-next _ _ _ (lt-ltb (s .args .cap) noCapacity (omega arith))
-    (below-is _ (s .args .cap + s .args .takes) (s .args .tokens + s .args .puts)
+    (below-is _ (s .args .cap + leavesFirst (s .args .mark) (s .args .takes)) (s .args .tokens + s .args .puts)
     (λ h. omega (arith, ltb-true, w, e))
     (λ h. omega (arith, ltb-false, w, e))))
 

@@ -13,14 +13,14 @@ use Rattle.list_arcs.proofs.may_fire_listed.Statement.{statement}
 use Rattle.list_arcs.proofs.may_fire_listed.Tie as tie
 
 abbrev Inv-loop : tie.InvT-loop
-Inv-loop places transitions pre post caps skips t listed a p₀ p = (p ≤ places) × Above (stops (arcsAt (netOf places transitions pre post caps) t) listed) p (length listed)
+Inv-loop places transitions pre post caps marks skips t listed a p₀ p = (p ≤ places) × Above (stops (arcsAt (netOf places transitions pre post caps marks) t) listed) p (length listed)
 
 abbrev μ-loop : tie.MeasureT-loop
-μ-loop places transitions pre post caps skips t listed a p₀ p = p
+μ-loop places transitions pre post caps marks skips t listed a p₀ p = p
 
 -- the net at the function's entry
 abbrev at : tie.Start Inv-loop μ-loop → Net
-at s = netOf (s .args .places) (s .args .transitions) (now (s .args .pre)) (now (s .args .post)) (now (s .args .caps))
+at s = netOf (s .args .places) (s .args .transitions) (now (s .args .pre)) (now (s .args .post)) (now (s .args .caps)) (now (s .args .marks))
 
 mul-a : tie.Need-mul-a Inv-loop μ-loop
 mul-a c =
@@ -78,6 +78,14 @@ shared-slice-read-is-stopped-3 c =
     let h = next-fits (at s) (now (s .args .skips)) (now (s .args .listed)) (s .args .t) (s .pre .0) (s .pre .1 .0) (s .pre .1 .1 .0 .0) (s .pre .1 .1 .0 .1) (l .before .loop .p) (l .loop-test .taken) (l .before .loop .inv .0) (f .next-place .result) (f .next-place .ensures) in
     search needs
 
+shared-slice-read-is-stopped-4 : tie.Need-shared-slice-read-is-stopped-4 Inv-loop μ-loop
+shared-slice-read-is-stopped-4 c =
+    let s : tie.Start Inv-loop μ-loop = search needs in
+    let l : tie.In-loop Inv-loop μ-loop = search needs in
+    let f : tie.After-next-place Inv-loop μ-loop = search needs in
+    let h = next-fits (at s) (now (s .args .skips)) (now (s .args .listed)) (s .args .t) (s .pre .0) (s .pre .1 .0) (s .pre .1 .1 .0 .0) (s .pre .1 .1 .0 .1) (l .before .loop .p) (l .loop-test .taken) (l .before .loop .inv .0) (f .next-place .result) (f .next-place .ensures) in
+    search needs
+
 mul-is-stopped-2 : tie.Need-mul-is-stopped-2 Inv-loop μ-loop
 mul-is-stopped-2 c =
     let s : tie.Start Inv-loop μ-loop = search needs in
@@ -86,8 +94,8 @@ mul-is-stopped-2 c =
     let h = next-fits (at s) (now (s .args .skips)) (now (s .args .listed)) (s .args .t) (s .pre .0) (s .pre .1 .0) (s .pre .1 .1 .0 .0) (s .pre .1 .1 .0 .1) (l .before .loop .p) (l .loop-test .taken) (l .before .loop .inv .0) (f .next-place .result) (f .next-place .ensures) in
     search needs
 
-shared-slice-read-is-stopped-4 : tie.Need-shared-slice-read-is-stopped-4 Inv-loop μ-loop
-shared-slice-read-is-stopped-4 c =
+shared-slice-read-is-stopped-5 : tie.Need-shared-slice-read-is-stopped-5 Inv-loop μ-loop
+shared-slice-read-is-stopped-5 c =
     let s : tie.Start Inv-loop μ-loop = search needs in
     let l : tie.In-loop Inv-loop μ-loop = search needs in
     let f : tie.After-next-place Inv-loop μ-loop = search needs in
@@ -145,8 +153,9 @@ may-fire-listed-spec =
     shared-slice-read-is-stopped-2
     mul-is-stopped
     shared-slice-read-is-stopped-3
-    mul-is-stopped-2
     shared-slice-read-is-stopped-4
+    mul-is-stopped-2
+    shared-slice-read-is-stopped-5
     is-stopped-requires
     returns
     loop-less

@@ -31,7 +31,7 @@ div-n c =
     let t : tie.After-target-fault = search needs in
     let f : tie.After-check-list = search needs in
     let a = s .args in
-    let l = accepted-lent (a .kind) (netOf (a .places) (a .transitions) (now (a .pre)) (now (a .post)) (now (a .caps))) (now (a .initial)) (now (a .list)) (eqb (length (now (a .target))) (a .places)) (t .target-fault .result) _ (f .check-list .ensures) (search needs) in
+    let l = accepted-lent (a .kind) (netOf (a .places) (a .transitions) (now (a .pre)) (now (a .post)) (now (a .caps)) (now (a .marks))) (now (a .initial)) (now (a .list)) (eqb (length (now (a .target))) (a .places)) (t .target-fault .result) _ (f .check-list .ensures) (search needs) in
     omega (arith, l .ready .sized .some-places)
 
 holds-requires : tie.Need-holds-requires
@@ -40,7 +40,7 @@ holds-requires c κs =
     let t : tie.After-target-fault = search needs in
     let f : tie.After-check-list = search needs in
     let a = s .args in
-    let l = accepted-lent (a .kind) (netOf (a .places) (a .transitions) (now (a .pre)) (now (a .post)) (now (a .caps))) (now (a .initial)) (now (a .list)) (eqb (length (now (a .target))) (a .places)) (t .target-fault .result) _ (f .check-list .ensures) (search needs) in
+    let l = accepted-lent (a .kind) (netOf (a .places) (a .transitions) (now (a .pre)) (now (a .post)) (now (a .caps)) (now (a .marks))) (now (a .initial)) (now (a .list)) (eqb (length (now (a .target))) (a .places)) (t .target-fault .result) _ (f .check-list .ensures) (search needs) in
     (l .ready .sized .few-places, (l .ready .long, eqb-true _ _ (l .agrees)))
 
 returns : tie.Need-returns

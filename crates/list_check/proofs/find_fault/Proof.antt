@@ -23,7 +23,7 @@ then-loose-requires c κs =
     let g : tie.After-is-fitting = search needs in
     let f : tie.After-start-fault = search needs in
     let a = s .args in
-    start-sized (a .kind) (netOf (a .places) (a .transitions) (now (a .pre)) (now (a .post)) (now (a .caps))) (now (a .initial)) (now (a .list)) (a .fits) (a .next) _ (g .is-fitting .ensures) _ (f .start-fault .ensures) (search needs)
+    start-sized (a .kind) (netOf (a .places) (a .transitions) (now (a .pre)) (now (a .post)) (now (a .caps)) (now (a .marks))) (now (a .initial)) (now (a .list)) (a .fits) (a .next) _ (g .is-fitting .ensures) _ (f .start-fault .ensures) (search needs)
 
 list-fault-requires : tie.Need-list-fault-requires
 list-fault-requires c κs =
@@ -31,7 +31,7 @@ list-fault-requires c κs =
     let g : tie.After-is-fitting = search needs in
     let f : tie.After-start-fault = search needs in
     let a = s .args in
-    caps-long (a .kind) (netOf (a .places) (a .transitions) (now (a .pre)) (now (a .post)) (now (a .caps))) (now (a .initial)) (now (a .list)) (a .fits) (a .next) _ (g .is-fitting .ensures) _ (f .start-fault .ensures) (search needs)
+    caps-long (a .kind) (netOf (a .places) (a .transitions) (now (a .pre)) (now (a .post)) (now (a .caps)) (now (a .marks))) (now (a .initial)) (now (a .list)) (a .fits) (a .next) _ (g .is-fitting .ensures) _ (f .start-fault .ensures) (search needs)
 
 returns : tie.Need-returns
 returns c = search (givens, needs)

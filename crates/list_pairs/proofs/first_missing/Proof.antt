@@ -14,20 +14,20 @@ use Rattle.list_pairs.proofs.first_missing.Statement.{statement}
 use Rattle.list_pairs.proofs.first_missing.Tie as tie
 
 abbrev Inv-loop : tie.InvT-loop
-Inv-loop kind places transitions pre post caps list count heads links skips room₀ k t₀ room t = (length room ≡ places) × ((t ≤ transitions) × Below (missing kind (netOf places transitions pre post caps) count list k) t)
+Inv-loop kind places transitions pre post caps marks list count heads links skips room₀ k t₀ room t = (length room ≡ places) × ((t ≤ transitions) × Below (missing kind (netOf places transitions pre post caps marks) count list k) t)
 
 abbrev μ-loop : tie.MeasureT-loop
-μ-loop kind places transitions pre post caps list count heads links skips room₀ k t₀ room t = transitions - t
+μ-loop kind places transitions pre post caps marks list count heads links skips room₀ k t₀ room t = transitions - t
 
 abbrev Inv-markings : tie.InvT-markings
-Inv-markings kind places transitions pre post caps list count heads links skips room₀ k₀ t₀ room k t = (length room ≡ places) × ((k ≤ count) × Below (fails (missing kind (netOf places transitions pre post caps) count list) transitions) k)
+Inv-markings kind places transitions pre post caps marks list count heads links skips room₀ k₀ t₀ room k t = (length room ≡ places) × ((k ≤ count) × Below (fails (missing kind (netOf places transitions pre post caps marks) count list) transitions) k)
 
 abbrev μ-markings : tie.MeasureT-markings
-μ-markings kind places transitions pre post caps list count heads links skips room₀ k₀ t₀ room k t = count - k
+μ-markings kind places transitions pre post caps marks list count heads links skips room₀ k₀ t₀ room k t = count - k
 
 -- the net at the function's entry
 at : tie.Start Inv-loop μ-loop Inv-markings μ-markings → Net
-at s = netOf (s .args .places) (s .args .transitions) (now (s .args .pre)) (now (s .args .post)) (now (s .args .caps))
+at s = netOf (s .args .places) (s .args .transitions) (now (s .args .pre)) (now (s .args .post)) (now (s .args .caps)) (now (s .args .marks))
 
 markings-holds : tie.Need-markings-holds Inv-loop μ-loop Inv-markings μ-markings
 markings-holds c = search (scans, needs)
@@ -49,7 +49,7 @@ loop-less c = search needs
 loop-again : tie.Need-loop-again Inv-loop μ-loop Inv-markings μ-markings
 loop-again c =
     let l : tie.In-loop Inv-loop μ-loop Inv-markings μ-markings = search needs in
-    (c .before .before .before .is-missing .kept .1 .1 .1 .1 .1 .1 .1 .1 .1 .1 .1 .1 .1 .0 ∙ l .before .loop .inv .0, (search needs, search (scans, needs)))
+    (c .before .before .before .is-missing .kept .1 .1 .1 .1 .1 .1 .1 .1 .1 .1 .1 .1 .1 .1 .0 ∙ l .before .loop .inv .0, (search needs, search (scans, needs)))
 
 add-k : tie.Need-add-k Inv-loop μ-loop Inv-markings μ-markings
 add-k c = search needs
@@ -71,7 +71,7 @@ same-length c =
     let e = sym (s .pre .1 .1 .1 .1) in
     ⊎-elim
     (λ w. ap length (w .1) ∙ c .before .before .markings .inv .0 ∙ e)
-    (λ w. ap length (w .8) ∙ w .4 .kept .1 .1 .1 .1 .1 .1 .1 .1 .1 .1 .1 .1 .1 .0 ∙ w .1 .inv .0 ∙ e)
+    (λ w. ap length (w .8) ∙ w .4 .kept .1 .1 .1 .1 .1 .1 .1 .1 .1 .1 .1 .1 .1 .1 .0 ∙ w .1 .inv .0 ∙ e)
     (c .before .markings-test .came)
 
 returns : tie.Need-returns Inv-loop μ-loop Inv-markings μ-markings
@@ -90,7 +90,7 @@ same-length-2 c =
     let e = sym (s .pre .1 .1 .1 .1) in
     ⊎-elim
     (λ w. ap length (w .1) ∙ c .before .before .markings .inv .0 ∙ e)
-    (λ w. ap length (w .8) ∙ w .4 .kept .1 .1 .1 .1 .1 .1 .1 .1 .1 .1 .1 .1 .1 .0 ∙ w .1 .inv .0 ∙ e)
+    (λ w. ap length (w .8) ∙ w .4 .kept .1 .1 .1 .1 .1 .1 .1 .1 .1 .1 .1 .1 .1 .1 .0 ∙ w .1 .inv .0 ∙ e)
     (c .before .markings-test .came)
 
 returns-2 : tie.Need-returns-2 Inv-loop μ-loop Inv-markings μ-markings

@@ -8,7 +8,7 @@ use Rattle.list_pairs.proofs.is_absent.Tie as tie
 
 -- the net at the function's entry
 at : tie.Start → Net
-at s = netOf (s .args .places) (s .args .transitions) (now (s .args .pre)) (now (s .args .post)) (now (s .args .caps))
+at s = netOf (s .args .places) (s .args .transitions) (now (s .args .pre)) (now (s .args .post)) (now (s .args .caps)) (now (s .args .marks))
 
 enum-told : tie.Need-enum-told
 enum-told c = search needs

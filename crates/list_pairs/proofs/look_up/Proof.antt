@@ -8,7 +8,7 @@ use Rattle.list_pairs.proofs.look_up.Tie as tie
 
 -- the function's entry, before the room is made
 abbrev start : tie.After-no-tokens → tie.Start
-start c = c .before .before .before .before .before .before .before .before
+start c = c .before .before .before .before .before .before .before .before .before
 
 no-heads-requires : tie.Need-no-heads-requires
 no-heads-requires c κs = search needs

@@ -7,7 +7,7 @@ use Rattle.order.proofs.order_logs.Statement.{statement}
 use Rattle.order.proofs.order_logs.Tie as tie
 
 abbrev net : tie.Start → Net
-net s = netOf (s .args .places) (s .args .transitions) (now (s .args .pre)) (now (s .args .post)) (now (s .args .caps))
+net s = netOf (s .args .places) (s .args .transitions) (now (s .args .pre)) (now (s .args .post)) (now (s .args .caps)) (now (s .args .marks))
 
 is-fitting-requires : tie.Need-is-fitting-requires
 is-fitting-requires c κs = search needs

@@ -41,24 +41,24 @@ left first second n k = (length first - n) + (length second - k)
 twice-less : (a b t : ℕ) → a + a ≡ t → a ≡ suc b → b + b + 1 < t
 twice-less a b t e f = omega arith
 
-abbrev μ-look : Measures 8 look-kinds.ps ℕ
-μ-look κs a = left (a .1 .1 .1 .1 .1 .0 .now) (a .1 .1 .1 .1 .1 .1 .0 .now) (a .1 .1 .1 .1 .1 .1 .1 .0) (a .1 .1 .1 .1 .1 .1 .1 .1 .0) + left (a .1 .1 .1 .1 .1 .0 .now) (a .1 .1 .1 .1 .1 .1 .0 .now) (a .1 .1 .1 .1 .1 .1 .1 .0) (a .1 .1 .1 .1 .1 .1 .1 .1 .0) + 1
+abbrev μ-look : Measures 9 look-kinds.ps ℕ
+μ-look κs a = left (a .1 .1 .1 .1 .1 .1 .0 .now) (a .1 .1 .1 .1 .1 .1 .1 .0 .now) (a .1 .1 .1 .1 .1 .1 .1 .1 .0) (a .1 .1 .1 .1 .1 .1 .1 .1 .1 .0) + left (a .1 .1 .1 .1 .1 .1 .0 .now) (a .1 .1 .1 .1 .1 .1 .1 .0 .now) (a .1 .1 .1 .1 .1 .1 .1 .1 .0) (a .1 .1 .1 .1 .1 .1 .1 .1 .1 .0) + 1
 
-abbrev μ-take : Measures 8 take-kinds.ps ℕ
-μ-take κs a = left (a .1 .1 .1 .1 .1 .0 .now) (a .1 .1 .1 .1 .1 .1 .0 .now) (a .1 .1 .1 .1 .1 .1 .1 .1 .0) (a .1 .1 .1 .1 .1 .1 .1 .1 .1 .0) + left (a .1 .1 .1 .1 .1 .0 .now) (a .1 .1 .1 .1 .1 .1 .0 .now) (a .1 .1 .1 .1 .1 .1 .1 .1 .0) (a .1 .1 .1 .1 .1 .1 .1 .1 .1 .0)
+abbrev μ-take : Measures 9 take-kinds.ps ℕ
+μ-take κs a = left (a .1 .1 .1 .1 .1 .1 .0 .now) (a .1 .1 .1 .1 .1 .1 .1 .0 .now) (a .1 .1 .1 .1 .1 .1 .1 .1 .1 .0) (a .1 .1 .1 .1 .1 .1 .1 .1 .1 .1 .0) + left (a .1 .1 .1 .1 .1 .1 .0 .now) (a .1 .1 .1 .1 .1 .1 .1 .0 .now) (a .1 .1 .1 .1 .1 .1 .1 .1 .1 .0) (a .1 .1 .1 .1 .1 .1 .1 .1 .1 .1 .0)
 
 -- what each is given at the measure t, and what a call of it asks below t
-abbrev look-at : ℕ → In 8 look-kinds.ps
-look-at t = and 8 look-kinds.ps (is 8 look-kinds.ps μ-look t) look.Pre
+abbrev look-at : ℕ → In 9 look-kinds.ps
+look-at t = and 9 look-kinds.ps (is 9 look-kinds.ps μ-look t) look.Pre
 
-abbrev look-below : ℕ → In 8 look-kinds.ps
-look-below t = and 8 look-kinds.ps (falls 8 look-kinds.ps _<_ μ-look t) look.Pre
+abbrev look-below : ℕ → In 9 look-kinds.ps
+look-below t = and 9 look-kinds.ps (falls 9 look-kinds.ps _<_ μ-look t) look.Pre
 
-abbrev take-at : ℕ → In 8 take-kinds.ps
-take-at t = and 8 take-kinds.ps (is 8 take-kinds.ps μ-take t) take.Pre
+abbrev take-at : ℕ → In 9 take-kinds.ps
+take-at t = and 9 take-kinds.ps (is 9 take-kinds.ps μ-take t) take.Pre
 
-abbrev take-below : ℕ → In 8 take-kinds.ps
-take-below t = and 8 take-kinds.ps (falls 8 take-kinds.ps _<_ μ-take t) take.Pre
+abbrev take-below : ℕ → In 9 take-kinds.ps
+take-below t = and 9 take-kinds.ps (falls 9 take-kinds.ps _<_ μ-take t) take.Pre
 
 -- what each learns of the functions that it calls
 abbrev look-claims : ℕ → look-lts.Claims
@@ -69,14 +69,14 @@ take-claims t = (letter-of-reads.Asked, letter-of-reads.Learnt, may-fire-at-read
 
 -- `look`'s places: its start from the first step tried, and that from the second
 abbrev look-s : (t : ℕ) → look-lts.After-take (look-claims t) (look-at t) look.Post → look-lts.Start (look-claims t) (look-at t) look.Post
-look-s t c = c .before .before .before .before .before .before .before .before .before .before .before .before .before .before .before .before
+look-s t c = c .before .before .before .before .before .before .before .before .before .before .before .before .before .before .before .before .before
 
 abbrev look-t : (t : ℕ) → look-lts.After-take2 (look-claims t) (look-at t) look.Post → look-lts.After-take (look-claims t) (look-at t) look.Post
 look-t t c = c .before .before .before .before .before .before .before .before .before .before .before
 
 -- what was recorded, and where the search stands
 abbrev look-logs : (t : ℕ) → look-lts.Start (look-claims t) (look-at t) look.Post → Recorded
-look-logs t s = logsOf (netOf (s .args .places) (s .args .transitions) (now (s .args .pre)) (now (s .args .post)) (now (s .args .caps))) (now (s .args .first)) (now (s .args .second))
+look-logs t s = logsOf (netOf (s .args .places) (s .args .transitions) (now (s .args .pre)) (now (s .args .post)) (now (s .args .caps)) (now (s .args .marks))) (now (s .args .first)) (now (s .args .second))
 
 look-stands : (t : ℕ) (s : look-lts.Start (look-claims t) (look-at t) look.Post) → Stands (look-logs t s) (s .args .n) (s .args .k) (now (s .args .marking)) (now (s .args .path)) (now (s .args .work))
 look-stands t s = s .pre .1
@@ -87,40 +87,40 @@ look-left t s =
     omega arith
 
 -- ... and where it stands once the first log's letter has led nowhere
-look-again : (t : ℕ) (c : look-lts.Else3 (look-claims t) (look-at t) look.Post) → Stands (look-logs t (look-s t (c .before .before .before .before .before .before .before))) (look-s t (c .before .before .before .before .before .before .before) .args .n) (look-s t (c .before .before .before .before .before .before .before) .args .k) (c .before .before .before .before .before .before .before .take .last .1 .1 .1 .1 .1 .1 .1 .1 .1 .1 .0) (c .before .before .before .before .before .before .before .take .last .1 .1 .1 .1 .1 .1 .1 .1 .1 .1 .1 .0) (c .before .before .before .before .before .before .before .take .last .1 .1 .1 .1 .1 .1 .1 .1 .1 .1 .1 .1 .0)
-look-again t c = stands-again _ _ _ _ _ _ (look-stands t (look-s t (c .before .before .before .before .before .before .before))) (c .before .before .before .before .before .before .before .before .before .before .before .before .before .before .if1 .left) _ _ _ _ (c .before .before .before .before .before .before .before .take .ensures) (c .if3 .left) (c .before .before .before .before .before .before .before .take .kept .1 .1 .1 .1 .1 .1 .1 .1 .1 .1 .1 .0) (c .before .before .before .before .before .before .before .take .kept .1 .1 .1 .1 .1 .1 .1 .1 .1 .1 .1 .1 .0)
+look-again : (t : ℕ) (c : look-lts.Else3 (look-claims t) (look-at t) look.Post) → Stands (look-logs t (look-s t (c .before .before .before .before .before .before .before))) (look-s t (c .before .before .before .before .before .before .before) .args .n) (look-s t (c .before .before .before .before .before .before .before) .args .k) (c .before .before .before .before .before .before .before .take .last .1 .1 .1 .1 .1 .1 .1 .1 .1 .1 .1 .0) (c .before .before .before .before .before .before .before .take .last .1 .1 .1 .1 .1 .1 .1 .1 .1 .1 .1 .1 .0) (c .before .before .before .before .before .before .before .take .last .1 .1 .1 .1 .1 .1 .1 .1 .1 .1 .1 .1 .1 .0)
+look-again t c = stands-again _ _ _ _ _ _ (look-stands t (look-s t (c .before .before .before .before .before .before .before))) (c .before .before .before .before .before .before .before .before .before .before .before .before .before .before .if1 .left) _ _ _ _ (c .before .before .before .before .before .before .before .take .ensures) (c .if3 .left) (c .before .before .before .before .before .before .before .take .kept .1 .1 .1 .1 .1 .1 .1 .1 .1 .1 .1 .1 .0) (c .before .before .before .before .before .before .before .take .kept .1 .1 .1 .1 .1 .1 .1 .1 .1 .1 .1 .1 .1 .0)
 
 look-add-if1 : (t : ℕ) → look-lts.Need-add-if1 (look-claims t) (look-at t) look.Post
-look-add-if1 t c = let q = few-read _ _ _ _ _ _ (look-stands t (c .before .before .before .before .before .before .before .before)) in omega (arith, q .0, q .1)
+look-add-if1 t c = let q = few-read _ _ _ _ _ _ (look-stands t (c .before .before .before .before .before .before .before .before .before)) in omega (arith, q .0, q .1)
 
 look-add-if1-2 : (t : ℕ) → look-lts.Need-add-if1-2 (look-claims t) (look-at t) look.Post
-look-add-if1-2 t c = let q = look-stands t (c .before .before .before .before .before .before .before .before) .ready in omega (arith, q .few-first, q .few-second)
+look-add-if1-2 t c = let q = look-stands t (c .before .before .before .before .before .before .before .before .before) .ready in omega (arith, q .few-first, q .few-second)
 
 look-returns : (t : ℕ) → look-lts.Need-returns (look-claims t) (look-at t) look.Post
-look-returns t c = look-end _ _ _ _ _ _ (look-stands t (c .before .before .before .before .before .before .before .before .before)) (c .if1 .taken)
+look-returns t c = look-end _ _ _ _ _ _ (look-stands t (c .before .before .before .before .before .before .before .before .before .before)) (c .if1 .taken)
 
 look-is-dead-requires : (t : ℕ) → look-lts.Need-is-dead-requires (look-claims t) (look-at t) look.Post
 look-is-dead-requires t c κs =
-    let q = few-read _ _ _ _ _ _ (look-stands t (c .before .before .before .before .before .before .before .before .before .before)) in
-    ((omega (arith, q .0, q .1), omega (arith, q .0, q .1)), look-stands t (c .before .before .before .before .before .before .before .before .before .before) .bytes)
+    let q = few-read _ _ _ _ _ _ (look-stands t (c .before .before .before .before .before .before .before .before .before .before .before)) in
+    ((omega (arith, q .0, q .1), omega (arith, q .0, q .1)), look-stands t (c .before .before .before .before .before .before .before .before .before .before .before) .bytes)
 
 look-same-length : (t : ℕ) → look-lts.Need-same-length (look-claims t) (look-at t) look.Post
 look-same-length t c = refl
 
 look-returns-2 : (t : ℕ) → look-lts.Need-returns-2 (look-claims t) (look-at t) look.Post
-look-returns-2 t c = look-dead _ _ _ _ _ _ (look-stands t (c .before .before .before .before .before .before .before .before .before .before .before .before)) _ (c .before .is-dead .ensures) (c .if2 .taken)
+look-returns-2 t c = look-dead _ _ _ _ _ _ (look-stands t (c .before .before .before .before .before .before .before .before .before .before .before .before .before)) _ (c .before .is-dead .ensures) (c .if2 .taken)
 
 look-take-requires : (t : ℕ) → look-lts.Need-take-requires (look-claims t) (look-at t) look.Post
-look-take-requires t c κs = (look-left t (c .before .before .before .before .before .before .before .before .before .before .before .before .before .before .before), (omega arith, look-stands t (c .before .before .before .before .before .before .before .before .before .before .before .before .before .before .before)))
+look-take-requires t c κs = (look-left t (c .before .before .before .before .before .before .before .before .before .before .before .before .before .before .before .before), (omega arith, look-stands t (c .before .before .before .before .before .before .before .before .before .before .before .before .before .before .before .before)))
 
 look-same-length-2 : (t : ℕ) → look-lts.Need-same-length-2 (look-claims t) (look-at t) look.Post
-look-same-length-2 t c = c .before .before .before .before .before .before .before .take .kept .1 .1 .1 .1 .1 .1 .1 .1 .1 .1 .0
+look-same-length-2 t c = c .before .before .before .before .before .before .before .take .kept .1 .1 .1 .1 .1 .1 .1 .1 .1 .1 .1 .0
 
 look-same-length-3 : (t : ℕ) → look-lts.Need-same-length-3 (look-claims t) (look-at t) look.Post
-look-same-length-3 t c = c .before .before .before .before .before .before .before .take .kept .1 .1 .1 .1 .1 .1 .1 .1 .1 .1 .1 .0
+look-same-length-3 t c = c .before .before .before .before .before .before .before .take .kept .1 .1 .1 .1 .1 .1 .1 .1 .1 .1 .1 .1 .0
 
 look-same-length-4 : (t : ℕ) → look-lts.Need-same-length-4 (look-claims t) (look-at t) look.Post
-look-same-length-4 t c = c .before .before .before .before .before .before .before .take .kept .1 .1 .1 .1 .1 .1 .1 .1 .1 .1 .1 .1 .0
+look-same-length-4 t c = c .before .before .before .before .before .before .before .take .kept .1 .1 .1 .1 .1 .1 .1 .1 .1 .1 .1 .1 .1 .0
 
 look-returns-3 : (t : ℕ) → look-lts.Need-returns-3 (look-claims t) (look-at t) look.Post
 look-returns-3 t c = look-first _ _ _ _ _ _ (look-stands t (look-s t (c .before .before .before .before .before .before .before))) (c .before .before .before .before .before .before .before .before .before .before .before .before .before .before .if1 .left) _ _ _ _ (c .before .before .before .before .before .before .before .take .ensures) (c .if3 .taken)
@@ -129,13 +129,13 @@ look-take-requires-2 : (t : ℕ) → look-lts.Need-take-requires-2 (look-claims 
 look-take-requires-2 t c κs = (look-left t (look-s t (c .before .before .before .before .before .before .before .before .before .before)), (omega arith, look-again t (c .before .before .before)))
 
 look-same-length-5 : (t : ℕ) → look-lts.Need-same-length-5 (look-claims t) (look-at t) look.Post
-look-same-length-5 t c = c .before .before .before .before .before .before .before .take2 .kept .1 .1 .1 .1 .1 .1 .1 .1 .1 .1 .0 ∙ look-t t (c .before .before .before .before .before .before .before) .take .kept .1 .1 .1 .1 .1 .1 .1 .1 .1 .1 .0
+look-same-length-5 t c = c .before .before .before .before .before .before .before .take2 .kept .1 .1 .1 .1 .1 .1 .1 .1 .1 .1 .1 .0 ∙ look-t t (c .before .before .before .before .before .before .before) .take .kept .1 .1 .1 .1 .1 .1 .1 .1 .1 .1 .1 .0
 
 look-same-length-6 : (t : ℕ) → look-lts.Need-same-length-6 (look-claims t) (look-at t) look.Post
-look-same-length-6 t c = c .before .before .before .before .before .before .before .take2 .kept .1 .1 .1 .1 .1 .1 .1 .1 .1 .1 .1 .0 ∙ look-t t (c .before .before .before .before .before .before .before) .take .kept .1 .1 .1 .1 .1 .1 .1 .1 .1 .1 .1 .0
+look-same-length-6 t c = c .before .before .before .before .before .before .before .take2 .kept .1 .1 .1 .1 .1 .1 .1 .1 .1 .1 .1 .1 .0 ∙ look-t t (c .before .before .before .before .before .before .before) .take .kept .1 .1 .1 .1 .1 .1 .1 .1 .1 .1 .1 .1 .0
 
 look-same-length-7 : (t : ℕ) → look-lts.Need-same-length-7 (look-claims t) (look-at t) look.Post
-look-same-length-7 t c = c .before .before .before .before .before .before .before .take2 .kept .1 .1 .1 .1 .1 .1 .1 .1 .1 .1 .1 .1 .0 ∙ look-t t (c .before .before .before .before .before .before .before) .take .kept .1 .1 .1 .1 .1 .1 .1 .1 .1 .1 .1 .1 .0
+look-same-length-7 t c = c .before .before .before .before .before .before .before .take2 .kept .1 .1 .1 .1 .1 .1 .1 .1 .1 .1 .1 .1 .1 .0 ∙ look-t t (c .before .before .before .before .before .before .before) .take .kept .1 .1 .1 .1 .1 .1 .1 .1 .1 .1 .1 .1 .1 .0
 
 look-returns-4 : (t : ℕ) → look-lts.Need-returns-4 (look-claims t) (look-at t) look.Post
 look-returns-4 t c = look-second _ _ _ _ _ _ (look-stands t (look-s t (look-t t (c .before .before .before .before .before .before .before)))) (look-t t (c .before .before .before .before .before .before .before) .before .before .before .before .before .before .before .if1 .left) _ _ _ _ (look-t t (c .before .before .before .before .before .before .before) .take .ensures) (c .before .before .before .before .before .before .before .before .before .before .before .if3 .left) _ _ _ _ (c .before .before .before .before .before .before .before .take2 .ensures) (c .if4 .taken)
@@ -143,23 +143,23 @@ look-returns-4 t c = look-second _ _ _ _ _ _ (look-stands t (look-s t (look-t t 
 look-remember-requires : (t : ℕ) → look-lts.Need-remember-requires (look-claims t) (look-at t) look.Post
 look-remember-requires t c κs =
     let q = few-read _ _ _ _ _ _ (look-stands t (look-s t (look-t t (c .before .before .before .before .before .before .before .before)))) in
-    ((omega (arith, q .0, q .1), omega (arith, q .0, q .1)), c .before .before .before .before .before .before .before .before .take2 .kept .1 .1 .1 .1 .1 .1 .1 .1 .1 .1 .1 .1 .0 ∙ look-t t (c .before .before .before .before .before .before .before .before) .take .kept .1 .1 .1 .1 .1 .1 .1 .1 .1 .1 .1 .1 .0 ∙ look-stands t (look-s t (look-t t (c .before .before .before .before .before .before .before .before))) .bytes)
+    ((omega (arith, q .0, q .1), omega (arith, q .0, q .1)), c .before .before .before .before .before .before .before .before .take2 .kept .1 .1 .1 .1 .1 .1 .1 .1 .1 .1 .1 .1 .1 .0 ∙ look-t t (c .before .before .before .before .before .before .before .before) .take .kept .1 .1 .1 .1 .1 .1 .1 .1 .1 .1 .1 .1 .1 .0 ∙ look-stands t (look-s t (look-t t (c .before .before .before .before .before .before .before .before))) .bytes)
 
 look-same-length-8 : (t : ℕ) → look-lts.Need-same-length-8 (look-claims t) (look-at t) look.Post
-look-same-length-8 t c = c .before .before .before .before .before .before .before .before .before .before .before .take2 .kept .1 .1 .1 .1 .1 .1 .1 .1 .1 .1 .0 ∙ look-t t (c .before .before .before .before .before .before .before .before .before .before .before) .take .kept .1 .1 .1 .1 .1 .1 .1 .1 .1 .1 .0
+look-same-length-8 t c = c .before .before .before .before .before .before .before .before .before .before .before .take2 .kept .1 .1 .1 .1 .1 .1 .1 .1 .1 .1 .1 .0 ∙ look-t t (c .before .before .before .before .before .before .before .before .before .before .before) .take .kept .1 .1 .1 .1 .1 .1 .1 .1 .1 .1 .1 .0
 
 look-same-length-9 : (t : ℕ) → look-lts.Need-same-length-9 (look-claims t) (look-at t) look.Post
-look-same-length-9 t c = c .before .before .before .before .before .before .before .before .before .before .before .take2 .kept .1 .1 .1 .1 .1 .1 .1 .1 .1 .1 .1 .0 ∙ look-t t (c .before .before .before .before .before .before .before .before .before .before .before) .take .kept .1 .1 .1 .1 .1 .1 .1 .1 .1 .1 .1 .0
+look-same-length-9 t c = c .before .before .before .before .before .before .before .before .before .before .before .take2 .kept .1 .1 .1 .1 .1 .1 .1 .1 .1 .1 .1 .1 .0 ∙ look-t t (c .before .before .before .before .before .before .before .before .before .before .before) .take .kept .1 .1 .1 .1 .1 .1 .1 .1 .1 .1 .1 .1 .0
 
 look-same-length-10 : (t : ℕ) → look-lts.Need-same-length-10 (look-claims t) (look-at t) look.Post
-look-same-length-10 t c = c .before .before .remember .kept .1 .1 .0 ∙ c .before .before .before .before .before .before .before .before .before .before .before .take2 .kept .1 .1 .1 .1 .1 .1 .1 .1 .1 .1 .1 .1 .0 ∙ look-t t (c .before .before .before .before .before .before .before .before .before .before .before) .take .kept .1 .1 .1 .1 .1 .1 .1 .1 .1 .1 .1 .1 .0
+look-same-length-10 t c = c .before .before .remember .kept .1 .1 .0 ∙ c .before .before .before .before .before .before .before .before .before .before .before .take2 .kept .1 .1 .1 .1 .1 .1 .1 .1 .1 .1 .1 .1 .1 .0 ∙ look-t t (c .before .before .before .before .before .before .before .before .before .before .before) .take .kept .1 .1 .1 .1 .1 .1 .1 .1 .1 .1 .1 .1 .1 .0
 
 look-returns-5 : (t : ℕ) → look-lts.Need-returns-5 (look-claims t) (look-at t) look.Post
 look-returns-5 t c = look-none _ _ _ _ _ _ (look-stands t (look-s t (look-t t (c .before .before .before .before .before .before .before .before .before .before .before)))) (look-t t (c .before .before .before .before .before .before .before .before .before .before .before) .before .before .before .before .before .before .before .if1 .left) _ _ _ _ (look-t t (c .before .before .before .before .before .before .before .before .before .before .before) .take .ensures) (c .before .before .before .before .before .before .before .before .before .before .before .before .before .before .before .if3 .left) _ _ _ _ (c .before .before .before .before .before .before .before .before .before .before .before .take2 .ensures) (c .before .before .before .before .if4 .left) _ (c .before .before .remember .ensures)
 
 -- `take`'s places: its start and the letter that passed from the letter fired, and that from the rest looked for
 abbrev take-o : (t : ℕ) → take-lts.Else2 (take-claims t) (take-at t) take.Post → take-lts.Start (take-claims t) (take-at t) take.Post
-take-o t c = c .before .before .before .before .before .before .before .before .before .before .before .before .before
+take-o t c = c .before .before .before .before .before .before .before .before .before .before .before .before .before .before
 
 abbrev take-s : (t : ℕ) → take-lts.After-fire-at (take-claims t) (take-at t) take.Post → take-lts.Start (take-claims t) (take-at t) take.Post
 take-s t c = take-o t (c .before .before)
@@ -172,7 +172,7 @@ take-f t c = c .before .before .before .before .before .before
 
 -- what was recorded, and where the search stands
 abbrev take-logs : (t : ℕ) → take-lts.Start (take-claims t) (take-at t) take.Post → Recorded
-take-logs t s = logsOf (netOf (s .args .places) (s .args .transitions) (now (s .args .pre)) (now (s .args .post)) (now (s .args .caps))) (now (s .args .first)) (now (s .args .second))
+take-logs t s = logsOf (netOf (s .args .places) (s .args .transitions) (now (s .args .pre)) (now (s .args .post)) (now (s .args .caps)) (now (s .args .marks))) (now (s .args .first)) (now (s .args .second))
 
 take-stands : (t : ℕ) (s : take-lts.Start (take-claims t) (take-at t) take.Post) → Stands (take-logs t s) (s .args .n) (s .args .k) (now (s .args .marking)) (now (s .args .path)) (now (s .args .work))
 take-stands t s = s .pre .1 .1
@@ -181,7 +181,7 @@ take-which : (t : ℕ) (s : take-lts.Start (take-claims t) (take-at t) take.Post
 take-which t s = s .pre .1 .0
 
 -- ... the letter to be taken
-take-letter : (t : ℕ) (c : take-lts.After-letter-of (take-claims t) (take-at t) take.Post) → c .letter-of .result ≡ letterAt (take-logs t (c .before .before .before .before .before .before .before .before .before)) (c .before .before .before .before .before .before .before .before .before .args .which) (c .before .before .before .before .before .before .before .before .before .args .n) (c .before .before .before .before .before .before .before .before .before .args .k)
+take-letter : (t : ℕ) (c : take-lts.After-letter-of (take-claims t) (take-at t) take.Post) → c .letter-of .result ≡ letterAt (take-logs t (c .before .before .before .before .before .before .before .before .before .before)) (c .before .before .before .before .before .before .before .before .before .before .args .which) (c .before .before .before .before .before .before .before .before .before .before .args .n) (c .before .before .before .before .before .before .before .before .before .before .args .k)
 take-letter t c = c .letter-of .ensures
 
 -- ... which may fire
@@ -204,19 +204,19 @@ take-letter-of-requires : (t : ℕ) → take-lts.Need-letter-of-requires (take-c
 take-letter-of-requires t c κs = search needs
 
 take-returns : (t : ℕ) → take-lts.Need-returns (take-claims t) (take-at t) take.Post
-take-returns t c = step-closed _ _ _ _ _ _ _ (take-which t (c .before .before .before .before .before .before .before .before .before .before)) (take-stands t (c .before .before .before .before .before .before .before .before .before .before)) (open-out (take-logs t (c .before .before .before .before .before .before .before .before .before .before) .net) (now (c .before .before .before .before .before .before .before .before .before .before .args .first)) (now (c .before .before .before .before .before .before .before .before .before .before .args .second)) (c .before .before .before .before .before .before .before .before .before .before .args .which) (c .before .before .before .before .before .before .before .before .before .before .args .n) (c .before .before .before .before .before .before .before .before .before .before .args .k) (now (c .before .before .before .before .before .before .before .before .before .before .args .marking)) _ (take-letter t (c .before)) (c .if1 .taken))
+take-returns t c = step-closed _ _ _ _ _ _ _ (take-which t (c .before .before .before .before .before .before .before .before .before .before .before)) (take-stands t (c .before .before .before .before .before .before .before .before .before .before .before)) (open-out (take-logs t (c .before .before .before .before .before .before .before .before .before .before .before) .net) (now (c .before .before .before .before .before .before .before .before .before .before .before .args .first)) (now (c .before .before .before .before .before .before .before .before .before .before .before .args .second)) (c .before .before .before .before .before .before .before .before .before .before .before .args .which) (c .before .before .before .before .before .before .before .before .before .before .before .args .n) (c .before .before .before .before .before .before .before .before .before .before .before .args .k) (now (c .before .before .before .before .before .before .before .before .before .before .before .args .marking)) _ (take-letter t (c .before)) (c .if1 .taken))
 
 take-may-fire-at-requires : (t : ℕ) → take-lts.Need-may-fire-at-requires (take-claims t) (take-at t) take.Post
-take-may-fire-at-requires t c κs = (take-stands t (c .before .before .before .before .before .before .before .before .before .before .before) .ready .sized, (take-stands t (c .before .before .before .before .before .before .before .before .before .before .before) .marked, (small-here _ _ _ _ _ _ (take-stands t (c .before .before .before .before .before .before .before .before .before .before .before)), c .before .if1 .left)))
+take-may-fire-at-requires t c κs = (take-stands t (c .before .before .before .before .before .before .before .before .before .before .before .before) .ready .sized, (take-stands t (c .before .before .before .before .before .before .before .before .before .before .before .before) .marked, (small-here _ _ _ _ _ _ (take-stands t (c .before .before .before .before .before .before .before .before .before .before .before .before)), c .before .if1 .left)))
 
 take-same-length : (t : ℕ) → take-lts.Need-same-length (take-claims t) (take-at t) take.Post
 take-same-length t c = refl
 
 take-returns-2 : (t : ℕ) → take-lts.Need-returns-2 (take-claims t) (take-at t) take.Post
-take-returns-2 t c = step-closed _ _ _ _ _ _ _ (take-which t (c .before .before .before .before .before .before .before .before .before .before .before .before .before)) (take-stands t (c .before .before .before .before .before .before .before .before .before .before .before .before .before)) (open-no (take-logs t (c .before .before .before .before .before .before .before .before .before .before .before .before .before) .net) (now (c .before .before .before .before .before .before .before .before .before .before .before .before .before .args .first)) (now (c .before .before .before .before .before .before .before .before .before .before .before .before .before .args .second)) (c .before .before .before .before .before .before .before .before .before .before .before .before .before .args .which) (c .before .before .before .before .before .before .before .before .before .before .before .before .before .args .n) (c .before .before .before .before .before .before .before .before .before .before .before .before .before .args .k) (now (c .before .before .before .before .before .before .before .before .before .before .before .before .before .args .marking)) _ (take-letter t (c .before .before .before .before)) (c .before .before .before .if1 .left) (sym (c .before .may-fire-at .ensures) ∙ not-true _ (c .if2 .taken)))
+take-returns-2 t c = step-closed _ _ _ _ _ _ _ (take-which t (c .before .before .before .before .before .before .before .before .before .before .before .before .before .before)) (take-stands t (c .before .before .before .before .before .before .before .before .before .before .before .before .before .before)) (open-no (take-logs t (c .before .before .before .before .before .before .before .before .before .before .before .before .before .before) .net) (now (c .before .before .before .before .before .before .before .before .before .before .before .before .before .before .args .first)) (now (c .before .before .before .before .before .before .before .before .before .before .before .before .before .before .args .second)) (c .before .before .before .before .before .before .before .before .before .before .before .before .before .before .args .which) (c .before .before .before .before .before .before .before .before .before .before .before .before .before .before .args .n) (c .before .before .before .before .before .before .before .before .before .before .before .before .before .before .args .k) (now (c .before .before .before .before .before .before .before .before .before .before .before .before .before .before .args .marking)) _ (take-letter t (c .before .before .before .before)) (c .before .before .before .if1 .left) (sym (c .before .may-fire-at .ensures) ∙ not-true _ (c .if2 .taken)))
 
 take-fire-at-requires : (t : ℕ) → take-lts.Need-fire-at-requires (take-claims t) (take-at t) take.Post
-take-fire-at-requires t c κs = (take-stands t (c .before .before .before .before .before .before .before .before .before .before .before .before .before .before) .ready .sized, (take-stands t (c .before .before .before .before .before .before .before .before .before .before .before .before .before .before) .marked, (small-here _ _ _ _ _ _ (take-stands t (c .before .before .before .before .before .before .before .before .before .before .before .before .before .before)), (c .before .before .before .before .if1 .left, take-passes t (c .before)))))
+take-fire-at-requires t c κs = (take-stands t (c .before .before .before .before .before .before .before .before .before .before .before .before .before .before .before) .ready .sized, (take-stands t (c .before .before .before .before .before .before .before .before .before .before .before .before .before .before .before) .marked, (small-here _ _ _ _ _ _ (take-stands t (c .before .before .before .before .before .before .before .before .before .before .before .before .before .before .before)), (c .before .before .before .before .if1 .left, take-passes t (c .before)))))
 
 take-cast-path : (t : ℕ) → take-lts.Need-cast-path (take-claims t) (take-at t) take.Post
 take-cast-path t c = omega (arith, take-which t (take-s t (c .before .before)))
@@ -240,13 +240,13 @@ take-look-requires : (t : ℕ) → take-lts.Need-look-requires (take-claims t) (
 take-look-requires t c κs = (take-left t (take-e t (c .before .before .before .before .before)), stands-next _ _ _ _ _ _ _ (take-which t (take-s t (c .before .before .before .before .before))) (take-stands t (take-s t (c .before .before .before .before .before))) _ (take-letter t (take-e t (c .before .before .before .before .before) .before .before .before .before)) (take-e t (c .before .before .before .before .before) .before .before .before .if1 .left) (take-passes t (take-e t (c .before .before .before .before .before))) _ (c .before .before .before .before .before .fire-at .ensures))
 
 take-same-length-2 : (t : ℕ) → take-lts.Need-same-length-2 (take-claims t) (take-at t) take.Post
-take-same-length-2 t c = c .before .before .before .before .before .before .before .look .kept .1 .1 .1 .1 .1 .1 .1 .1 .1 .0 ∙ take-f t (c .before .before .before .before .before .before .before) .fire-at .kept .1 .1 .1 .1 .1 .1 .0
+take-same-length-2 t c = c .before .before .before .before .before .before .before .look .kept .1 .1 .1 .1 .1 .1 .1 .1 .1 .1 .0 ∙ take-f t (c .before .before .before .before .before .before .before) .fire-at .kept .1 .1 .1 .1 .1 .1 .1 .0
 
 take-same-length-3 : (t : ℕ) → take-lts.Need-same-length-3 (take-claims t) (take-at t) take.Post
-take-same-length-3 t c = c .before .before .before .before .before .before .before .look .kept .1 .1 .1 .1 .1 .1 .1 .1 .1 .1 .0 ∙ length-set (now (take-s t (take-f t (c .before .before .before .before .before .before .before)) .args .path)) (take-s t (take-f t (c .before .before .before .before .before .before .before)) .args .n + c .before .before .before .before .before .before .before .before .before .before .before .before .before .before .before .before .before .before .before .before .before .before .before .before .before .before .before .before .args .k) (take-s t (take-f t (c .before .before .before .before .before .before .before)) .args .which)
+take-same-length-3 t c = c .before .before .before .before .before .before .before .look .kept .1 .1 .1 .1 .1 .1 .1 .1 .1 .1 .1 .0 ∙ length-set (now (take-s t (take-f t (c .before .before .before .before .before .before .before)) .args .path)) (take-s t (take-f t (c .before .before .before .before .before .before .before)) .args .n + c .before .before .before .before .before .before .before .before .before .before .before .before .before .before .before .before .before .before .before .before .before .before .before .before .before .before .before .before .before .args .k) (take-s t (take-f t (c .before .before .before .before .before .before .before)) .args .which)
 
 take-same-length-4 : (t : ℕ) → take-lts.Need-same-length-4 (take-claims t) (take-at t) take.Post
-take-same-length-4 t c = c .before .before .before .before .before .before .before .look .kept .1 .1 .1 .1 .1 .1 .1 .1 .1 .1 .1 .0
+take-same-length-4 t c = c .before .before .before .before .before .before .before .look .kept .1 .1 .1 .1 .1 .1 .1 .1 .1 .1 .1 .1 .0
 
 take-returns-3 : (t : ℕ) → take-lts.Need-returns-3 (take-claims t) (take-at t) take.Post
 take-returns-3 t c = step-found _ _ _ _ _ _ _ (take-which t (take-s t (take-f t (c .before .before .before .before .before .before .before)))) (take-stands t (take-s t (take-f t (c .before .before .before .before .before .before .before)))) _ (take-letter t (take-e t (take-f t (c .before .before .before .before .before .before .before)) .before .before .before .before)) (take-e t (take-f t (c .before .before .before .before .before .before .before)) .before .before .before .if1 .left) (take-passes t (take-e t (take-f t (c .before .before .before .before .before .before .before)))) _ (take-f t (c .before .before .before .before .before .before .before) .fire-at .ensures) (take-open t (take-e t (take-f t (c .before .before .before .before .before .before .before)))) _ _ _ _ (c .before .before .before .before .before .before .before .look .ensures) (c .if3 .taken)
@@ -255,13 +255,13 @@ take-take-back-requires : (t : ℕ) → take-lts.Need-take-back-requires (take-c
 take-take-back-requires t c κs = back-asks _ _ _ _ _ _ _ (take-which t (take-s t (take-f t (c .before .before .before .before .before .before .before .before)))) (take-stands t (take-s t (take-f t (c .before .before .before .before .before .before .before .before)))) _ (take-letter t (take-e t (take-f t (c .before .before .before .before .before .before .before .before)) .before .before .before .before)) (take-e t (take-f t (c .before .before .before .before .before .before .before .before)) .before .before .before .if1 .left) (take-passes t (take-e t (take-f t (c .before .before .before .before .before .before .before .before)))) _ (take-f t (c .before .before .before .before .before .before .before .before) .fire-at .ensures) (take-open t (take-e t (take-f t (c .before .before .before .before .before .before .before .before)))) _ _ _ _ (c .before .before .before .before .before .before .before .before .look .ensures) (c .before .if3 .left)
 
 take-same-length-5 : (t : ℕ) → take-lts.Need-same-length-5 (take-claims t) (take-at t) take.Post
-take-same-length-5 t c = c .before .before .take-back .kept .1 .1 .1 .1 .0 ∙ c .before .before .before .before .before .before .before .before .before .before .before .look .kept .1 .1 .1 .1 .1 .1 .1 .1 .1 .0 ∙ take-f t (c .before .before .before .before .before .before .before .before .before .before .before) .fire-at .kept .1 .1 .1 .1 .1 .1 .0
+take-same-length-5 t c = c .before .before .take-back .kept .1 .1 .1 .1 .0 ∙ c .before .before .before .before .before .before .before .before .before .before .before .look .kept .1 .1 .1 .1 .1 .1 .1 .1 .1 .1 .0 ∙ take-f t (c .before .before .before .before .before .before .before .before .before .before .before) .fire-at .kept .1 .1 .1 .1 .1 .1 .1 .0
 
 take-same-length-6 : (t : ℕ) → take-lts.Need-same-length-6 (take-claims t) (take-at t) take.Post
-take-same-length-6 t c = c .before .before .before .before .before .before .before .before .before .before .before .look .kept .1 .1 .1 .1 .1 .1 .1 .1 .1 .1 .0 ∙ length-set (now (take-s t (take-f t (c .before .before .before .before .before .before .before .before .before .before .before)) .args .path)) (take-s t (take-f t (c .before .before .before .before .before .before .before .before .before .before .before)) .args .n + c .before .before .before .before .before .before .before .before .before .before .before .before .before .before .before .before .before .before .before .before .before .before .before .before .before .before .before .before .before .before .before .before .args .k) (take-s t (take-f t (c .before .before .before .before .before .before .before .before .before .before .before)) .args .which)
+take-same-length-6 t c = c .before .before .before .before .before .before .before .before .before .before .before .look .kept .1 .1 .1 .1 .1 .1 .1 .1 .1 .1 .1 .0 ∙ length-set (now (take-s t (take-f t (c .before .before .before .before .before .before .before .before .before .before .before)) .args .path)) (take-s t (take-f t (c .before .before .before .before .before .before .before .before .before .before .before)) .args .n + c .before .before .before .before .before .before .before .before .before .before .before .before .before .before .before .before .before .before .before .before .before .before .before .before .before .before .before .before .before .before .before .before .before .args .k) (take-s t (take-f t (c .before .before .before .before .before .before .before .before .before .before .before)) .args .which)
 
 take-same-length-7 : (t : ℕ) → take-lts.Need-same-length-7 (take-claims t) (take-at t) take.Post
-take-same-length-7 t c = c .before .before .before .before .before .before .before .before .before .before .before .look .kept .1 .1 .1 .1 .1 .1 .1 .1 .1 .1 .1 .0
+take-same-length-7 t c = c .before .before .before .before .before .before .before .before .before .before .before .look .kept .1 .1 .1 .1 .1 .1 .1 .1 .1 .1 .1 .1 .0
 
 take-returns-4 : (t : ℕ) → take-lts.Need-returns-4 (take-claims t) (take-at t) take.Post
 take-returns-4 t c = step-none _ _ _ _ _ _ _ (take-which t (take-s t (take-f t (c .before .before .before .before .before .before .before .before .before .before .before)))) (take-stands t (take-s t (take-f t (c .before .before .before .before .before .before .before .before .before .before .before)))) _ (take-letter t (take-e t (take-f t (c .before .before .before .before .before .before .before .before .before .before .before)) .before .before .before .before)) (take-e t (take-f t (c .before .before .before .before .before .before .before .before .before .before .before)) .before .before .before .if1 .left) (take-passes t (take-e t (take-f t (c .before .before .before .before .before .before .before .before .before .before .before)))) _ (take-f t (c .before .before .before .before .before .before .before .before .before .before .before) .fire-at .ensures) (take-open t (take-e t (take-f t (c .before .before .before .before .before .before .before .before .before .before .before)))) _ _ _ _ (c .before .before .before .before .before .before .before .before .before .before .before .look .ensures) (c .before .before .before .before .if3 .left) _ (c .before .before .take-back .ensures)

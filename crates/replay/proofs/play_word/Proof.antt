@@ -7,10 +7,10 @@ use Rattle.replay.proofs.play_word.Statement.{statement}
 use Rattle.replay.proofs.play_word.Tie as tie
 
 abbrev Inv-loop : tie.InvT-loop
-Inv-loop places transitions pre post caps word marking₀ i₀ marking i = Running (netOf places transitions pre post caps) marking₀ word i marking
+Inv-loop places transitions pre post caps marks word marking₀ i₀ marking i = Running (netOf places transitions pre post caps marks) marking₀ word i marking
 
 abbrev μ-loop : tie.MeasureT-loop
-μ-loop places transitions pre post caps word marking₀ i₀ marking i = length word - i
+μ-loop places transitions pre post caps marks word marking₀ i₀ marking i = length word - i
 
 loop-holds : tie.Need-loop-holds Inv-loop μ-loop
 loop-holds c = search (runs, needs)

@@ -12,7 +12,7 @@ use Rattle.replay.proofs.replay_part.Statement.{statement}
 use Rattle.replay.proofs.replay_part.Tie as tie
 
 at : tie.Start → Net
-at s = netOf (s .args .places) (s .args .transitions) (now (s .args .pre)) (now (s .args .post)) (now (s .args .caps))
+at s = netOf (s .args .places) (s .args .transitions) (now (s .args .pre)) (now (s .args .post)) (now (s .args .caps)) (now (s .args .marks))
 
 abbrev start : tie.After-enum-told → tie.Start
 start c = search needs

@@ -12,7 +12,7 @@ use Rattle.sets.proofs.is_escape.Tie as tie
 
 -- the net at the function's entry, and the ends of its rows of this transition
 at : tie.Start → Net
-at s = netOf (s .args .places) (s .args .transitions) (now (s .args .pre)) (now (s .args .post)) (now (s .args .caps))
+at s = netOf (s .args .places) (s .args .transitions) (now (s .args .pre)) (now (s .args .post)) (now (s .args .caps)) (now (s .args .marks))
 
 pre-ends : (s : tie.Start) → s .args .t * s .args .places + s .args .places ≤ length (now (s .args .pre))
 unfolding at

@@ -7,10 +7,10 @@ use Rattle.sets.proofs.lowest_escape.Statement.{statement}
 use Rattle.sets.proofs.lowest_escape.Tie as tie
 
 abbrev Inv-loop : tie.InvT-loop
-Inv-loop places transitions pre post caps set t₀ t = (t ≤ transitions) × Below (escapes (netOf places transitions pre post caps) set) t
+Inv-loop places transitions pre post caps marks set t₀ t = (t ≤ transitions) × Below (escapes (netOf places transitions pre post caps marks) set) t
 
 abbrev μ-loop : tie.MeasureT-loop
-μ-loop places transitions pre post caps set t₀ t = transitions - t
+μ-loop places transitions pre post caps marks set t₀ t = transitions - t
 
 loop-holds : tie.Need-loop-holds Inv-loop μ-loop
 loop-holds c = search (scans, needs)

@@ -21,7 +21,7 @@ lowest-transition-requires c κs =
     let s : tie.Start = search needs in
     let f : tie.After-weighting-fault = search needs in
     let a = s .args in
-    let w = allowed-of (netOf (a .places) (a .transitions) (now (a .pre)) (now (a .post)) (now (a .caps))) (a .places) (now (a .y)) (sym (f .weighting-fault .ensures) ∙ search needs) in
+    let w = allowed-of (netOf (a .places) (a .transitions) (now (a .pre)) (now (a .post)) (now (a .caps)) (now (a .marks))) (a .places) (now (a .y)) (sym (f .weighting-fault .ensures) ∙ search needs) in
     (w .sized, w .long)
 
 returns : tie.Need-returns

@@ -37,8 +37,8 @@ weigh-requires c κs = search needs
 cast-divisor : tie.Need-cast-divisor
 cast-divisor c = search needs
 
-div-t19 : tie.Need-div-t19
-div-t19 c = search needs
+div-most : tie.Need-div-most
+div-most c = search needs
 
 returns-3 : tie.Need-returns-3
 returns-3 c =
@@ -69,6 +69,6 @@ find-bound-spec =
     up-entry-requires
     weigh-requires
     cast-divisor
-    div-t19
+    div-most
     returns-3
     returns-4)

@@ -21,7 +21,7 @@ find-bound-requires c κs =
     let s : tie.Start = search needs in
     let f : tie.After-bound-fault = search needs in
     let a = s .args in
-    let w = bound-allowed-of (netOf (a .places) (a .transitions) (now (a .pre)) (now (a .post)) (now (a .caps))) (now (a .initial)) (now (a .y)) (a .place) (sym (f .bound-fault .ensures) ∙ search needs) in
+    let w = bound-allowed-of (netOf (a .places) (a .transitions) (now (a .pre)) (now (a .post)) (now (a .caps)) (now (a .marks))) (now (a .initial)) (now (a .y)) (a .place) (sym (f .bound-fault .ensures) ∙ search needs) in
     (w .sized, (w .marked, (w .long, w .below)))
 
 returns : tie.Need-returns

@@ -9,13 +9,13 @@ lowest-failing-requires : tie.Need-lowest-failing-requires
 lowest-failing-requires c κs =
     let s : tie.Start = search needs in
     let a = s .args in
-    (search needs, rows-inside (netOf (a .places) (a .transitions) (now (a .pre)) (now (a .post)) (now (a .caps))) (s .pre .0) (now (a .y)) (s .pre .1))
+    (search needs, rows-inside (netOf (a .places) (a .transitions) (now (a .pre)) (now (a .post)) (now (a .caps)) (now (a .marks))) (s .pre .0) (now (a .y)) (s .pre .1))
 
 returns : tie.Need-returns
 returns c =
     let s : tie.Start = search needs in
     let a = s .args in
-    rows-first (netOf (a .places) (a .transitions) (now (a .pre)) (now (a .post)) (now (a .caps))) (now (a .y)) _ (s .pre .1) (c .lowest-failing .ensures)
+    rows-first (netOf (a .places) (a .transitions) (now (a .pre)) (now (a .post)) (now (a .caps)) (now (a .marks))) (now (a .y)) _ (s .pre .1) (c .lowest-failing .ensures)
 
 pub lowest-transition-spec : {M : Type 1} → statement M
 lowest-transition-spec = tie.close (tie.spec lowest-failing-requires returns)
