@@ -15,7 +15,8 @@ use borrow.Author.Tests.{lt-ltb, le-ltb, ltb-false, eqb-true, eq-eqb, not-true, 
 use Rattle.ground.specs.Limits.{countLimit, noCapacity}
 use Rattle.ground.specs.Lists.{table}
 use Rattle.ground.proofs.Tests.{never, and-true}
-use Rattle.net.specs.Net.{Net, riseOf, rise, capacity, Sized}
+use Rattle.net.specs.Net.{Net, riseOf, rise, capacity, mark, Sized}
+use Rattle.net.proofs.Rule.{force-capped}
 use Rattle.net.specs.Letter.{row}
 use Rattle.net.proofs.Rows.{row-at, row-end, row-length}
 use Rattle.refusals.specs.Given.{orElse, sizedNet, netFault, markedFault}
@@ -30,7 +31,7 @@ use Rattle.complement.specs.Entry.{Rooms, roomsOf, lengthsFit, netFits, 
 use Rattle.complement.specs.Walk.{Inside, takenFrom, putTo, tokensAt, newPre, newPost, tokensRow}
 use Rattle.complement.specs.declared.ComplementPlaces.the-variants as places
 use Rattle.complement.specs.declared.ComplementNet.the-variants.{Made, Refused}
-use Rattle.complement.proofs.Choice.{chosen-few, chosen-is, chosen-map}
+use Rattle.complement.proofs.Choice.{chosen-few, chosen-is, chosen-map, made-capped}
 use Rattle.complement.proofs.Written.{sources-front, by-sources, joined-same}
 
 -- which answer of refusal 10
@@ -85,9 +86,9 @@ module _ (net : Net) (initial : List ℕ) where
       go Sound p = never (sym (marked-met net initial false p .fitting))
       go (Faulty n at) p = p ∙ chain-first (markedFault net initial fits) (limitFault (complementPlaces net)) (markedFault net initial fits) n at refl (same ∙ p)
 
-  pub fault-later : (k a b c d : ℕ) (fit : Bool) (r : Fault) → k ≡ length (madePlaces net) → fit ≡ lengthsFit (net .transitions * (net .places + k)) (net .places + k) a b c d → r ≡ orElse (markedFault net initial fit) (limitFault (net .places + k)) → r ≡ complementFault net initial (netFits net a b c d)
+  pub fault-later : (k a b c d e : ℕ) (fit : Bool) (r : Fault) → k ≡ length (madePlaces net) → fit ≡ lengthsFit (net .transitions * (net .places + k)) (net .places + k) a b c d e → r ≡ orElse (markedFault net initial fit) (limitFault (net .places + k)) → r ≡ complementFault net initial (netFits net a b c d e)
   unfolding complementFault
-  fault-later k a b c d fit r ek ef er = er ∙ rw (ef, ek)
+  fault-later k a b c d e fit r ek ef er = er ∙ rw (ef, ek)
 
 pub ruleset faults = (fault-unsized, fault-later)
 
@@ -114,23 +115,23 @@ sourcesOf net = table (λ p. p) (net .places) ++ madePlaces net
 
 -- so written, the rows are those of the complement net
 module _ (net : Net) (sized : Sized net) (t : ℕ) (h : t < net .transitions) where
-  same-pre : newPre (net .places) (net .pre) (net .post) (sourcesOf net) t ≡ preRow net t
+  same-pre : newPre (net .places) (net .pre) (net .post) (net .marks) (sourcesOf net) t ≡ preRow net t
   same-pre =
       let takes = row (net .places) t (net .pre) in
       let puts = row (net .places) t (net .post) in
-      by-sources (λ b p. takenFrom b (getD takes p 0) (getD puts p 0)) (net .places) takes (madePlaces net) (row-length (net .places) t (net .pre) (rw (sized .pres) (row-end t (net .transitions) (net .places) h))) (λ p l. refl)
+      by-sources (λ b p. takenFrom b (mark net p) (getD takes p 0) (getD puts p 0)) (net .places) takes (madePlaces net) (row-length (net .places) t (net .pre) (rw (sized .pres) (row-end t (net .transitions) (net .places) h))) (λ p l. refl)
       ∙ ap (λ (l : List ℕ). takes ++ l)
-      (chosen-map (made net) (λ p. riseOf (getD takes p 0) (getD puts p 0)) (λ p. rise net p t) 0 (net .places)
-      (λ p b. let l : p < net .places = omega arith in rw (row-at (net .places) t (net .pre) p l, row-at (net .places) t (net .post) p l)))
+      (chosen-map (made net) (λ p. riseOf (mark net p) (getD takes p 0) (getD puts p 0)) (λ p. rise net p t) 0 (net .places)
+      (λ p b k. let l : p < net .places = omega arith in rw (row-at (net .places) t (net .pre) p l, row-at (net .places) t (net .post) p l, force-capped (capacity net p) (mark net p) (made-capped net p k))))
 
-  same-post : newPost (net .places) (net .pre) (net .post) (sourcesOf net) t ≡ postRow net t
+  same-post : newPost (net .places) (net .pre) (net .post) (net .marks) (sourcesOf net) t ≡ postRow net t
   same-post =
       let takes = row (net .places) t (net .pre) in
       let puts = row (net .places) t (net .post) in
-      by-sources (λ b p. putTo b (getD takes p 0) (getD puts p 0)) (net .places) puts (madePlaces net) (row-length (net .places) t (net .post) (rw (sized .posts) (row-end t (net .transitions) (net .places) h))) (λ p l. refl)
+      by-sources (λ b p. putTo b (mark net p) (getD takes p 0) (getD puts p 0)) (net .places) puts (madePlaces net) (row-length (net .places) t (net .post) (rw (sized .posts) (row-end t (net .transitions) (net .places) h))) (λ p l. refl)
       ∙ ap (λ (l : List ℕ). puts ++ l)
-      (chosen-map (made net) (λ p. fallOf (getD takes p 0) (getD puts p 0)) (λ p. fall net p t) 0 (net .places)
-      (λ p b. let l : p < net .places = omega arith in rw (row-at (net .places) t (net .pre) p l, row-at (net .places) t (net .post) p l)))
+      (chosen-map (made net) (λ p. fallOf (mark net p) (getD takes p 0) (getD puts p 0)) (λ p. fall net p t) 0 (net .places)
+      (λ p b k. let l : p < net .places = omega arith in rw (row-at (net .places) t (net .pre) p l, row-at (net .places) t (net .post) p l, force-capped (capacity net p) (mark net p) (made-capped net p k))))
 
 -- the rooms of an allowed question, and what was written into them; r has the sources at its front
 module _ (net : Net) (initial : List ℕ) (rooms : Rooms) (allowed : Allowed net initial rooms) where
@@ -179,14 +180,16 @@ module _ (net : Net) (initial : List ℕ) (rooms : Rooms) (allowed : Allowed net
     pub front-room : length (take (length (rooms .caps)) r) ≡ length (rooms .initial)
     front-room = sym front-count ∙ allowed .roomy .capped ∙ sym (allowed .roomy .initials)
 
-    pub written-of : (a b c d : List ℕ) → a ≡ joined (newPre (net .places) (net .pre) (net .post) (take (length (rooms .caps)) r)) (net .transitions) → b ≡ joined (newPost (net .places) (net .pre) (net .post) (take (length (rooms .caps)) r)) (net .transitions) → c ≡ table (λ p. noCapacity) (length (rooms .caps)) → d ≡ tokensRow (length (net .caps)) (net .caps) initial (take (length (rooms .caps)) r) → roomsOf a b c d ≡ written net initial
-    written-of a b c d ea eb ec ed =
+    pub written-of : (a b c k d : List ℕ) → a ≡ joined (newPre (net .places) (net .pre) (net .post) (net .marks) (take (length (rooms .caps)) r)) (net .transitions) → b ≡ joined (newPost (net .places) (net .pre) (net .post) (net .marks) (take (length (rooms .caps)) r)) (net .transitions) → c ≡ table (λ p. noCapacity) (length (rooms .caps)) → k ≡ table (λ p. 0) (length (rooms .marks)) → d ≡ tokensRow (length (net .caps)) (net .caps) initial (take (length (rooms .caps)) r) → roomsOf a b c k d ≡ written net initial
+    written-of a b c k d ea eb ec ek ed =
         rw (
           rw front at ea ∙ joined-same _ (preRow net) (net .transitions) (same-pre net (allowed .sized)),
           rw front at eb ∙ joined-same _ (postRow net) (net .transitions) (same-post net (allowed .sized)),
           ec,
+          ek,
           rw front at ed ∙ same-tokens,
           allowed .roomy .capped,
+          allowed .roomy .noted,
         )
 
 -- nothing is refused exactly where all that document 01 asks holds
@@ -196,10 +199,11 @@ module _ (net : Net) (rooms : Rooms) where
       let x = and-true (eqb (length (rooms .pre)) _) _ e in
       let y = and-true (eqb (length (rooms .post)) _) _ (x .1) in
       let z = and-true (eqb (length (rooms .caps)) _) _ (y .1) in
-      record { pres = eqb-true _ _ (x .0); posts = eqb-true _ _ (y .0); capped = eqb-true _ _ (z .0); initials = eqb-true _ _ (z .1) }
+      let u = and-true (eqb (length (rooms .marks)) _) _ (z .1) in
+      record { pres = eqb-true _ _ (x .0); posts = eqb-true _ _ (y .0); capped = eqb-true _ _ (z .0); noted = eqb-true _ _ (u .0); initials = eqb-true _ _ (u .1) }
 
   pub of-roomy : Roomy net rooms → roomsFit net rooms ≡ true
-  of-roomy r = rw (eq-eqb _ _ (r .pres), eq-eqb _ _ (r .posts), eq-eqb _ _ (r .capped), eq-eqb _ _ (r .initials))
+  of-roomy r = rw (eq-eqb _ _ (r .pres), eq-eqb _ _ (r .posts), eq-eqb _ _ (r .capped), eq-eqb _ _ (r .noted), eq-eqb _ _ (r .initials))
 
 module _ (net : Net) (initial : List ℕ) (rooms : Rooms) where
   pub allowed-of : complementFault net initial (roomsFit net rooms) ≡ Sound → Allowed net initial rooms

@@ -8,12 +8,12 @@ use native.Mathlib.Omega.{arith}
 use native.Mathlib.Decide.{decLt}
 use lib.ListN.{length, getD}
 use lib.Signed.{clashℤ}
-use Rattle.ground.proofs.Parts.{moved-lt}
-use Rattle.net.specs.Net.{Net, Pre, Post, capacity, tokens, Sized}
+use Rattle.net.specs.Net.{Net, capacity, mark, tokens, Sized}
 use Rattle.net.specs.Firing.{Within, ShortAt, OverAt, Names}
 use Rattle.net.specs.declared.Cause.{Cause}
 use Rattle.net.specs.declared.Cause.the-variants.{Short, Over}
 use Rattle.net.proofs.Meaning.{deterministic}
+use Rattle.net.proofs.Rule.{force-capped, level-lt}
 use Rattle.refusals.specs.First.{First, fails, holds, Counts, Lengths}
 use Rattle.replay.specs.Entry.{Replayed, Allowed as Replayable, Refusal, lettersFired, Longest}
 use Rattle.replay.specs.declared.Replay.{Replay}
@@ -40,9 +40,9 @@ module _ (net : Net) (sized : Sized net) (m m′ : List ℕ) (within : Within ne
   over-new j h =
       let p = getD (madePlaces net) j 0 in
       let c = made-cap net j h in
-      let x = moved-lt (tokens m p) (Post net p t) (Pre net p t) (capacity net p) in
+      let x = level-lt net m t p (capacity net p) in
       let w = within .at p (made-place net j h) c in
-      let a = pre-new net sized t named j h in
+      let a = rw (force-capped (capacity net p) (mark net p) c) at (pre-new net sized t named j h) in
       let b = related .new j h in
       (λ o. let y = x .0 (o .1) in omega arith, λ s. (c, x .1 (omega arith)))
 
@@ -53,8 +53,8 @@ module _ (net : Net) (sized : Sized net) (m m′ : List ℕ) (within : Within ne
       go : (b : Bool) → made net p ≡ b → (j : ℕ) × (j < length (madePlaces net)) × (getD (madePlaces net) j 0 ≡ p)
       go true q = chosen-has (made net) 0 (net .places) p (record { from = zero-le; below = omega arith; passes = q })
       go false q =
-          let x = moved-lt (tokens m p) (Post net p t) (Pre net p t) (capacity net p) .0 (o .1) in
-          let f = unmade-flat net p t named (o .0) q in
+          let x = level-lt net m t p (capacity net p) .0 (o .1) in
+          let f = rw (force-capped (capacity net p) (mark net p) (o .0)) at (unmade-flat net p t named (o .0) q) in
           let w = within .at p h (o .0) in
           absurd (omega arith)
 
@@ -103,7 +103,7 @@ refusal-same net net′ m m′ w within room room′ e a b n at =
     (both-hold (a .wired .places) (b .wired .places) (both-hold (a .wired .transitions) (b .wired .transitions) (λ x. rw e x)))))
   where
     lengths : {k : Net} {u v : List ℕ} → Ready k u v → within ≡ true → Lengths k ((length u ≡ k .places) × ((length v ≡ k .places) × (within ≡ true)))
-    lengths c i = record { pres = c .sized .pres; posts = c .sized .posts; capped = c .sized .capped; others = (c .marked, (c .roomy, i)) }
+    lengths c i = record { pres = c .sized .pres; posts = c .sized .posts; capped = c .sized .capped; noted = c .sized .noted; others = (c .marked, (c .roomy, i)) }
 
 -- two replays of one word, as `replay-same` has them
 module _ (net : Net) (initial : List ℕ) (rooms : Rooms) (allowed : Allowed net initial rooms) (w room room′ : List ℕ)

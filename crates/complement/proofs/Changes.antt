@@ -1,4 +1,4 @@
--- Which places some transition changes: the test says what the demand does, and a place that none changes keeps its tokens. Assumes nothing.
+-- Which places some transition changes: the test says what the demand does, and a place that none changes keeps its tokens; which get a new place, by the tests. Assumes nothing.
 use Prim.Native.Nat.{ℕ, _+_, _≤_, _<_}
 use mathlib.Core.Path.{_≡_, refl, sym, ap, _∙_}
 use mathlib.Core.Bool.{Bool, true, false, not}
@@ -7,25 +7,25 @@ use mathlib.Core.Logic.{_↔_}
 use native.Mathlib.Omega.{arith}
 use lib.Dec.{ltb, eqb}
 use lib.IntN.{pos}
-use borrow.Author.Tests.{ltb-true, ltb-false, lt-ltb, le-ltb, ne-eqb}
+use borrow.Author.Tests.{ltb-true, ltb-false, lt-ltb, le-ltb, ne-eqb, not-true, not-false}
 use Rattle.ground.specs.Limits.{noCapacity}
 use Rattle.ground.specs.Lists.{first}
 use Rattle.ground.specs.Parts.{up, dn}
 use Rattle.ground.proofs.Parts.{minus-is, up-sub, dn-sub, parts-eq}
 use Rattle.ground.proofs.Scan.{first-below, first-passes, first-found, Below, scan-hit, scan-end}
 use Rattle.ground.proofs.Tests.{never, unlike-false, like-false}
-use Rattle.net.specs.Net.{Net, Pre, Post, Change, capacity, tokens}
+use Rattle.net.specs.Net.{Net, Pre, Post, Change, capacity, mark, tokens}
 use Rattle.net.specs.Firing.{Fires, nothing, letter}
 use Rattle.net.proofs.Meaning.{gives-plain}
-use Rattle.complement.specs.Complement.{Changed, changeOf, changed, made}
+use Rattle.complement.specs.Complement.{Changed, changeOf, changed, pocketOf, made}
 
 pub unlike-true : (a b : ℕ) → not (eqb a b) ≡ true → a ≡ b → ⊥
 unlike-true a b e q = never (sym e ∙ like-false a b q)
 
 -- a test is the one asked for if it holds and fails where that does, however it is written
-pub change-is : (b : Bool) (takes puts : ℕ) → (b ≡ true → takes ≡ puts → ⊥) → (b ≡ false → takes ≡ puts) → b ≡ changeOf takes puts
-change-is true takes puts f g = sym (ap not (ne-eqb takes puts (f refl)))
-change-is false takes puts f g = sym (like-false takes puts (g refl))
+pub unlike-is : (t : Bool) (a b : ℕ) → (t ≡ true → a ≡ b → ⊥) → (t ≡ false → a ≡ b) → t ≡ not (eqb a b)
+unlike-is true a b f g = sym (ap not (ne-eqb a b (f refl)))
+unlike-is false a b f g = sym (like-false a b (g refl))
 
 module _ (net : Net) (p : ℕ) where
   -- whether transition t changes the place
@@ -90,14 +90,19 @@ module _ (net : Net) (p : ℕ) where
       untested true q = absurd (u (changed-means q))
       untested false q = q
 
--- which places get a new place, by the two tests' answers
+-- which places get a new place, by the three tests' answers
 module _ (net : Net) (p : ℕ) (r : Bool) (e : r ≡ ltb (capacity net p) noCapacity) where
-  pub made-both : (s : Bool) → r ≡ true → s ≡ changed net p → s ≡ made net p
+  pub made-never : not r ≡ true → false ≡ made net p
   unfolding made
-  made-both s q k = rw (sym e ∙ q) k
+  made-never q = rw (sym e ∙ not-true r q)
 
-  pub made-never : r ≡ false → false ≡ made net p
-  unfolding made
-  made-never q = rw (sym e ∙ q)
+  module _ (s : Bool) (q : not r ≡ false) (k : s ≡ pocketOf (mark net p)) where
+    pub made-always : s ≡ true → true ≡ made net p
+    unfolding made
+    made-always h = rw (sym e ∙ not-false r q, sym k ∙ h)
 
-pub ruleset mades = (made-both, made-never)
+    pub made-else : (u : Bool) → s ≡ false → u ≡ changed net p → u ≡ made net p
+    unfolding made
+    made-else u h l = rw (sym e ∙ not-false r q, sym k ∙ h) l
+
+pub ruleset mades = (made-never, made-always, made-else)

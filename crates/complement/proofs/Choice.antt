@@ -1,19 +1,21 @@
 -- Laws of the chosen numbers, for any test: how many, which, and where each stands among them; and those of the test in force. Assumes nothing.
 use Prim.Native.Nat.{ℕ, zero, suc, _+_, _≤_, _<_, zero-le, suc-le-suc}
-use mathlib.Core.Path.{_≡_, refl, sym, _∙_}
-use mathlib.Core.Bool.{Bool, true, false, cond}
+use mathlib.Core.Path.{_≡_, refl, sym, ap, _∙_}
+use mathlib.Core.Bool.{Bool, true, false, not, cond, _||_}
 use mathlib.Core.List.{List, [], _∷_, map}
 use mathlib.Core.Logic.{_⊎_, inl, inr, _↔_}
 use native.Mathlib.Omega.{arith}
 use native.Mathlib.Nat.{not-suc-le-zero, le-of-suc-le-suc, eq-or-lt-of-le}
 use lib.ListN.{length, getD}
 use lib.Dec.{ltb}
-use borrow.Author.Tests.{ltb-true, lt-ltb}
+use lib.Dec.{eqb}
+use borrow.Author.Tests.{ltb-true, lt-ltb, ne-eqb}
 use Rattle.ground.specs.Limits.{noCapacity}
-use Rattle.ground.proofs.Tests.{never, and-true}
-use Rattle.net.specs.Net.{Net, rise, capacity, Capped}
-use Rattle.complement.specs.Complement.{Changed, made, chosenFrom}
-use Rattle.complement.proofs.Changes.{unchanged-flat, changed-means, means-changed}
+use Rattle.ground.proofs.Tests.{never, and-true, or-false, unlike-false}
+use Rattle.net.specs.Net.{Net, Pre, rise, capacity, Capped, mark, Pocket}
+use Rattle.net.proofs.Rule.{leaves-plain, force-capped}
+use Rattle.complement.specs.Complement.{Changed, changed, pocketOf, made, chosenFrom}
+use Rattle.complement.proofs.Changes.{unlike-true, unchanged-flat, changed-means, means-changed}
 
 -- k is one of the n numbers from p on, and passes the test
 pub record Chosen (f : ℕ → Bool) (p n k : ℕ) : Type 0 where
@@ -73,14 +75,14 @@ module _ (f : ℕ → Bool) where
       go true (suc i) (suc j) ih h l = ih i j (le-of-suc-le-suc h) (le-of-suc-le-suc l)
       go false i j ih h l = ih i j h l
 
-  -- two functions that agree at the numbers agree over the chosen ones
-  pub chosen-map : (g h : ℕ → ℕ) (p n : ℕ) → ((k : ℕ) → k < p + n → g k ≡ h k) → map g (chosenFrom f p n) ≡ map h (chosenFrom f p n)
+  -- two functions that agree at the numbers that pass the test agree over the chosen ones
+  pub chosen-map : (g h : ℕ → ℕ) (p n : ℕ) → ((k : ℕ) → k < p + n → f k ≡ true → g k ≡ h k) → map g (chosenFrom f p n) ≡ map h (chosenFrom f p n)
   unfolding chosenFrom
   chosen-map g h p zero same = refl
   chosen-map g h p (suc n) same = go (f p) (same p (omega arith)) (chosen-map g h (suc p) n (λ k l. same k (omega arith)))
     where
-      go : (b : Bool) → g p ≡ h p → map g (chosenFrom f (suc p) n) ≡ map h (chosenFrom f (suc p) n) → map g (cond b (p ∷ chosenFrom f (suc p) n) (chosenFrom f (suc p) n)) ≡ map h (cond b (p ∷ chosenFrom f (suc p) n) (chosenFrom f (suc p) n))
-      go true e r = rw (e, r)
+      go : (b : Bool) → (b ≡ true → g p ≡ h p) → map g (chosenFrom f (suc p) n) ≡ map h (chosenFrom f (suc p) n) → map g (cond b (p ∷ chosenFrom f (suc p) n) (chosenFrom f (suc p) n)) ≡ map h (cond b (p ∷ chosenFrom f (suc p) n) (chosenFrom f (suc p) n))
+      go true e r = rw (e refl, r)
       go false e r = r
 
 -- g of each entry
@@ -89,25 +91,40 @@ map-at g [] j h = absurd (not-suc-le-zero h)
 map-at g (x ∷ l) zero h = refl
 map-at g (x ∷ l) (suc j) h = map-at g l j (le-of-suc-le-suc h)
 
--- The test in force, by what the theorems use of it: a new place stands for a place that has a capacity, and that some transition
--- changes,
+-- The test in force, by what the theorems use of it: a new place stands for a place that has a capacity, and that is a pocket or that
+-- some transition changes,
 pub made-capped : (net : Net) (p : ℕ) → made net p ≡ true → Capped net p
 unfolding made
 made-capped net p e = ltb-true (capacity net p) noCapacity (and-true _ _ e .0)
 
-pub made-changed : (net : Net) (p : ℕ) → made net p ≡ true → Changed net p
+pub made-wanted : (net : Net) (p : ℕ) → made net p ≡ true → Pocket net p ⊎ Changed net p
 unfolding made
-made-changed net p e = changed-means net p (and-true (ltb (capacity net p) noCapacity) _ e .1)
+made-wanted net p e = go (pocketOf (mark net p)) refl
+  where
+    wanted : (pocketOf (mark net p) || changed net p) ≡ true
+    wanted = and-true (ltb (capacity net p) noCapacity) _ e .1
+
+    go : (b : Bool) → pocketOf (mark net p) ≡ b → Pocket net p ⊎ Changed net p
+    go true q = inl (unlike-true (mark net p) 0 q)
+    go false q = inr (changed-means net p (rw q at wanted))
 
 -- each such place gets a new place,
-pub changed-made : (net : Net) (p : ℕ) → Capped net p → Changed net p → made net p ≡ true
+pub wanted-made : (net : Net) (p : ℕ) → Capped net p → Pocket net p ⊎ Changed net p → made net p ≡ true
 unfolding made
-changed-made net p c d = rw (lt-ltb (capacity net p) noCapacity c, means-changed net p d)
+wanted-made net p c (inl k) = rw (lt-ltb (capacity net p) noCapacity c, ne-eqb (mark net p) 0 k)
+wanted-made net p c (inr d) = rw (lt-ltb (capacity net p) noCapacity c, means-changed net p d) (go (pocketOf (mark net p)))
+  where
+    go : (b : Bool) → (b || true) ≡ true
+    go true = refl
+    go false = refl
 
-pub made-exactly : (net : Net) (p : ℕ) → made net p ≡ true ↔ (Capped net p × Changed net p)
-made-exactly net p = (λ e. (made-capped net p e, made-changed net p e), λ c. changed-made net p (c .0) (c .1))
+pub made-exactly : (net : Net) (p : ℕ) → made net p ≡ true ↔ (Capped net p × (Pocket net p ⊎ Changed net p))
+made-exactly net p = (λ e. (made-capped net p e, made-wanted net p e), λ c. wanted-made net p (c .0) (c .1))
 
--- and a place that has a capacity, but no new place, never rises
+-- and a place that has a capacity, but no new place, is plain and never rises
 pub unmade-flat : (net : Net) (p t : ℕ) → t < net .transitions → Capped net p → made net p ≡ false → rise net p t ≡ 0
 unfolding made
-unmade-flat net p t h c e = let x = unchanged-flat net p (rw (lt-ltb (capacity net p) noCapacity c) at e) t h in omega arith
+unmade-flat net p t h c e =
+    let k = or-false (pocketOf (mark net p)) (changed net p) (rw (lt-ltb (capacity net p) noCapacity c) at e) in
+    let z = unlike-false (mark net p) 0 (k .0) in
+    rw (force-capped (capacity net p) (mark net p) c, leaves-plain (mark net p) (Pre net p t) z) (omega (arith, unchanged-flat net p (k .1) t h))

@@ -10,9 +10,10 @@ use lib.ListN.{length, getD, drop, length-append, length-map, length-take, List�
 use lib.Seq.{getD-append-add}
 use Rattle.ground.specs.Limits.{noCapacity, weightLimit}
 use Rattle.ground.proofs.Fill.{table-at}
-use Rattle.net.specs.Net.{Net, Pre, Post, rise, Capped, Light, Sized}
+use Rattle.net.specs.Net.{Net, Pre, Post, inForce, rise, capacity, Capped, mark, Light, Sized}
 use Rattle.net.specs.Letter.{row, Small}
 use Rattle.net.proofs.Rows.{row-end, row-at, row-length}
+use Rattle.net.proofs.Rule.{leaves-most}
 use Rattle.complement.specs.Complement.{madePlaces, atMade, complementPlaces, fall, joined, preRow, postRow, complementNet}
 use Rattle.complement.proofs.Choice.{map-at}
 use Rattle.complement.proofs.Written.{row-then}
@@ -124,6 +125,10 @@ module _ (net : Net) (sized : Sized net) where
     pub post-new : (j : ℕ) → j < length (madePlaces net) → Post (complementNet net) (net .places + j) t ≡ fall net (getD (madePlaces net) j 0) t
     post-new j b = new-at (net .places) (net .transitions) (net .post) (madePlaces net) (λ t p. fall net p t) (sized .posts) t h j b
 
+-- the old place and its new place together keep their sum
+pub arcs-even : (net : Net) (p t : ℕ) → fall net p t + Post net p t ≡ rise net p t + Pre net p t
+arcs-even net p t = omega (arith, leaves-most (inForce (capacity net p) (mark net p)) (Pre net p t))
+
 -- "No capacities remain."
 pub never-capped : (net : Net) (p : ℕ) → p < complementPlaces net → Capped (complementNet net) p → ⊥
 never-capped net p h c = omega (arith, table-at (λ p. noCapacity) (complementPlaces net) p 0 h)
@@ -144,4 +149,4 @@ light-stays net l =
     post-row : (t : ℕ) → Small weightLimit (postRow net t)
     post-row t =
         both-small weightLimit _ _ (row-small weightLimit (net .places) t (net .post) (record { at = l .post }))
-        (map-small weightLimit (λ p. fall net p t) (madePlaces net) (λ p. omega (arith, l .pre (t * net .places + p))))
+        (map-small weightLimit (λ p. fall net p t) (madePlaces net) (λ p. omega (arith, l .pre (t * net .places + p), arcs-even net p t)))

@@ -6,3 +6,4 @@ pub mod Entries
 pub mod Meaning
 pub mod Blocks
 pub mod Promise
+pub mod Alike

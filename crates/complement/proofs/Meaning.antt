@@ -3,7 +3,7 @@ use Prim.Native.Nat.{ℕ, _+_, _-_, _≤_, _<_, zero-le}
 use mathlib.Core.Path.{_≡_, refl, sym, ap, _∙_}
 use mathlib.Core.Bool.{Bool, true, false}
 use mathlib.Core.List.{List}
-use mathlib.Core.Logic.{_↔_}
+use mathlib.Core.Logic.{_⊎_, inl, inr, _↔_}
 use native.Mathlib.Omega.{arith}
 use native.Mathlib.Decide.{decLt}
 use lib.ListN.{length, getD, length-append, length-map, List·getD-append, List·getD-eq-default}
@@ -13,11 +13,12 @@ use Rattle.ground.specs.Limits.{countLimit, noCapacity, tokenLimit}
 use Rattle.ground.specs.Parts.{up, dn}
 use Rattle.ground.proofs.Parts.{moved-is, up-sub, dn-sub, minus-is}
 use Rattle.ground.proofs.Fill.{table-length, table-at}
-use Rattle.net.specs.Net.{Net, Pre, Post, Change, rise, capacity, Capped, tokens, Sized}
+use Rattle.net.specs.Net.{Net, Pre, Post, Change, rise, capacity, Capped, mark, Pocket, tokens, Sized}
 use Rattle.net.specs.Firing.{Keeps, Enabled, Gives, Firing, Fires, nothing, letter, Within}
 use Rattle.net.specs.Letter.{firedAt}
 use Rattle.net.proofs.Judged.{gives-fired}
-use Rattle.net.proofs.Meaning.{keeps-rise, gives-plain, gives-one, firing-within}
+use Rattle.net.proofs.Meaning.{gives-plain, gives-one, firing-within}
+use Rattle.net.proofs.Rule.{leaves-plain, leaves-pocket, force-capped, keeps-rise}
 use Rattle.wiring.specs.Wired.{Arc, PlaceWired, TransitionWired, Wired}
 use Rattle.refusals.proofs.Exactly.{Chain, Reads, tells-test, reads-test, reads-both, reads-all, net-reads, marked-reads, Answers, fault-is, exactly-refused, is-answered, is-allowed}
 use Rattle.refusals.specs.Given.{Fine}
@@ -37,16 +38,24 @@ use Rattle.complement.specs.declared.ComplementNet.{ComplementNet}
 use Rattle.complement.specs.declared.ComplementNet.the-variants.{Made, Refused}
 use Rattle.complement.proofs.Changes.{zero-change}
 use Rattle.complement.proofs.Answers.{roomy-of, of-roomy, allowed-of, of-allowed, countable-of, of-countable}
-use Rattle.complement.proofs.Choice.{chosen-is, chosen-has, map-at, made-capped, made-changed, unmade-flat}
-use Rattle.complement.proofs.Entries.{pre-long, post-long, pre-old, post-old, pre-new, post-new, never-capped}
+use Rattle.complement.proofs.Choice.{chosen-is, chosen-has, map-at, made-capped, made-wanted, unmade-flat}
+use Rattle.complement.proofs.Entries.{pre-long, post-long, pre-old, post-old, pre-new, post-new, arcs-even, never-capped}
 
--- "Change > 0 becomes an arc from it": what is taken from a new place
-pub arc-from : (net : Net) (p t : ℕ) → rise net p t ≡ up (Change net p t)
-arc-from net p t = sym (ap up (minus-is (Post net p t) (Pre net p t)) ∙ up-sub (Post net p t) (Pre net p t))
+-- the arcs of the new place of p, which has a capacity, with t
+module _ (net : Net) (p t : ℕ) (c : Capped net p) where
+  -- of a plain place "Change > 0 becomes an arc from it": what is taken from it
+  pub arc-from : mark net p ≡ 0 → rise net p t ≡ up (Change net p t)
+  arc-from z = rw (force-capped (capacity net p) (mark net p) c, leaves-plain (mark net p) (Pre net p t) z) (sym (ap up (minus-is (Post net p t) (Pre net p t)) ∙ up-sub (Post net p t) (Pre net p t)))
 
--- "change < 0 an arc to it": what is put to it
-pub arc-to : (net : Net) (p t : ℕ) → fall net p t ≡ dn (Change net p t)
-arc-to net p t = let d = ap dn (minus-is (Post net p t) (Pre net p t)) ∙ dn-sub (Post net p t) (Pre net p t) in omega (arith, d)
+  -- "change < 0 an arc to it": what is put to it
+  pub arc-to : mark net p ≡ 0 → fall net p t ≡ dn (Change net p t)
+  arc-to z =
+      let d = ap dn (minus-is (Post net p t) (Pre net p t)) ∙ dn-sub (Post net p t) (Pre net p t) in
+      rw (force-capped (capacity net p) (mark net p) c, leaves-plain (mark net p) (Pre net p t) z) (omega (arith, d))
+
+  -- that of a pocket "has arcs of weight Post from it and of weight Pre to it"
+  pub pocket-arcs : Pocket net p → (rise net p t ≡ Post net p t) × (fall net p t ≡ Pre net p t)
+  pocket-arcs k = rw (force-capped (capacity net p) (mark net p) c, leaves-pocket (mark net p) (Pre net p t) k) (omega arith, omega arith)
 
 -- place q of the complement net: an old one, or the new place number j
 pub data Place (net : Net) (q : ℕ) : Type 0 where
@@ -60,7 +69,7 @@ place net q h = go (decLt q (net .places))
     go (yes b) = old b
     go (no n) = new (q - net .places) (omega arith) (omega arith)
 
--- the place that new place j stands for is one of the net's, has a capacity, and some transition changes it
+-- the place that new place j stands for is one of the net's, has a capacity, and is a pocket or some transition changes it
 module _ (net : Net) (j : ℕ) (h : j < length (madePlaces net)) where
   pub made-place : getD (madePlaces net) j 0 < net .places
   made-place = omega (arith, chosen-is (made net) 0 (net .places) j h .below)
@@ -68,8 +77,8 @@ module _ (net : Net) (j : ℕ) (h : j < length (madePlaces net)) where
   pub made-cap : Capped net (getD (madePlaces net) j 0)
   made-cap = made-capped net (getD (madePlaces net) j 0) (chosen-is (made net) 0 (net .places) j h .passes)
 
-  pub made-change : Changed net (getD (madePlaces net) j 0)
-  made-change = made-changed net (getD (madePlaces net) j 0) (chosen-is (made net) 0 (net .places) j h .passes)
+  pub made-why : Pocket net (getD (madePlaces net) j 0) ⊎ Changed net (getD (madePlaces net) j 0)
+  made-why = made-wanted net (getD (madePlaces net) j 0) (chosen-is (made net) 0 (net .places) j h .passes)
 
 -- a marking within capacities has one related marking, the one that is written
 module _ (net : Net) where
@@ -112,8 +121,8 @@ module _ (net : Net) (sized : Sized net) (m m′ : List ℕ) (within : Within ne
   enabled-from : Enabled (complementNet net) m′ t → Enabled net m t
   enabled-from e = record { covers = λ p h. omega (arith, pre-old net sized t named p h, related .old p h, e .covers p (omega arith)); keeps = λ p h. kept p h }
     where
-      -- there is room for the rise: the new place covers it; or there is none, since no transition changes the place, and then nothing
-      -- rises and the tokens are within the capacity as they are
+      -- there is room for the rise: the new place covers it; or there is none, since the place is plain and no transition changes it, and
+      -- then nothing rises and the tokens are within the capacity as they are
       room : (p : ℕ) → p < net .places → Capped net p → (b : Bool) → made net p ≡ b → tokens m p + rise net p t ≤ capacity net p
       room p h c true q =
           let f = chosen-has (made net) 0 (net .places) p (record { from = zero-le; below = omega arith; passes = q }) in
@@ -136,7 +145,7 @@ module _ (net : Net) (sized : Sized net) (m m′ : List ℕ) (within : Within ne
           omega (arith, pre-old net sized t named q h, post-old net sized t named q h, related .old q h, r .old q h, gives-plain g q h)
       go q (new j h eq) =
           rw eq
-          (omega (arith, pre-new net sized t named j h, post-new net sized t named j h, related .new j h, r .new j h, gives-plain g (getD (madePlaces net) j 0) (made-place net j h)))
+          (omega (arith, pre-new net sized t named j h, post-new net sized t named j h, arcs-even net (getD (madePlaces net) j 0) t, related .new j h, r .new j h, gives-plain g (getD (madePlaces net) j 0) (made-place net j h)))
 
   -- and it leads to related markings
   pub letter-to : (n : List ℕ) → Firing net m t n → (n′ : List ℕ) × Firing (complementNet net) m′ t n′ × Related net n n′
@@ -153,7 +162,7 @@ module _ (net : Net) (sized : Sized net) (m m′ : List ℕ) (within : Within ne
       (firedAt net t m, g, rw q at r)
 
 -- So a word fires in the one exactly when in the other, with the same marking on old places. Of a capped place without a new place the
--- complement net knows no limit, and needs none: no transition changes it, so it keeps its tokens (`unchanged-stays`), and those of the
+-- complement net knows no limit, and needs none: it is plain and no transition changes it, so it keeps its tokens (`unchanged-stays`), and those of the
 -- first marking are within its capacity (`Within`, which an initial marking that may be given has: `fine-within`).
 module _ (net : Net) (sized : Sized net) where
   pub word-to : {m w n : List ℕ} (m′ : List ℕ) → Within net m → Related net m m′ → Fires net m w n → (n′ : List ℕ) × Fires (complementNet net) m′ w n′ × Related net n n′
@@ -185,9 +194,11 @@ module _ (net : Net) (sized : Sized net) where
         pres = pre-long net sized;
         posts = post-long net sized;
         capped = table-length (λ p. noCapacity) (complementPlaces net);
+        noted = table-length (λ p. 0) (complementPlaces net);
       }
 
-  -- nothing hangs loose in it, where nothing did: a new place has an arc with each transition that changes the place it stands for
+  -- nothing hangs loose in it, where nothing did: a new place has an arc with each transition that changes the place it stands for, and
+  -- that of a pocket with each that has one with the pocket
   pub complement-wired : Wired net → Wired (complementNet net)
   complement-wired w = record { places = λ q h. go q (place net q h); transitions = λ t h. old-arc t h (w .transitions t h) }
     where
@@ -199,17 +210,22 @@ module _ (net : Net) (sized : Sized net) where
       go q (old b) =
           let a = w .places q b in
           record { transition = a .transition; named = a .named; arc = omega (arith, a .arc, pre-old net sized (a .transition) (a .named) q b, post-old net sized (a .transition) (a .named) q b) }
-      go q (new j b e) =
-          let c = made-change net j b in
-          rw e (record { transition = c .transition; named = c .named; arc = changed-arc j b c })
+      go q (new j b e) = rw e (new-arc (made-why net j b))
         where
-          changed-arc : (j : ℕ) (b : j < length (madePlaces net)) (c : Changed net (getD (madePlaces net) j 0)) → Arc (complementNet net) (net .places + j) (c .transition)
-          changed-arc j b c =
-              let p = getD (madePlaces net) j 0 in
+          p : ℕ
+          p = getD (madePlaces net) j 0
+
+          new-arc : Pocket net p ⊎ Changed net p → PlaceWired (complementNet net) (net .places + j)
+          new-arc (inl k) =
+              let a = w .places p (made-place net j b) in
+              let x = pre-new net sized (a .transition) (a .named) j b in
+              let y = post-new net sized (a .transition) (a .named) j b in
+              record { transition = a .transition; named = a .named; arc = omega (arith, a .arc, pocket-arcs net p (a .transition) (made-cap net j b) k) }
+          new-arc (inr c) =
               let x = pre-new net sized (c .transition) (c .named) j b in
               let y = post-new net sized (c .transition) (c .named) j b in
               let z : Pre net p (c .transition) ≡ Post net p (c .transition) → ⊥ = λ d. c .changes (zero-change net p (c .transition) .1 d) in
-              omega arith
+              record { transition = c .transition; named = c .named; arc = omega (arith, arcs-even net p (c .transition)) }
 
   module _ (m : List ℕ) (marked : length m ≡ net .places) (fine : Fine (net .caps) m) where
     pub fine-within : Within net m

@@ -3,12 +3,12 @@ use Prim.Native.Nat.{ℕ, _+_, _≤_, _<_, zero-le}
 use mathlib.Core.Path.{_≡_, refl, sym, ap, _∙_}
 use mathlib.Core.Bool.{Bool, true}
 use mathlib.Core.List.{List}
-use mathlib.Core.Logic.{_↔_}
+use mathlib.Core.Logic.{_⊎_, inl, inr, _↔_}
 use native.Mathlib.Omega.{arith}
 use lib.ListN.{length, getD}
 use Rattle.ground.specs.Limits.{noCapacity}
 use Rattle.ground.proofs.Fill.{table-length, table-at}
-use Rattle.net.specs.Net.{Net, Pre, Post, capacity, tokens}
+use Rattle.net.specs.Net.{Net, Pre, Post, capacity, Capped, mark, Pocket, tokens}
 use Rattle.net.specs.Firing.{Fires, Within}
 use Rattle.net.specs.declared.Cause.{Cause}
 use Rattle.net.specs.declared.Cause.the-variants.{Short, Over}
@@ -22,31 +22,41 @@ use Rattle.replay.proofs.Meaning.{answered-allowed as replayable, refused-exact
 use Rattle.complement.specs.Complement.{Changed, made, madePlaces, complementPlaces, complementNet, complementMarking, Related}
 use Rattle.complement.specs.Told.{Told, Countable}
 use Rattle.complement.specs.Entry.{Rooms, written, Complemented, Allowed}
-use Rattle.complement.specs.Held.{heldNet, OldPlace, NewPlace, ChangedInOrder, NewOf, Tied, TiedBlock, Ready, RoomsFor}
+use Rattle.complement.specs.Held.{heldNet, OldPlace, NewPlace, MadeInOrder, NewOf, Tied, TiedBlock, Ready, RoomsFor}
 use Rattle.complement.specs.declared.ComplementPlaces.{ComplementPlaces}
 use Rattle.complement.specs.declared.ComplementPlaces.the-variants.{Places}
 use Rattle.complement.specs.declared.ComplementNet.{ComplementNet}
 use Rattle.complement.specs.declared.ComplementNet.the-variants.{Made}
 use Rattle.complement.proofs.Changes.{loop-unchanged, unchanged-stays}
-use Rattle.complement.proofs.Choice.{chosen-has, chosen-order, changed-made}
+use Rattle.complement.proofs.Choice.{chosen-has, chosen-order, wanted-made}
 use Rattle.complement.proofs.Entries.{pre-old, post-old, pre-new, post-new}
-use Rattle.complement.proofs.Meaning.{arc-from, arc-to, made-place, made-cap, made-change, answered-allowed, allowed-made, fine-within, starts-related, sized-stays, fine-stays, word-to, word-from, replay-same, places-answered-allowed, places-told}
+use Rattle.complement.proofs.Meaning.{arc-from, arc-to, pocket-arcs, made-place, made-cap, made-why, answered-allowed, allowed-made, fine-within, starts-related, sized-stays, fine-stays, word-to, word-from, replay-same, places-answered-allowed, places-told}
 use Rattle.complement.proofs.Blocks.{refusal-same, answered-related, blocks-tied, blocks-tied-only}
 
--- "Each capped place, in order of number, gets a new place", if "some transition changes" it: these do, and no other
-pub made-in-order : (net : Net) → ChangedInOrder net (madePlaces net)
+-- "Each capped place, in order of number, gets a new place", if it is a pocket or "some transition changes" it: these do, and no other
+pub made-in-order : (net : Net) → MadeInOrder net (madePlaces net)
 made-in-order net =
     record {
       here = made-place net;
       capped = made-cap net;
-      changed = made-change net;
-      each = λ p h c d. chosen-has (made net) 0 (net .places) p (record { from = zero-le; below = omega arith; passes = changed-made net p c d });
+      wanted = made-why net;
+      each = λ p h c d. chosen-has (made net) 0 (net .places) p (record { from = zero-le; below = omega arith; passes = wanted-made net p c d });
       order = chosen-order (made net) 0 (net .places);
     }
 
--- a capped place that only loops touch, each of which puts back what it takes, gets none: it would hang loose
-pub loop-no-place : (net : Net) (p : ℕ) → ((t : ℕ) → t < net .transitions → Pre net p t ≡ Post net p t) → (q : ℕ) → NewOf net p q → ⊥
-loop-no-place net p same q x = loop-unchanged net p same (rw (← x .stands) (made-change net (x .number) (x .here)))
+-- a plain capped place that only loops touch, each of which puts back what it takes, gets none: it would hang loose
+pub loop-no-place : (net : Net) (p : ℕ) → mark net p ≡ 0 → ((t : ℕ) → t < net .transitions → Pre net p t ≡ Post net p t) → (q : ℕ) → NewOf net p q → ⊥
+loop-no-place net p plain same q x = go (rw (x .stands) at (made-why net (x .number) (x .here)))
+  where
+    go : Pocket net p ⊎ Changed net p → ⊥
+    go (inl k) = k plain
+    go (inr c) = loop-unchanged net p same c
+
+-- that of a capped pocket "is always made"
+pub pocket-place : (net : Net) (p : ℕ) → p < net .places → Capped net p → Pocket net p → (q : ℕ) × NewOf net p q
+pocket-place net p h c k =
+    let f = made-in-order net .each p h c (inl k) in
+    (net .places + f .0, record { number = f .0; here = f .1; stands = f .2; after = refl })
 
 -- a replay that fired or is blocked is no refusal
 fired-answered : {s : Replay} (k : ℕ) → s ≡ Fired k → (n at : ℕ) → s ≡ NotReplayed n at → ⊥
@@ -63,7 +73,7 @@ module _ (net : Net) (initial : List ℕ) (rooms : Rooms) (r : ComplementNet) (r
   rooms-are : rooms′ ≡ written net initial
   rooms-are = allowed-made net initial rooms r rooms′ promise made-allowed .1
 
-  -- the rooms hold the complement net, and the fourth its initial marking
+  -- the rooms hold the complement net, and the last its initial marking
   pub made-net : heldNet (net .transitions) rooms′ ≡ complementNet net
   made-net = rw (rooms-are, table-length (λ p. noCapacity) (complementPlaces net))
 
@@ -101,13 +111,17 @@ module _ (net : Net) (initial : List ℕ) (rooms : Rooms) (r : ComplementNet) (r
   held-has : (Q : Net → Type 0) → Q (complementNet net) → Q (heldNet (net .transitions) rooms′)
   held-has Q q = rw made-net q
 
-  -- the old places, and after them one for each capped place (`made-in-order`)
+  -- the old places, and after them those that are made (`made-in-order`)
   pub made-places : heldNet (net .transitions) rooms′ .places ≡ net .places + length (madePlaces net)
   made-places = held-has (λ k. k .places ≡ complementPlaces net) refl
 
   -- "No capacities remain."
   pub made-no-capacity : (q : ℕ) → q < heldNet (net .transitions) rooms′ .places → capacity (heldNet (net .transitions) rooms′) q ≡ noCapacity
   made-no-capacity = held-has (λ k. (q : ℕ) → q < k .places → capacity k q ≡ noCapacity) (λ q h. table-at (λ p. noCapacity) (complementPlaces net) q 0 h)
+
+  -- "The complement net's places are all plain."
+  pub made-plain : (q : ℕ) → q < heldNet (net .transitions) rooms′ .places → mark (heldNet (net .transitions) rooms′) q ≡ 0
+  made-plain = held-has (λ k. (q : ℕ) → q < k .places → mark k q ≡ 0) (λ q h. table-at (λ p. 0) (complementPlaces net) q 0 h)
 
   -- arcs and tokens of the old places are the net's
   pub made-old-places : (p : ℕ) → p < net .places → OldPlace net initial (heldNet (net .transitions) rooms′) (rooms′ .initial) p
@@ -117,13 +131,18 @@ module _ (net : Net) (initial : List ℕ) (rooms : Rooms) (r : ComplementNet) (r
 
   new-at : (j : ℕ) → j < length (madePlaces net) → NewPlace net initial (complementNet net) (complementMarking net initial) (getD (madePlaces net) j 0) (net .places + j)
   new-at j h =
+      let p = getD (madePlaces net) j 0 in
+      let c = made-cap net j h in
       record {
-        takes = λ t l. pre-new net (made-allowed .sized) t l j h ∙ arc-from net (getD (madePlaces net) j 0) t;
-        puts = λ t l. post-new net (made-allowed .sized) t l j h ∙ arc-to net (getD (madePlaces net) j 0) t;
+        takes = λ z t l. pre-new net (made-allowed .sized) t l j h ∙ arc-from net p t c z;
+        puts = λ z t l. post-new net (made-allowed .sized) t l j h ∙ arc-to net p t c z;
+        pocket-takes = λ k t l. pre-new net (made-allowed .sized) t l j h ∙ pocket-arcs net p t c k .0;
+        pocket-puts = λ k t l. post-new net (made-allowed .sized) t l j h ∙ pocket-arcs net p t c k .1;
         holds = start .new j h;
       }
 
-  -- "starting with capacity minus tokens. Change > 0 becomes an arc from it, change < 0 an arc to it."
+  -- "starting with capacity minus tokens. Change > 0 becomes an arc from it, change < 0 an arc to it."; a pocket's has "arcs of weight
+  -- Post from it and of weight Pre to it"
   pub made-new-places : (p q : ℕ) → NewOf net p q → NewPlace net initial (heldNet (net .transitions) rooms′) (rooms′ .initial) p q
   made-new-places p q x = rw (made-net, made-initial, x .after, ← x .stands) (new-at (x .number) (x .here))
 
@@ -270,10 +289,10 @@ module _ (net : Net) (r : ComplementPlaces) (promise : Told net r) (n : ℕ) (e 
         there : a ≡ Made → RoomsFor (net .transitions) n rooms
         there f =
             let y = made-allowed net initial rooms a rooms′ answer f .roomy in
-            rw (← told-is) (record { pres = y .pres; posts = y .posts; caps = y .capped; initials = y .initials })
+            rw (← told-is) (record { pres = y .pres; posts = y .posts; caps = y .capped; marks = y .noted; initials = y .initials })
 
         back : RoomsFor (net .transitions) n rooms → a ≡ Made
         back y =
             let z = rw (← told-is) at y in
             allowed-made net initial rooms a rooms′ answer
-            (record { sized = told-countable .sized; marked = marked; roomy = record { pres = z .pres; posts = z .posts; capped = z .caps; initials = z .initials }; fine = fine; wired = told-countable .wired; few = told-countable .few }) .0
+            (record { sized = told-countable .sized; marked = marked; roomy = record { pres = z .pres; posts = z .posts; capped = z .caps; noted = z .marks; initials = z .initials }; fine = fine; wired = told-countable .wired; few = told-countable .few }) .0

@@ -17,25 +17,26 @@ use Rattle.complement.specs.Told.{limitFault, LimitFirst}
 use Rattle.complement.specs.declared.ComplementNet.{ComplementNet}
 use Rattle.complement.specs.declared.ComplementNet.the-variants.{Made, Refused}
 
--- the lent rooms: for Pre, Post, the capacities and the initial marking
+-- the lent rooms: for Pre, Post, the capacities, the marks and the initial marking
 pub record Rooms : Type 0 where
   pub pre : List ℕ
   pub post : List ℕ
   pub caps : List ℕ
+  pub marks : List ℕ
   pub initial : List ℕ
 
-abbrev pub roomsOf : List ℕ → List ℕ → List ℕ → List ℕ → Rooms
-roomsOf pre post caps initial = record { pre = pre; post = post; caps = caps; initial = initial }
+abbrev pub roomsOf : List ℕ → List ℕ → List ℕ → List ℕ → List ℕ → Rooms
+roomsOf pre post caps marks initial = record { pre = pre; post = post; caps = caps; marks = marks; initial = initial }
 
 -- the rooms' lengths against T x P' and P', else refusal 2, even where that is over 64
-abbrev pub lengthsFit : ℕ → ℕ → ℕ → ℕ → ℕ → ℕ → Bool
-lengthsFit cells places pre post caps initial = eqb pre cells && (eqb post cells && (eqb caps places && eqb initial places))
+abbrev pub lengthsFit : ℕ → ℕ → ℕ → ℕ → ℕ → ℕ → ℕ → Bool
+lengthsFit cells places pre post caps marks initial = eqb pre cells && (eqb post cells && (eqb caps places && (eqb marks places && eqb initial places)))
 
-abbrev pub netFits : Net → ℕ → ℕ → ℕ → ℕ → Bool
-netFits net pre post caps initial = lengthsFit (net .transitions * complementPlaces net) (complementPlaces net) pre post caps initial
+abbrev pub netFits : Net → ℕ → ℕ → ℕ → ℕ → ℕ → Bool
+netFits net pre post caps marks initial = lengthsFit (net .transitions * complementPlaces net) (complementPlaces net) pre post caps marks initial
 
 abbrev pub roomsFit : Net → Rooms → Bool
-roomsFit net rooms = netFits net (length (rooms .pre)) (length (rooms .post)) (length (rooms .caps)) (length (rooms .initial))
+roomsFit net rooms = netFits net (length (rooms .pre)) (length (rooms .post)) (length (rooms .caps)) (length (rooms .marks)) (length (rooms .initial))
 
 -- 1, 2, 3 and 17 for the net and its initial marking, then 10
 unfoldable pub complementFault : Net → List ℕ → Bool → Fault
@@ -48,7 +49,7 @@ pub record Wrote : Type 0 where
 
 -- the complement net and its initial marking
 abbrev pub written : Net → List ℕ → Rooms
-written net initial = roomsOf (complementNet net .pre) (complementNet net .post) (complementNet net .caps) (complementMarking net initial)
+written net initial = roomsOf (complementNet net .pre) (complementNet net .post) (complementNet net .caps) (complementNet net .marks) (complementMarking net initial)
 
 -- "A refusal leaves lent memory as found."
 abbrev pub answered : Fault → Rooms → Rooms → Wrote
@@ -73,6 +74,7 @@ pub record Roomy (net : Net) (rooms : Rooms) : Type 0 where
   pub pres : length (rooms .pre) ≡ net .transitions * complementPlaces net
   pub posts : length (rooms .post) ≡ net .transitions * complementPlaces net
   pub capped : length (rooms .caps) ≡ complementPlaces net
+  pub noted : length (rooms .marks) ≡ complementPlaces net
   pub initials : length (rooms .initial) ≡ complementPlaces net
 
 -- all that document 01 asks of what is lent: nothing is refused exactly where this holds

@@ -13,7 +13,7 @@ ghost use Rattle.ground.specs.Limits.{countLimit, noCapacity};
 ghost use Rattle.ground.specs.Lists.{table};
 ghost use Rattle.net.specs.Net.{netOf, Sized};
 ghost use Rattle.refusals.specs.Given.{orElse, markedFault, Fine};
-ghost use Rattle.complement.specs.Complement.{changeOf, changed, made, madePlaces, complementPlaces, joined};
+ghost use Rattle.complement.specs.Complement.{changeOf, changed, pocketOf, made, madePlaces, complementPlaces, joined};
 ghost use Rattle.complement.specs.Told.{limitFault, Told};
 ghost use Rattle.complement.specs.Entry.{roomsOf, lengthsFit, netFits, complementFault, Complemented};
 ghost use Rattle.complement.specs.Walk.{Inside, takenFrom, putTo, tokensAt, takenRow, putRow, newPre, newPost, tokensRow};
@@ -44,11 +44,12 @@ fn is_changed(
     pre: &[Weight],
     post: &[Weight],
     caps: &[u16],
+    marks: &[u8],
     p: usize,
 ) -> bool
-    requires { ⌜ Sized (netOf places transitions (now pre) (now post) (now caps)) ⌝ }
+    requires { ⌜ Sized (netOf places transitions (now pre) (now post) (now caps) (now marks)) ⌝ }
     requires { ⌜ p < places ⌝ }
-    ensures { λ r. ⌜ r ≡ changed (netOf places transitions (now (pre .entry)) (now (post .entry)) (now (caps .entry))) p ⌝ }
+    ensures { λ r. ⌜ r ≡ changed (netOf places transitions (now (pre .entry)) (now (post .entry)) (now (caps .entry)) (now (marks .entry))) p ⌝ }
 {
     let mut t = 0;
     while t < transitions {
@@ -70,8 +71,15 @@ fn is_capped(cap: u16) -> bool
     cap < NO_CAPACITY
 }
 
-// Whether a place gets a complement place: it has a capacity, and some transition changes it, as its
-// complement place would hang loose otherwise. Here and in `made` alone stands which places do, so it
+// Whether a mark is a pocket's.
+fn is_pocket(mark: u8) -> bool
+    ensures { λ r. ⌜ r ≡ pocketOf mark ⌝ }
+{
+    mark != 0
+}
+
+// Whether a place gets a complement place: it has a capacity, and is a pocket, or some transition
+// changes it; that of another would hang loose. Here and in `made` alone stands which places do, so it
 // is lent the whole net.
 fn is_made(
     places: usize,
@@ -79,17 +87,22 @@ fn is_made(
     pre: &[Weight],
     post: &[Weight],
     caps: &[u16],
+    marks: &[u8],
     p: usize,
 ) -> bool
-    requires { ⌜ Sized (netOf places transitions (now pre) (now post) (now caps)) ⌝ }
+    requires { ⌜ Sized (netOf places transitions (now pre) (now post) (now caps) (now marks)) ⌝ }
     requires { ⌜ p < places ⌝ }
-    ensures { λ r. ⌜ r ≡ made (netOf places transitions (now (pre .entry)) (now (post .entry)) (now (caps .entry))) p ⌝ }
+    ensures { λ r. ⌜ r ≡ made (netOf places transitions (now (pre .entry)) (now (post .entry)) (now (caps .entry)) (now (marks .entry))) p ⌝ }
 {
     let cap = caps[p];
-    if is_capped(cap) {
-        return is_changed(places, transitions, pre, post, caps, p);
+    let mark = marks[p];
+    if !is_capped(cap) {
+        return false;
     }
-    false
+    if is_pocket(mark) {
+        return true;
+    }
+    is_changed(places, transitions, pre, post, caps, marks, p)
 }
 
 // How many places get one.
@@ -99,14 +112,15 @@ fn count_made(
     pre: &[Weight],
     post: &[Weight],
     caps: &[u16],
+    marks: &[u8],
 ) -> usize
-    requires { ⌜ Sized (netOf places transitions (now pre) (now post) (now caps)) ⌝ }
-    ensures { λ r. ⌜ r ≡ length (madePlaces (netOf places transitions (now (pre .entry)) (now (post .entry)) (now (caps .entry)))) ⌝ }
+    requires { ⌜ Sized (netOf places transitions (now pre) (now post) (now caps) (now marks)) ⌝ }
+    ensures { λ r. ⌜ r ≡ length (madePlaces (netOf places transitions (now (pre .entry)) (now (post .entry)) (now (caps .entry)) (now (marks .entry)))) ⌝ }
 {
     let mut count: usize = 0;
     let mut p = 0;
     while p < places {
-        if is_made(places, transitions, pre, post, caps, p) {
+        if is_made(places, transitions, pre, post, caps, marks, p) {
             count += 1;
         }
         p += 1;
@@ -135,16 +149,17 @@ fn find_sources(
     pre: &[Weight],
     post: &[Weight],
     caps: &[u16],
+    marks: &[u8],
 ) -> [usize; COUNT_LIMIT]
-    requires { ⌜ Sized (netOf places transitions (now pre) (now post) (now caps)) ⌝ }
-    requires { ⌜ complementPlaces (netOf places transitions (now pre) (now post) (now caps)) ≤ countLimit ⌝ }
-    ensures { λ r. ⌜ r ≡ sets (table (λ p. p) countLimit) places (madePlaces (netOf places transitions (now (pre .entry)) (now (post .entry)) (now (caps .entry)))) ⌝ }
+    requires { ⌜ Sized (netOf places transitions (now pre) (now post) (now caps) (now marks)) ⌝ }
+    requires { ⌜ complementPlaces (netOf places transitions (now pre) (now post) (now caps) (now marks)) ≤ countLimit ⌝ }
+    ensures { λ r. ⌜ r ≡ sets (table (λ p. p) countLimit) places (madePlaces (netOf places transitions (now (pre .entry)) (now (post .entry)) (now (caps .entry)) (now (marks .entry)))) ⌝ }
 {
     let mut sources = own_places();
     let mut at = places;
     let mut p = 0;
     while p < places {
-        if is_made(places, transitions, pre, post, caps, p) {
+        if is_made(places, transitions, pre, post, caps, marks, p) {
             sources[at] = p;
             at += 1;
         }
@@ -154,50 +169,54 @@ fn find_sources(
 }
 
 // What a transition takes from place q: as before from an old one, its rise from a new one.
-fn taken_from(q: usize, places: usize, takes: Weight, puts: Weight) -> Weight
-    ensures { λ r. ⌜ r ≡ takenFrom (ltb q places) takes puts ⌝ }
+fn taken_from(q: usize, places: usize, mark: u8, takes: Weight, puts: Weight) -> Weight
+    ensures { λ r. ⌜ r ≡ takenFrom (ltb q places) mark takes puts ⌝ }
 {
     if q < places {
         return takes;
     }
-    net::rise(takes, puts)
+    net::rise(mark, takes, puts)
 }
 
 // What it puts to place q: as before to an old one; to a new one its rise, and what it takes above
 // what it puts. So subtracted, no sum is above a weight.
-fn put_to(q: usize, places: usize, takes: Weight, puts: Weight) -> Weight
-    ensures { λ r. ⌜ r ≡ putTo (ltb q places) takes puts ⌝ }
+fn put_to(q: usize, places: usize, mark: u8, takes: Weight, puts: Weight) -> Weight
+    ensures { λ r. ⌜ r ≡ putTo (ltb q places) mark takes puts ⌝ }
 {
     if q < places {
         return puts;
     }
-    let rises = net::rise(takes, puts);
+    let rises = net::rise(mark, takes, puts);
     takes - (puts - rises)
 }
 
-// One transition's weights at all places, into the rooms for Pre and Post from `to` on.
+// One transition's weights at all places, into the rooms for Pre and Post from `to` on. A new place
+// stands for one with a capacity, whose mark is in force as it is.
 fn write_row(
     takes: &[Weight],
     puts: &[Weight],
+    marks: &[u8],
     sources: &[usize],
     to: usize,
     pre2: &mut [Weight],
     post2: &mut [Weight],
 )
     requires { ⌜ length (now takes) ≡ length (now puts) ⌝ }
+    requires { ⌜ length (now marks) ≡ length (now puts) ⌝ }
     requires { ⌜ Inside (length (now puts)) (now sources) ⌝ }
     requires { ⌜ to + length (now sources) ≤ length (now pre2) ⌝ }
     requires { ⌜ to + length (now sources) ≤ length (now post2) ⌝ }
-    ensures { λ r. ⌜ now (pre2 .exit) ≡ sets (now (pre2 .entry)) to (takenRow (length (now (puts .entry))) (now (takes .entry)) (now (puts .entry)) (now (sources .entry))) ⌝ }
-    ensures { λ r. ⌜ now (post2 .exit) ≡ sets (now (post2 .entry)) to (putRow (length (now (puts .entry))) (now (takes .entry)) (now (puts .entry)) (now (sources .entry))) ⌝ }
+    ensures { λ r. ⌜ now (pre2 .exit) ≡ sets (now (pre2 .entry)) to (takenRow (length (now (puts .entry))) (now (takes .entry)) (now (puts .entry)) (now (marks .entry)) (now (sources .entry))) ⌝ }
+    ensures { λ r. ⌜ now (post2 .exit) ≡ sets (now (post2 .entry)) to (putRow (length (now (puts .entry))) (now (takes .entry)) (now (puts .entry)) (now (marks .entry)) (now (sources .entry))) ⌝ }
 {
     let mut q = 0;
     while q < sources.len() {
         let p = sources[q];
         let taken = takes[p];
         let put = puts[p];
-        pre2[to + q] = taken_from(q, puts.len(), taken, put);
-        post2[to + q] = put_to(q, puts.len(), taken, put);
+        let mark = marks[p];
+        pre2[to + q] = taken_from(q, puts.len(), mark, taken, put);
+        post2[to + q] = put_to(q, puts.len(), mark, taken, put);
         q += 1;
     }
 }
@@ -208,24 +227,34 @@ fn write_rows(
     transitions: usize,
     pre: &[Weight],
     post: &[Weight],
+    marks: &[u8],
     sources: &[usize],
     pre2: &mut [Weight],
     post2: &mut [Weight],
 )
     requires { ⌜ length (now pre) ≡ transitions * places ⌝ }
     requires { ⌜ length (now post) ≡ transitions * places ⌝ }
+    requires { ⌜ length (now marks) ≡ places ⌝ }
     requires { ⌜ Inside places (now sources) ⌝ }
     requires { ⌜ length (now pre2) ≡ transitions * length (now sources) ⌝ }
     requires { ⌜ length (now post2) ≡ transitions * length (now sources) ⌝ }
-    ensures { λ r. ⌜ now (pre2 .exit) ≡ joined (newPre places (now (pre .entry)) (now (post .entry)) (now (sources .entry))) transitions ⌝ }
-    ensures { λ r. ⌜ now (post2 .exit) ≡ joined (newPost places (now (pre .entry)) (now (post .entry)) (now (sources .entry))) transitions ⌝ }
+    ensures { λ r. ⌜ now (pre2 .exit) ≡ joined (newPre places (now (pre .entry)) (now (post .entry)) (now (marks .entry)) (now (sources .entry))) transitions ⌝ }
+    ensures { λ r. ⌜ now (post2 .exit) ≡ joined (newPost places (now (pre .entry)) (now (post .entry)) (now (marks .entry)) (now (sources .entry))) transitions ⌝ }
 {
     let wide = sources.len();
     let mut t = 0;
     while t < transitions {
         let a = t * places;
         let e = a + places;
-        write_row(&pre[a..e], &post[a..e], sources, t * wide, pre2, post2);
+        write_row(
+            &pre[a..e],
+            &post[a..e],
+            marks,
+            sources,
+            t * wide,
+            pre2,
+            post2,
+        );
         t += 1;
     }
 }
@@ -238,6 +267,17 @@ fn write_caps(room: &mut [u16])
     while p < room.len() {
         room[p] = NO_CAPACITY;
         p += 1;
+    }
+}
+
+// Every place plain.
+fn write_marks(room: &mut [u8])
+    ensures { λ r. ⌜ now (room .exit) ≡ table (λ p. 0) (length (now (room .entry))) ⌝ }
+{
+    let mut q = 0;
+    while q < room.len() {
+        room[q] = 0;
+        q += 1;
     }
 }
 
@@ -277,9 +317,10 @@ fn is_fitting(
     pre: usize,
     post: usize,
     caps: usize,
+    marks: usize,
     initial: usize,
 ) -> bool
-    ensures { λ r. ⌜ r ≡ lengthsFit cells wide pre post caps initial ⌝ }
+    ensures { λ r. ⌜ r ≡ lengthsFit cells wide pre post caps marks initial ⌝ }
 {
     if pre != cells {
         return false;
@@ -288,6 +329,9 @@ fn is_fitting(
         return false;
     }
     if caps != wide {
+        return false;
+    }
+    if marks != wide {
         return false;
     }
     initial == wide
@@ -311,13 +355,14 @@ fn later_fault(
     pre: &[Weight],
     post: &[Weight],
     caps: &[u16],
+    marks: &[u8],
     initial: &[u16],
     wide: usize,
     fits: bool,
 ) -> Fault
-    ensures { λ r. ⌜ r ≡ orElse (markedFault (netOf places transitions (now (pre .entry)) (now (post .entry)) (now (caps .entry))) (now (initial .entry)) fits) (limitFault wide) ⌝ }
+    ensures { λ r. ⌜ r ≡ orElse (markedFault (netOf places transitions (now (pre .entry)) (now (post .entry)) (now (caps .entry)) (now (marks .entry))) (now (initial .entry)) fits) (limitFault wide) ⌝ }
 {
-    let found = refusals::marked_fault(places, transitions, pre, post, caps, initial, fits);
+    let found = refusals::marked_fault(places, transitions, pre, post, caps, marks, initial, fits);
     match found {
         Fault::Faulty(number, at) => Fault::Faulty(number, at),
         Fault::Sound => limit_fault(wide),
@@ -333,22 +378,34 @@ fn find_fault(
     pre: &[Weight],
     post: &[Weight],
     caps: &[u16],
+    marks: &[u8],
     initial: &[u16],
     pres: usize,
     posts: usize,
     capacities: usize,
+    noted: usize,
     initials: usize,
 ) -> Fault
-    ensures { λ r. ⌜ r ≡ complementFault (netOf places transitions (now (pre .entry)) (now (post .entry)) (now (caps .entry))) (now (initial .entry)) (netFits (netOf places transitions (now (pre .entry)) (now (post .entry)) (now (caps .entry))) pres posts capacities initials) ⌝ }
+    ensures { λ r. ⌜ r ≡ complementFault (netOf places transitions (now (pre .entry)) (now (post .entry)) (now (caps .entry)) (now (marks .entry))) (now (initial .entry)) (netFits (netOf places transitions (now (pre .entry)) (now (post .entry)) (now (caps .entry)) (now (marks .entry))) pres posts capacities noted initials) ⌝ }
 {
-    if !refusals::is_sized(places, transitions, pre, post, caps) {
-        return refusals::marked_fault(places, transitions, pre, post, caps, initial, false);
+    if !refusals::is_sized(places, transitions, pre, post, caps, marks) {
+        return refusals::marked_fault(places, transitions, pre, post, caps, marks, initial, false);
     }
-    let count = count_made(places, transitions, pre, post, caps);
+    let count = count_made(places, transitions, pre, post, caps, marks);
     let wide = places + count;
     let cells = transitions * wide;
-    let fits = is_fitting(cells, wide, pres, posts, capacities, initials);
-    later_fault(places, transitions, pre, post, caps, initial, wide, fits)
+    let fits = is_fitting(cells, wide, pres, posts, capacities, noted, initials);
+    later_fault(
+        places,
+        transitions,
+        pre,
+        post,
+        caps,
+        marks,
+        initial,
+        wide,
+        fits,
+    )
 }
 
 // How many places the complement net of a net has.
@@ -358,14 +415,15 @@ pub fn complement_places(
     pre: &[Weight],
     post: &[Weight],
     caps: &[u16],
+    marks: &[u8],
 ) -> ComplementPlaces
-    ensures { λ r. ⌜ Told (netOf places transitions (now (pre .entry)) (now (post .entry)) (now (caps .entry))) r ⌝ }
+    ensures { λ r. ⌜ Told (netOf places transitions (now (pre .entry)) (now (post .entry)) (now (caps .entry)) (now (marks .entry))) r ⌝ }
 {
-    let found = refusals::net_fault(places, transitions, pre, post, caps, true);
+    let found = refusals::net_fault(places, transitions, pre, post, caps, marks, true);
     match found {
         Fault::Faulty(number, at) => ComplementPlaces::Refused(number, at),
         Fault::Sound => {
-            let count = count_made(places, transitions, pre, post, caps);
+            let count = count_made(places, transitions, pre, post, caps, marks);
             let wide = places + count;
             let limit = limit_fault(wide);
             match limit {
@@ -377,20 +435,22 @@ pub fn complement_places(
 }
 
 // The complement net of a net and its initial marking, written into rooms of exactly its lengths:
-// Pre and Post, the capacities, the initial marking. A refusal leaves every room as found.
+// Pre and Post, the capacities, the marks, the initial marking. A refusal leaves every room as found.
 pub fn complement_net(
     places: usize,
     transitions: usize,
     pre: &[Weight],
     post: &[Weight],
     caps: &[u16],
+    marks: &[u8],
     initial: &[u16],
     pre2: &mut [Weight],
     post2: &mut [Weight],
     caps2: &mut [u16],
+    marks2: &mut [u8],
     initial2: &mut [u16],
 ) -> ComplementNet
-    ensures { λ r. ⌜ Complemented (netOf places transitions (now (pre .entry)) (now (post .entry)) (now (caps .entry))) (now (initial .entry)) (roomsOf (now (pre2 .entry)) (now (post2 .entry)) (now (caps2 .entry)) (now (initial2 .entry))) r (roomsOf (now (pre2 .exit)) (now (post2 .exit)) (now (caps2 .exit)) (now (initial2 .exit))) ⌝ }
+    ensures { λ r. ⌜ Complemented (netOf places transitions (now (pre .entry)) (now (post .entry)) (now (caps .entry)) (now (marks .entry))) (now (initial .entry)) (roomsOf (now (pre2 .entry)) (now (post2 .entry)) (now (caps2 .entry)) (now (marks2 .entry)) (now (initial2 .entry))) r (roomsOf (now (pre2 .exit)) (now (post2 .exit)) (now (caps2 .exit)) (now (marks2 .exit)) (now (initial2 .exit))) ⌝ }
 {
     let found = find_fault(
         places,
@@ -398,27 +458,31 @@ pub fn complement_net(
         pre,
         post,
         caps,
+        marks,
         initial,
         pre2.len(),
         post2.len(),
         caps2.len(),
+        marks2.len(),
         initial2.len(),
     );
     match found {
         Fault::Faulty(number, at) => ComplementNet::Refused(number, at),
         Fault::Sound => {
             let wide = caps2.len();
-            let sources = find_sources(places, transitions, pre, post, caps);
+            let sources = find_sources(places, transitions, pre, post, caps, marks);
             write_rows(
                 places,
                 transitions,
                 pre,
                 post,
+                marks,
                 &sources[..wide],
                 pre2,
                 post2,
             );
             write_caps(caps2);
+            write_marks(marks2);
             write_tokens(caps, initial, &sources[..wide], initial2);
             ComplementNet::Made
         }

@@ -8,24 +8,31 @@ use Rattle.complement.proofs.complement_net.Statement.{statement}
 use Rattle.complement.proofs.complement_net.Tie as tie
 
 abbrev net : tie.Start → Net
-net s = netOf (s .args .places) (s .args .transitions) (now (s .args .pre)) (now (s .args .post)) (now (s .args .caps))
+net s = netOf (s .args .places) (s .args .transitions) (now (s .args .pre)) (now (s .args .post)) (now (s .args .caps)) (now (s .args .marks))
 
 abbrev rooms : tie.Start → Rooms
-rooms s = roomsOf (now (s .args .pre2)) (now (s .args .post2)) (now (s .args .caps2)) (now (s .args .initial2))
+rooms s = roomsOf (now (s .args .pre2)) (now (s .args .post2)) (now (s .args .caps2)) (now (s .args .marks2)) (now (s .args .initial2))
 
 -- the way back from the end to what was written
-abbrev wrote-tokens : tie.After-slice-known8 → tie.After-write-tokens
+abbrev wrote-tokens : tie.After-slice-known10 → tie.After-write-tokens
 wrote-tokens c = c .before .before
 
-abbrev wrote-caps : tie.After-slice-known8 → tie.After-write-caps
-wrote-caps c = wrote-tokens c .before .before .before .before .before
+abbrev wrote-marks : tie.After-slice-known10 → tie.After-write-marks
+wrote-marks c = wrote-tokens c .before .before .before .before .before
 
-abbrev wrote-rows : tie.After-slice-known8 → tie.After-write-rows
+abbrev wrote-caps : tie.After-slice-known10 → tie.After-write-caps
+wrote-caps c = wrote-marks c .before .before .before .before
+
+abbrev wrote-rows : tie.After-slice-known10 → tie.After-write-rows
 wrote-rows c = wrote-caps c .before .before .before .before .before .before
 
 -- where nothing was found
 abbrev start : tie.After-enum-told → tie.Start
-start g = g .before .before .before .before .before .before .before .before .before .before .before
+start g = g .before .before .before .before .before .before .before .before .before .before .before .before .before
+
+-- the sources, where the rooms for the net are written
+abbrev found : tie.After-slice-known9 → tie.After-find-sources
+found c = c .before .before .before .before .before .before .before .before .before .before .before .before .before .before .before .before
 
 allowed : (g : tie.After-enum-told) → Allowed (net (start g)) (now (start g .args .initial)) (rooms (start g))
 allowed g =
@@ -61,23 +68,26 @@ write-rows-requires c κs =
     let al = allowed (k .before) in
     let e = k .find-sources .ensures in
     let m = now (s .args .initial) in
-    (al .sized .pres, (al .sized .posts, (front-inside (net s) m (rooms s) al _ e, (pre-cells (net s) m (rooms s) al _ e, post-cells (net s) m (rooms s) al _ e))))
+    (al .sized .pres, (al .sized .posts, (al .sized .noted, (front-inside (net s) m (rooms s) al _ e, (pre-cells (net s) m (rooms s) al _ e, post-cells (net s) m (rooms s) al _ e)))))
 
 write-caps-requires : tie.Need-write-caps-requires
 write-caps-requires c κs = search needs
 
+write-marks-requires : tie.Need-write-marks-requires
+write-marks-requires c κs = search needs
+
 array-share-prefix-sources-2 : tie.Need-array-share-prefix-sources-2
-array-share-prefix-sources-2 c = let a = allowed (c .before .before .before .before .before .before .before .before .before .before .before .before .before) in omega (arith, a .roomy .capped, a .few)
+array-share-prefix-sources-2 c = let a = allowed (found c .before) in omega (arith, a .roomy .capped, a .few)
 
 slice-aggregate-write-tokens : tie.Need-slice-aggregate-write-tokens
 slice-aggregate-write-tokens c =
-    let k : tie.After-find-sources = c .before .before .before .before .before .before .before .before .before .before .before .before .before in
+    let k : tie.After-find-sources = found (c .before) in
     let s : tie.Start = start (k .before) in
     front-count (net s) (now (s .args .initial)) (rooms s) (allowed (k .before)) _ (k .find-sources .ensures)
 
 write-tokens-requires : tie.Need-write-tokens-requires
 write-tokens-requires c κs =
-    let k : tie.After-find-sources = c .before .before .before .before .before .before .before .before .before .before .before .before .before .before in
+    let k : tie.After-find-sources = found (c .before .before) in
     let s : tie.Start = start (k .before) in
     let al = allowed (k .before) in
     let e = k .find-sources .ensures in
@@ -88,16 +98,19 @@ returns : tie.Need-returns
 returns c = search (complementeds, needs)
 
 same-length : tie.Need-same-length
-same-length c = wrote-rows c .write-rows .kept .1 .1 .1 .1 .1 .0
+same-length c = wrote-rows c .write-rows .kept .1 .1 .1 .1 .1 .1 .0
 
 same-length-2 : tie.Need-same-length-2
-same-length-2 c = wrote-rows c .write-rows .kept .1 .1 .1 .1 .1 .1 .0
+same-length-2 c = wrote-rows c .write-rows .kept .1 .1 .1 .1 .1 .1 .1 .0
 
 same-length-3 : tie.Need-same-length-3
 same-length-3 c = wrote-caps c .write-caps .kept .0
 
 same-length-4 : tie.Need-same-length-4
-same-length-4 c = wrote-tokens c .write-tokens .kept .1 .1 .1 .0
+same-length-4 c = wrote-marks c .write-marks .kept .0
+
+same-length-5 : tie.Need-same-length-5
+same-length-5 c = wrote-tokens c .write-tokens .kept .1 .1 .1 .0
 
 returns-2 : tie.Need-returns-2
 returns-2 c =
@@ -107,7 +120,7 @@ returns-2 c =
     let s : tie.Start = start g in
     let m = now (s .args .initial) in
     net-made (net s) m (rooms s) _ (f .find-fault .ensures) _ (search needs)
-    (written-of (net s) m (rooms s) (allowed g) _ (k .find-sources .ensures) _ _ _ _ (wrote-rows c .write-rows .ensures .0) (wrote-rows c .write-rows .ensures .1) (wrote-caps c .write-caps .ensures) (wrote-tokens c .write-tokens .ensures))
+    (written-of (net s) m (rooms s) (allowed g) _ (k .find-sources .ensures) _ _ _ _ _ (wrote-rows c .write-rows .ensures .0) (wrote-rows c .write-rows .ensures .1) (wrote-caps c .write-caps .ensures) (wrote-marks c .write-marks .ensures) (wrote-tokens c .write-tokens .ensures))
 
 pub complement-net-spec : {M : Type 1} → statement M
 complement-net-spec =
@@ -121,6 +134,7 @@ complement-net-spec =
     slice-aggregate-write-rows
     write-rows-requires
     write-caps-requires
+    write-marks-requires
     array-share-prefix-sources-2
     slice-aggregate-write-tokens
     write-tokens-requires
@@ -129,4 +143,5 @@ complement-net-spec =
     same-length-2
     same-length-3
     same-length-4
+    same-length-5
     returns-2)

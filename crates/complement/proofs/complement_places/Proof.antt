@@ -6,7 +6,7 @@ use Rattle.complement.proofs.complement_places.Statement.{statement}
 use Rattle.complement.proofs.complement_places.Tie as tie
 
 abbrev net : tie.Start → Net
-net s = netOf (s .args .places) (s .args .transitions) (now (s .args .pre)) (now (s .args .post)) (now (s .args .caps))
+net s = netOf (s .args .places) (s .args .transitions) (now (s .args .pre)) (now (s .args .post)) (now (s .args .caps)) (now (s .args .marks))
 
 net-fault-requires : tie.Need-net-fault-requires
 net-fault-requires c κs = search needs

@@ -8,10 +8,10 @@ use Rattle.complement.proofs.count_made.Statement.{statement}
 use Rattle.complement.proofs.count_made.Tie as tie
 
 abbrev Inv-loop : tie.InvT-loop
-Inv-loop places transitions pre post caps count₀ p₀ count p = Counted (made (netOf places transitions pre post caps)) places count p
+Inv-loop places transitions pre post caps marks count₀ p₀ count p = Counted (made (netOf places transitions pre post caps marks)) places count p
 
 abbrev μ-loop : tie.MeasureT-loop
-μ-loop places transitions pre post caps count₀ p₀ count p = places - p
+μ-loop places transitions pre post caps marks count₀ p₀ count p = places - p
 
 loop-holds : tie.Need-loop-holds Inv-loop μ-loop
 loop-holds c = search (counts, needs)

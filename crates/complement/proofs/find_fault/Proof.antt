@@ -6,7 +6,7 @@ use Rattle.complement.proofs.find_fault.Statement.{statement}
 use Rattle.complement.proofs.find_fault.Tie as tie
 
 abbrev net : tie.Start → Net
-net s = netOf (s .args .places) (s .args .transitions) (now (s .args .pre)) (now (s .args .post)) (now (s .args .caps))
+net s = netOf (s .args .places) (s .args .transitions) (now (s .args .pre)) (now (s .args .post)) (now (s .args .caps)) (now (s .args .marks))
 
 is-sized-requires : tie.Need-is-sized-requires
 is-sized-requires c κs = search needs

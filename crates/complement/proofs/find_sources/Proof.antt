@@ -10,10 +10,10 @@ use Rattle.complement.proofs.find_sources.Statement.{statement}
 use Rattle.complement.proofs.find_sources.Tie as tie
 
 abbrev Inv-loop : tie.InvT-loop
-Inv-loop places transitions pre post caps sources₀ at₀ p₀ sources at p = Choosing (made (netOf places transitions pre post caps)) places (table (λ k. k) countLimit) places at p sources
+Inv-loop places transitions pre post caps marks sources₀ at₀ p₀ sources at p = Choosing (made (netOf places transitions pre post caps marks)) places (table (λ k. k) countLimit) places at p sources
 
 abbrev μ-loop : tie.MeasureT-loop
-μ-loop places transitions pre post caps sources₀ at₀ p₀ sources at p = places - p
+μ-loop places transitions pre post caps marks sources₀ at₀ p₀ sources at p = places - p
 
 own-places-requires : tie.Need-own-places-requires Inv-loop μ-loop
 own-places-requires c κs = search needs

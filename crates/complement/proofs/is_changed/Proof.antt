@@ -11,19 +11,19 @@ use Rattle.complement.proofs.is_changed.Statement.{statement}
 use Rattle.complement.proofs.is_changed.Tie as tie
 
 abbrev Inv-loop : tie.InvT-loop
-Inv-loop places transitions pre post caps p t₀ t = (t ≤ transitions) × Below (changesAt (netOf places transitions pre post caps) p) t
+Inv-loop places transitions pre post caps marks p t₀ t = (t ≤ transitions) × Below (changesAt (netOf places transitions pre post caps marks) p) t
 
 abbrev μ-loop : tie.MeasureT-loop
-μ-loop places transitions pre post caps p t₀ t = transitions - t
+μ-loop places transitions pre post caps marks p t₀ t = transitions - t
 
 abbrev start : tie.In-loop Inv-loop μ-loop → tie.Start Inv-loop μ-loop
-start i = i .before .before .before .before .before
+start i = i .before .before .before .before .before .before
 
 -- the turn's cell stands inside Pre and Post
 cell : (i : tie.In-loop Inv-loop μ-loop) → (i .before .loop .t * start i .args .places + start i .args .p < length (now (start i .args .pre))) × (i .before .loop .t * start i .args .places + start i .args .p < length (now (start i .args .post)))
 cell i =
     let s = start i in
-    cell-inside (netOf (s .args .places) (s .args .transitions) (now (s .args .pre)) (now (s .args .post)) (now (s .args .caps))) (s .args .p) (i .before .loop .t) (s .pre .0) (s .pre .1) (i .loop-test .taken)
+    cell-inside (netOf (s .args .places) (s .args .transitions) (now (s .args .pre)) (now (s .args .post)) (now (s .args .caps)) (now (s .args .marks))) (s .args .p) (i .before .loop .t) (s .pre .0) (s .pre .1) (i .loop-test .taken)
 
 loop-holds : tie.Need-loop-holds Inv-loop μ-loop
 loop-holds c = (search needs, scan-start _)

@@ -16,27 +16,27 @@ use Rattle.complement.proofs.write_rows.Statement.{statement}
 use Rattle.complement.proofs.write_rows.Tie as tie
 
 abbrev Inv-loop : tie.InvT-loop
-Inv-loop places transitions pre post sources pre2₀ post2₀ wide t₀ pre2 post2 t =
-    (t ≤ transitions) × Rowing (newPre places pre post sources) (length sources) pre2₀ t pre2 × Rowing (newPost places pre post sources) (length sources) post2₀ t post2
+Inv-loop places transitions pre post marks sources pre2₀ post2₀ wide t₀ pre2 post2 t =
+    (t ≤ transitions) × Rowing (newPre places pre post marks sources) (length sources) pre2₀ t pre2 × Rowing (newPost places pre post marks sources) (length sources) post2₀ t post2
 
 abbrev μ-loop : tie.MeasureT-loop
-μ-loop places transitions pre post sources pre2₀ post2₀ wide t₀ pre2 post2 t = transitions - t
+μ-loop places transitions pre post marks sources pre2₀ post2₀ wide t₀ pre2 post2 t = transitions - t
 
 abbrev Turn : Type 0
 Turn = tie.In-loop Inv-loop μ-loop
 
 abbrev start : Turn → tie.Start Inv-loop μ-loop
-start i = i .before .before .before .before .before .before .before
+start i = i .before .before .before .before .before .before .before .before
 
 abbrev turn : Turn → ℕ
 turn i = i .before .loop .t
 
 -- the rows that are written
 abbrev pres : tie.Start Inv-loop μ-loop → ℕ → List ℕ
-pres s = newPre (s .args .places) (now (s .args .pre)) (now (s .args .post)) (now (s .args .sources))
+pres s = newPre (s .args .places) (now (s .args .pre)) (now (s .args .post)) (now (s .args .marks)) (now (s .args .sources))
 
 abbrev posts : tie.Start Inv-loop μ-loop → ℕ → List ℕ
-posts s = newPost (s .args .places) (now (s .args .pre)) (now (s .args .post)) (now (s .args .sources))
+posts s = newPost (s .args .places) (now (s .args .pre)) (now (s .args .post)) (now (s .args .marks)) (now (s .args .sources))
 
 -- the ends of a turn's row in what is read and in the rooms
 named : (i : Turn) → turn i < start i .args .transitions
@@ -52,12 +52,12 @@ pre-same : (i : Turn) → length (i .before .loop .pre2) ≡ length (now (start 
 pre-same i = let s = start i in rows-long (pres s) (length (now (s .args .sources))) (now (s .args .pre2)) (turn i) (i .before .loop .pre2) (i .before .loop .inv .1)
 
 pre-room : (i : Turn) → turn i * length (now (start i .args .sources)) + length (now (start i .args .sources)) ≤ length (i .before .loop .pre2)
-pre-room i = let s = start i in rw (pre-same i, s .pre .1 .1 .1 .0) (row-end (turn i) (s .args .transitions) (length (now (s .args .sources))) (named i))
+pre-room i = let s = start i in rw (pre-same i, s .pre .1 .1 .1 .1 .0) (row-end (turn i) (s .args .transitions) (length (now (s .args .sources))) (named i))
 
 post-room : (i : Turn) → turn i * length (now (start i .args .sources)) + length (now (start i .args .sources)) ≤ length (i .before .loop .post2)
 post-room i =
     let s = start i in
-    rw (rows-long (posts s) (length (now (s .args .sources))) (now (s .args .post2)) (turn i) (i .before .loop .post2) (i .before .loop .inv .2), s .pre .1 .1 .1 .1)
+    rw (rows-long (posts s) (length (now (s .args .sources))) (now (s .args .post2)) (turn i) (i .before .loop .post2) (i .before .loop .inv .2), s .pre .1 .1 .1 .1 .1)
     (row-end (turn i) (s .args .transitions) (length (now (s .args .sources))) (named i))
 
 -- and its lengths
@@ -103,7 +103,7 @@ write-row-requires c κs =
     let s = start i in
     let e = row-length (s .args .places) (turn i) (now (s .args .pre)) (pre-end i) in
     let f = row-length (s .args .places) (turn i) (now (s .args .post)) (post-end i) in
-    simp add-sub-cancel-left (e ∙ sym f, (rw f (s .pre .1 .1 .0), (omega (arith, pre-room i), omega (arith, post-room i))))
+    simp add-sub-cancel-left (e ∙ sym f, (s .pre .1 .1 .0 ∙ sym f, (rw f (s .pre .1 .1 .1 .0), (omega (arith, pre-room i), omega (arith, post-room i)))))
 
 add-t : tie.Need-add-t Inv-loop μ-loop
 add-t c = search needs
@@ -124,23 +124,23 @@ loop-again c =
     let f = row-length (a .places) (turn i) (now (a .post)) (post-end i) in
     let to = turn i * length (now (a .sources)) in (
       omega arith,
-      rows-next (pres s) (length (now (s .args .sources))) (now (s .args .pre2)) (turn i) (l .pre2) (l .inv .1) _ (pre-row i) (simp add-sub-cancel-left at (w .write-row .ensures .0) ∙ ap (λ (n : ℕ). sets (l .pre2) to (takenRow n takes puts (now (a .sources)))) f),
-      rows-next (posts s) (length (now (s .args .sources))) (now (s .args .post2)) (turn i) (l .post2) (l .inv .2) _ (post-row i) (simp add-sub-cancel-left at (w .write-row .ensures .1) ∙ ap (λ (n : ℕ). sets (l .post2) to (putRow n takes puts (now (a .sources)))) f),
+      rows-next (pres s) (length (now (s .args .sources))) (now (s .args .pre2)) (turn i) (l .pre2) (l .inv .1) _ (pre-row i) (simp add-sub-cancel-left at (w .write-row .ensures .0) ∙ ap (λ (n : ℕ). sets (l .pre2) to (takenRow n takes puts (now (a .marks)) (now (a .sources)))) f),
+      rows-next (posts s) (length (now (s .args .sources))) (now (s .args .post2)) (turn i) (l .post2) (l .inv .2) _ (post-row i) (simp add-sub-cancel-left at (w .write-row .ensures .1) ∙ ap (λ (n : ℕ). sets (l .post2) to (putRow n takes puts (now (a .marks)) (now (a .sources)))) f),
     )
 
 same-length : tie.Need-same-length Inv-loop μ-loop
-same-length c = let s : tie.Start Inv-loop μ-loop = c .before .before .before .before .before .before .before in let l = c .before .loop in rows-long (pres s) (length (now (s .args .sources))) (now (s .args .pre2)) (l .t) (l .pre2) (l .inv .1)
+same-length c = let s : tie.Start Inv-loop μ-loop = c .before .before .before .before .before .before .before .before in let l = c .before .loop in rows-long (pres s) (length (now (s .args .sources))) (now (s .args .pre2)) (l .t) (l .pre2) (l .inv .1)
 
 same-length-2 : tie.Need-same-length-2 Inv-loop μ-loop
-same-length-2 c = let s : tie.Start Inv-loop μ-loop = c .before .before .before .before .before .before .before in let l = c .before .loop in rows-long (posts s) (length (now (s .args .sources))) (now (s .args .post2)) (l .t) (l .post2) (l .inv .2)
+same-length-2 c = let s : tie.Start Inv-loop μ-loop = c .before .before .before .before .before .before .before .before in let l = c .before .loop in rows-long (posts s) (length (now (s .args .sources))) (now (s .args .post2)) (l .t) (l .post2) (l .inv .2)
 
 returns : tie.Need-returns Inv-loop μ-loop
 returns c =
-    let s : tie.Start Inv-loop μ-loop = c .before .before .before .before .before .before .before in
+    let s : tie.Start Inv-loop μ-loop = c .before .before .before .before .before .before .before .before in
     let l = c .before .loop in
     let e : l .t ≡ s .args .transitions = omega (arith, l .inv .0) in (
-      rows-end (pres s) (length (now (s .args .sources))) (now (s .args .pre2)) (l .t) (l .pre2) (l .inv .1) (s .args .transitions) e (s .pre .1 .1 .1 .0),
-      rows-end (posts s) (length (now (s .args .sources))) (now (s .args .post2)) (l .t) (l .post2) (l .inv .2) (s .args .transitions) e (s .pre .1 .1 .1 .1),
+      rows-end (pres s) (length (now (s .args .sources))) (now (s .args .pre2)) (l .t) (l .pre2) (l .inv .1) (s .args .transitions) e (s .pre .1 .1 .1 .1 .0),
+      rows-end (posts s) (length (now (s .args .sources))) (now (s .args .post2)) (l .t) (l .post2) (l .inv .2) (s .args .transitions) e (s .pre .1 .1 .1 .1 .1),
     )
 
 pub write-rows-spec : {M : Type 1} → statement M
