@@ -67,10 +67,11 @@ pub extern "C" fn kaunorpi_complement_places(
     pre: &[Weight],
     post: &[Weight],
     caps: &[u16],
+    marks: &[u8],
 ) -> PlacesAnswer
-    ensures { λ r. ⌜ r ≡ handedPlaces (placesNumbers (placesOf (netOf places transitions (now (pre .entry)) (now (post .entry)) (now (caps .entry))))) ⌝ }
+    ensures { λ r. ⌜ r ≡ handedPlaces (placesNumbers (placesOf (netOf places transitions (now (pre .entry)) (now (post .entry)) (now (caps .entry)) (now (marks .entry))))) ⌝ }
 {
-    let answer = complement::complement_places(places, transitions, pre, post, caps);
+    let answer = complement::complement_places(places, transitions, pre, post, caps, marks);
     of_places(answer)
 }
 
@@ -100,13 +101,15 @@ pub extern "C" fn kaunorpi_complement_net(
     pre: &[Weight],
     post: &[Weight],
     caps: &[u16],
+    marks: &[u8],
     initial: &[u16],
     pre2: &mut [Weight],
     post2: &mut [Weight],
     caps2: &mut [u16],
+    marks2: &mut [u8],
     initial2: &mut [u16],
 ) -> Answer
-    ensures { λ r. ⌜ HandedNet (complementOf (netOf places transitions (now (pre .entry)) (now (post .entry)) (now (caps .entry))) (now (initial .entry)) (roomsOf (now (pre2 .entry)) (now (post2 .entry)) (now (caps2 .entry)) (now (initial2 .entry)))) r (roomsOf (now (pre2 .exit)) (now (post2 .exit)) (now (caps2 .exit)) (now (initial2 .exit))) ⌝ }
+    ensures { λ r. ⌜ HandedNet (complementOf (netOf places transitions (now (pre .entry)) (now (post .entry)) (now (caps .entry)) (now (marks .entry))) (now (initial .entry)) (roomsOf (now (pre2 .entry)) (now (post2 .entry)) (now (caps2 .entry)) (now (marks2 .entry)) (now (initial2 .entry)))) r (roomsOf (now (pre2 .exit)) (now (post2 .exit)) (now (caps2 .exit)) (now (marks2 .exit)) (now (initial2 .exit))) ⌝ }
 {
     let answer = complement::complement_net(
         places,
@@ -114,10 +117,12 @@ pub extern "C" fn kaunorpi_complement_net(
         pre,
         post,
         caps,
+        marks,
         initial,
         pre2,
         post2,
         caps2,
+        marks2,
         initial2,
     );
     of_net(answer)
@@ -152,13 +157,14 @@ fn of_case(answer: CaseFile) -> CaseAnswer
 pub extern "C" fn kaunorpi_read_case(
     file: &[u8],
     caps: &mut [u16],
+    marks: &mut [u8],
     initial: &mut [u16],
     pre: &mut [Weight],
     post: &mut [Weight],
     word: &mut [u8],
 ) -> CaseAnswer
-    ensures { λ r. ⌜ HandedCase (casefile.caseFileOf (now (file .entry)) (rooms (now (caps .entry)) (now (initial .entry)) (now (pre .entry)) (now (post .entry)) (now (word .entry)))) r (rooms (now (caps .exit)) (now (initial .exit)) (now (pre .exit)) (now (post .exit)) (now (word .exit))) ⌝ }
+    ensures { λ r. ⌜ HandedCase (casefile.caseFileOf (now (file .entry)) (rooms (now (caps .entry)) (now (marks .entry)) (now (initial .entry)) (now (pre .entry)) (now (post .entry)) (now (word .entry)))) r (rooms (now (caps .exit)) (now (marks .exit)) (now (initial .exit)) (now (pre .exit)) (now (post .exit)) (now (word .exit))) ⌝ }
 {
-    let answer = file_entry::read_case(file, caps, initial, pre, post, word);
+    let answer = file_entry::read_case(file, caps, marks, initial, pre, post, word);
     of_case(answer)
 }

@@ -49,13 +49,14 @@ pub extern "C" fn kaunorpi_case_length(
     pre: &[Weight],
     post: &[Weight],
     caps: &[u16],
+    marks: &[u8],
     initial: &[u16],
     word: &[u8],
 ) -> LengthAnswer
-    ensures { λ r. ⌜ r ≡ handedLength (lengthNumbers (lengthOf (netOf places transitions (now (pre .entry)) (now (post .entry)) (now (caps .entry))) (now (initial .entry)) (now (word .entry)))) ⌝ }
+    ensures { λ r. ⌜ r ≡ handedLength (lengthNumbers (lengthOf (netOf places transitions (now (pre .entry)) (now (post .entry)) (now (caps .entry)) (now (marks .entry))) (now (initial .entry)) (now (word .entry)))) ⌝ }
 {
-    let answer = file_write::case_length(places, transitions, pre, post, caps, initial, word);
-    of_length(answer)
+    let told = file_write::case_length(places, transitions, pre, post, caps, marks, initial, word);
+    of_length(told)
 }
 
 // The answer about the file, in 01's numbers.
@@ -86,12 +87,23 @@ pub extern "C" fn kaunorpi_write_case(
     pre: &[Weight],
     post: &[Weight],
     caps: &[u16],
+    marks: &[u8],
     initial: &[u16],
     word: &[u8],
     room: &mut [u8],
 ) -> LengthAnswer
-    ensures { λ r. ⌜ HandedFile (writeOf (netOf places transitions (now (pre .entry)) (now (post .entry)) (now (caps .entry))) (now (initial .entry)) (now (word .entry)) (now (room .entry))) r (now (room .exit)) ⌝ }
+    ensures { λ r. ⌜ HandedFile (writeOf (netOf places transitions (now (pre .entry)) (now (post .entry)) (now (caps .entry)) (now (marks .entry))) (now (initial .entry)) (now (word .entry)) (now (room .entry))) r (now (room .exit)) ⌝ }
 {
-    let answer = file_write::write_case(places, transitions, pre, post, caps, initial, word, room);
+    let answer = file_write::write_case(
+        places,
+        transitions,
+        pre,
+        post,
+        caps,
+        marks,
+        initial,
+        word,
+        room,
+    );
     of_written(answer)
 }

@@ -6,6 +6,7 @@ use native.Mathlib.Omega.{arith}
 use lib.ListN.{length}
 use lib.Seq.{sets}
 use Rattle.net.specs.Net.{Net}
+use Rattle.file_mask.specs.Mask.{maskOf}
 use Rattle.file_line.specs.declared.Reading.{Reading}
 use Rattle.file_line.specs.Read.{Rooms, netIn}
 use Rattle.file_line.specs.Walk.{Large}
@@ -27,7 +28,7 @@ use Rattle.file_again.specs.Again.{againFor, fileAgain, WrittenAgain}
 -- what a file within the limits holds can be written, and is no longer than the longest file
 limited-few : (net : Net) (initial w : List ℕ) → Limited net initial w → length (fileOf net initial w) ≤ fileLimit
 limited-few net initial w m =
-    let l = longest-file (net .places) (net .transitions) (length w) (m .sized .few-places) (m .sized .few-transitions) (m .short) in
+    let l = longest-file (net .places) (net .transitions) (maskOf (net .marks)) (length w) (m .sized .few-places) (m .sized .few-transitions) (m .short) in
     omega (arith, file-length net initial w (m .sized) (m .marked))
 
 limited-writable : (net : Net) (initial w : List ℕ) → Limited net initial w → Writable net initial w

@@ -15,14 +15,15 @@ ghost use Rattle.file_again.specs.Again.{WrittenAgain};
 fn write_whole(
     s: Reading,
     caps: &[u16],
+    marks: &[u8],
     initial: &[u16],
     pre: &[Weight],
     post: &[Weight],
     word: &[u8],
     out: &mut [u8],
 ) -> WriteCase
-    requires { ⌜ (Good s) × (Large (rooms (now caps) (now initial) (now pre) (now post) (now word))) ⌝ }
-    ensures { λ r. ⌜ WrittenAgain (Case.Whole s) (rooms (now (caps .entry)) (now (initial .entry)) (now (pre .entry)) (now (post .entry)) (now (word .entry))) (now (out .entry)) r (now (out .exit)) ⌝ }
+    requires { ⌜ (Good s) × (Large (rooms (now caps) (now marks) (now initial) (now pre) (now post) (now word))) ⌝ }
+    ensures { λ r. ⌜ WrittenAgain (Case.Whole s) (rooms (now (caps .entry)) (now (marks .entry)) (now (initial .entry)) (now (pre .entry)) (now (post .entry)) (now (word .entry))) (now (out .entry)) r (now (out .exit)) ⌝ }
 {
     let p = s.places;
     let t = s.transitions;
@@ -34,6 +35,7 @@ fn write_whole(
         &pre[..cells],
         &post[..cells],
         &caps[..p],
+        &marks[..p],
         &initial[..p],
         &word[..n],
         out,
@@ -44,18 +46,19 @@ fn write_whole(
 pub fn rewrite_held(
     h: Held,
     caps: &[u16],
+    marks: &[u8],
     initial: &[u16],
     pre: &[Weight],
     post: &[Weight],
     word: &[u8],
     out: &mut [u8],
 ) -> WriteCase
-    requires { ⌜ (Sound h) × (Large (rooms (now caps) (now initial) (now pre) (now post) (now word))) ⌝ }
-    ensures { λ r. ⌜ WrittenAgain (caseOf (abs h)) (rooms (now (caps .entry)) (now (initial .entry)) (now (pre .entry)) (now (post .entry)) (now (word .entry))) (now (out .entry)) r (now (out .exit)) ⌝ }
+    requires { ⌜ (Sound h) × (Large (rooms (now caps) (now marks) (now initial) (now pre) (now post) (now word))) ⌝ }
+    ensures { λ r. ⌜ WrittenAgain (caseOf (abs h)) (rooms (now (caps .entry)) (now (marks .entry)) (now (initial .entry)) (now (pre .entry)) (now (post .entry)) (now (word .entry))) (now (out .entry)) r (now (out .exit)) ⌝ }
 {
     let case = file_parts::finish_held(h);
     match case {
-        Case::Whole(s) => write_whole(s, caps, initial, pre, post, word, out),
+        Case::Whole(s) => write_whole(s, caps, marks, initial, pre, post, word, out),
         Case::Refused(number, line) => WriteCase::Refused(number, line),
     }
 }

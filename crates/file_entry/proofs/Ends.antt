@@ -44,7 +44,7 @@ blank-large x e =
     let a = length-replicate {A = ℕ} countLimit 0 in
     let b = length-replicate {A = ℕ} cellLimit 0 in
     let c = length-replicate {A = ℕ} wordLimit 0 in
-    rw e (record { caps = omega (arith, a); initial = omega (arith, a); pre = omega (arith, b); post = omega (arith, b); word = omega (arith, c) })
+    rw e (record { caps = omega (arith, a); marks = omega (arith, a); initial = omega (arith, a); pre = omega (arith, b); post = omega (arith, b); word = omega (arith, c) })
 
 pub filled-is : (f : List ℕ) (x₀ x y : Rooms) (k : Case) (z : Came) → x₀ ≡ blank → Comes (feedAll (both (going fresh []) x₀) f) k y → z ≡ answered k y x → z ≡ filledOf f x
 filled-is f x₀ x y k z e h q =

@@ -40,35 +40,40 @@ pub ruleset layings = (laying-start, laying-next, laying-end, laying-long)
 pub part-fits : (n : ℕ) (list room : List ℕ) → n ≤ length room → length (take n list) ≤ length room
 part-fits n list room h = omega (arith, length-take n list)
 
-pub rooms-same : {a b c d e a′ b′ c′ d′ e′ : List ℕ} → a ≡ a′ → b ≡ b′ → c ≡ c′ → d ≡ d′ → e ≡ e′ → rooms a b c d e ≡ rooms a′ b′ c′ d′ e′
-rooms-same p q r s t = rw (p, q, r, s, t)
+pub rooms-same : {a k b c d e a′ k′ b′ c′ d′ e′ : List ℕ} → a ≡ a′ → k ≡ k′ → b ≡ b′ → c ≡ c′ → d ≡ d′ → e ≡ e′ → rooms a k b c d e ≡ rooms a′ k′ b′ c′ d′ e′
+rooms-same p m q r s t = rw (p, m, q, r, s, t)
 
 -- the lengths are compared one by one
-module _ (a b c d e : ℕ) where
-  pub lengths-caps : (a ≡ countLimit → ⊥) → false ≡ largestOf a b c d e
+module _ (a k b c d e : ℕ) where
+  pub lengths-caps : (a ≡ countLimit → ⊥) → false ≡ largestOf a k b c d e
   unfolding largestOf
   lengths-caps n = simp (ne-eqb _ _ n)
 
   module _ (p : a ≡ countLimit) where
-    pub lengths-initial : (b ≡ countLimit → ⊥) → false ≡ largestOf a b c d e
+    pub lengths-marks : (k ≡ countLimit → ⊥) → false ≡ largestOf a k b c d e
     unfolding largestOf
-    lengths-initial n = simp (eq-eqb _ _ p, ne-eqb _ _ n)
+    lengths-marks n = simp (eq-eqb _ _ p, ne-eqb _ _ n)
 
-    module _ (q : b ≡ countLimit) where
-      pub lengths-pre : (c ≡ cellLimit → ⊥) → false ≡ largestOf a b c d e
+    module _ (m : k ≡ countLimit) where
+      pub lengths-initial : (b ≡ countLimit → ⊥) → false ≡ largestOf a k b c d e
       unfolding largestOf
-      lengths-pre n = simp (eq-eqb _ _ p, eq-eqb _ _ q, ne-eqb _ _ n)
+      lengths-initial n = simp (eq-eqb _ _ p, eq-eqb _ _ m, ne-eqb _ _ n)
 
-      module _ (r : c ≡ cellLimit) where
-        pub lengths-post : (d ≡ cellLimit → ⊥) → false ≡ largestOf a b c d e
+      module _ (q : b ≡ countLimit) where
+        pub lengths-pre : (c ≡ cellLimit → ⊥) → false ≡ largestOf a k b c d e
         unfolding largestOf
-        lengths-post n = simp (eq-eqb _ _ p, eq-eqb _ _ q, eq-eqb _ _ r, ne-eqb _ _ n)
+        lengths-pre n = simp (eq-eqb _ _ p, eq-eqb _ _ m, eq-eqb _ _ q, ne-eqb _ _ n)
 
-        pub lengths-word : d ≡ cellLimit → eqb e wordLimit ≡ largestOf a b c d e
-        unfolding largestOf
-        lengths-word s = simp (eq-eqb _ _ p, eq-eqb _ _ q, eq-eqb _ _ r, eq-eqb _ _ s)
+        module _ (r : c ≡ cellLimit) where
+          pub lengths-post : (d ≡ cellLimit → ⊥) → false ≡ largestOf a k b c d e
+          unfolding largestOf
+          lengths-post n = simp (eq-eqb _ _ p, eq-eqb _ _ m, eq-eqb _ _ q, eq-eqb _ _ r, ne-eqb _ _ n)
 
-pub ruleset lengths = (lengths-caps, lengths-initial, lengths-pre, lengths-post, lengths-word)
+          pub lengths-word : d ≡ cellLimit → eqb e wordLimit ≡ largestOf a k b c d e
+          unfolding largestOf
+          lengths-word s = simp (eq-eqb _ _ p, eq-eqb _ _ m, eq-eqb _ _ q, eq-eqb _ _ r, eq-eqb _ _ s)
+
+pub ruleset lengths = (lengths-caps, lengths-marks, lengths-initial, lengths-pre, lengths-post, lengths-word)
 
 -- the test says what it should
 pub largest-of : (x : Rooms) → largest x ≡ true → Largest x
@@ -78,10 +83,12 @@ largest-of x e =
     let b = and-true _ (eqb (length (x .post)) cellLimit) (a .0) in
     let c = and-true _ (eqb (length (x .pre)) cellLimit) (b .0) in
     let d = and-true _ (eqb (length (x .initial)) countLimit) (c .0) in
-    record { caps = eqb-true _ _ (d .0); initial = eqb-true _ _ (d .1); pre = eqb-true _ _ (c .1); post = eqb-true _ _ (b .1); word = eqb-true _ _ (a .1) }
+    let f = and-true _ (eqb (length (x .marks)) countLimit) (d .0) in
+    record { caps = eqb-true _ _ (f .0); marks = eqb-true _ _ (f .1); initial = eqb-true _ _ (d .1); pre = eqb-true _ _ (c .1); post = eqb-true _ _ (b .1); word = eqb-true _ _ (a .1) }
 
 pub of-largest : (x : Rooms) → Largest x → largest x ≡ true
-of-largest x l = sym (lengths-word _ _ _ _ _ (l .caps) (l .initial) (l .pre) (l .post)) ∙ eq-eqb _ _ (l .word)
+of-largest x l = sym (lengths-word _ _ _ _ _ _ (l .caps) (l .marks) (l .initial) (l .pre) (l .post)) ∙ eq-eqb _ _ (l .word)
 
 pub largest-large : (x : Rooms) → Largest x → Large x
-largest-large x l = record { caps = omega (arith, l .caps); initial = omega (arith, l .initial); pre = omega (arith, l .pre); post = omega (arith, l .post); word = omega (arith, l .word) }
+largest-large x l =
+    record { caps = omega (arith, l .caps); marks = omega (arith, l .marks); initial = omega (arith, l .initial); pre = omega (arith, l .pre); post = omega (arith, l .post); word = omega (arith, l .word) }

@@ -51,12 +51,13 @@ laid-front n limit y x a b c =
     record { front = front-of (take n y) x n l (omega arith); rest = rest-of (take n y) x n l (omega arith) }
 
 laid-fronts : (s : Reading) (y x x′ : Rooms) → Good s → Large y → Largest x → x′ ≡ laid s y x → (P T n : ℕ) → s .places ≡ P → s .transitions ≡ T → s .letters ≡ n
-    → Front P (y .caps) (x .caps) (x′ .caps) × Front P (y .initial) (x .initial) (x′ .initial) × Front (T * P) (y .pre) (x .pre) (x′ .pre) × Front (T * P) (y .post) (x .post) (x′ .post)
+    → Front P (y .caps) (x .caps) (x′ .caps) × Front P (y .marks) (x .marks) (x′ .marks) × Front P (y .initial) (x .initial) (x′ .initial) × Front (T * P) (y .pre) (x .pre) (x′ .pre) × Front (T * P) (y .post) (x .post) (x′ .post)
     × Front n (y .word) (x .word) (x′ .word)
 laid-fronts s y x x′ g h l e P T n p t k =
     let c = cells-few s g in
     rw (e, ← p, ← t, ← k) (
       laid-front (s .places) countLimit (y .caps) (x .caps) (g .places) (h .caps) (omega (arith, l .caps)),
+      laid-front (s .places) countLimit (y .marks) (x .marks) (g .places) (h .marks) (omega (arith, l .marks)),
       laid-front (s .places) countLimit (y .initial) (x .initial) (g .places) (h .initial) (omega (arith, l .initial)),
       laid-front (s .transitions * s .places) cellLimit (y .pre) (x .pre) c (h .pre) (omega (arith, l .pre)),
       laid-front (s .transitions * s .places) cellLimit (y .post) (x .post) c (h .post) (omega (arith, l .post)),
@@ -188,7 +189,7 @@ module _ (file : List ℕ) (x : Rooms) (r : CaseFile) (x′ : Rooms) (p : CaseRe
         (omega (arith, a, w .2), omega (arith, g .places, w .2), omega (arith, b, w .3), omega (arith, g .transitions, w .3), omega (arith, g .letters, w .4))
 
     -- the net's own entries and the letters stand at the front of the rooms, and the rest is as found
-    pub read-front : Front P (readAll file .rooms .caps) (x .caps) (x′ .caps) × Front P (readAll file .rooms .initial) (x .initial) (x′ .initial)
+    pub read-front : Front P (readAll file .rooms .caps) (x .caps) (x′ .caps) × Front P (readAll file .rooms .marks) (x .marks) (x′ .marks) × Front P (readAll file .rooms .initial) (x .initial) (x′ .initial)
         × Front (T * P) (readAll file .rooms .pre) (x .pre) (x′ .pre) × Front (T * P) (readAll file .rooms .post) (x .post) (x′ .post) × Front n (readAll file .rooms .word) (x .word) (x′ .word)
     read-front =
         let w = read-whole in

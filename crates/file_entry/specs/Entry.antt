@@ -24,15 +24,16 @@ abbrev pub came : CaseFile → Rooms → Came
 came r x = record { answer = r; left = x }
 
 -- "places P, transitions T: 1 to 64 each", "letters in a word: 0 to 65,535": rooms for the largest net and word
-unfoldable pub largestOf : ℕ → ℕ → ℕ → ℕ → ℕ → Bool
-largestOf caps initial pre post word =
-    eqb caps countLimit && eqb initial countLimit && eqb pre cellLimit && eqb post cellLimit && eqb word wordLimit
+unfoldable pub largestOf : ℕ → ℕ → ℕ → ℕ → ℕ → ℕ → Bool
+largestOf caps marks initial pre post word =
+    eqb caps countLimit && eqb marks countLimit && eqb initial countLimit && eqb pre cellLimit && eqb post cellLimit && eqb word wordLimit
 
 abbrev pub largest : Rooms → Bool
-largest x = largestOf (length (x .caps)) (length (x .initial)) (length (x .pre)) (length (x .post)) (length (x .word))
+largest x = largestOf (length (x .caps)) (length (x .marks)) (length (x .initial)) (length (x .pre)) (length (x .post)) (length (x .word))
 
 pub record Largest (x : Rooms) : Type 0 where
   pub caps : length (x .caps) ≡ countLimit
+  pub marks : length (x .marks) ≡ countLimit
   pub initial : length (x .initial) ≡ countLimit
   pub pre : length (x .pre) ≡ cellLimit
   pub post : length (x .post) ≡ cellLimit
@@ -40,7 +41,7 @@ pub record Largest (x : Rooms) : Type 0 where
 
 -- such rooms with nothing in them
 abbrev pub blank : Rooms
-blank = rooms (replicate countLimit 0) (replicate countLimit 0) (replicate cellLimit 0) (replicate cellLimit 0) (replicate wordLimit 0)
+blank = rooms (replicate countLimit 0) (replicate countLimit 0) (replicate countLimit 0) (replicate cellLimit 0) (replicate cellLimit 0) (replicate wordLimit 0)
 
 -- the file byte by byte, from its first line on, into rooms with nothing in them
 abbrev pub readAll : List ℕ → Both
@@ -51,6 +52,7 @@ abbrev pub laid : Reading → Rooms → Rooms → Rooms
 laid s y x =
     rooms
     (sets (x .caps) 0 (take (s .places) (y .caps)))
+    (sets (x .marks) 0 (take (s .places) (y .marks)))
     (sets (x .initial) 0 (take (s .places) (y .initial)))
     (sets (x .pre) 0 (take (s .transitions * s .places) (y .pre)))
     (sets (x .post) 0 (take (s .transitions * s .places) (y .post)))

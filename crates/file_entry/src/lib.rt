@@ -33,6 +33,13 @@ fn blank_counts() -> [u16; COUNT_LIMIT]
     [0; COUNT_LIMIT]
 }
 
+// Room for the marks of the largest net, all plain.
+fn blank_marks() -> [u8; COUNT_LIMIT]
+    ensures { λ r. ⌜ r ≡ replicate countLimit 0 ⌝ }
+{
+    [0; COUNT_LIMIT]
+}
+
 // Room for the weights of the largest net, all zero.
 fn blank_cells() -> [Weight; CELL_LIMIT]
     ensures { λ r. ⌜ r ≡ replicate cellLimit 0 ⌝ }
@@ -48,10 +55,20 @@ fn blank_word() -> [u8; WORD_LIMIT]
 }
 
 // Whether rooms of these lengths are exactly the largest.
-fn is_largest(caps: usize, initial: usize, pre: usize, post: usize, word: usize) -> bool
-    ensures { λ r. ⌜ r ≡ largestOf caps initial pre post word ⌝ }
+fn is_largest(
+    caps: usize,
+    marks: usize,
+    initial: usize,
+    pre: usize,
+    post: usize,
+    word: usize,
+) -> bool
+    ensures { λ r. ⌜ r ≡ largestOf caps marks initial pre post word ⌝ }
 {
     if caps != COUNT_LIMIT {
+        return false;
+    }
+    if marks != COUNT_LIMIT {
         return false;
     }
     if initial != COUNT_LIMIT {
@@ -70,19 +87,20 @@ fn is_largest(caps: usize, initial: usize, pre: usize, post: usize, word: usize)
 fn read_file(
     file: &[u8],
     caps: &mut [u16],
+    marks: &mut [u8],
     initial: &mut [u16],
     pre: &mut [Weight],
     post: &mut [Weight],
     word: &mut [u8],
 ) -> Case
-    requires { ⌜ Large (rooms (now caps) (now initial) (now pre) (now post) (now word)) ⌝ }
-    ensures value { λ r. ⌜ Comes (feedAll (both (going fresh []) (rooms (now (caps .entry)) (now (initial .entry)) (now (pre .entry)) (now (post .entry)) (now (word .entry)))) (now (file .entry))) r
-        (rooms (now (caps .exit)) (now (initial .exit)) (now (pre .exit)) (now (post .exit)) (now (word .exit))) ⌝ }
+    requires { ⌜ Large (rooms (now caps) (now marks) (now initial) (now pre) (now post) (now word)) ⌝ }
+    ensures value { λ r. ⌜ Comes (feedAll (both (going fresh []) (rooms (now (caps .entry)) (now (marks .entry)) (now (initial .entry)) (now (pre .entry)) (now (post .entry)) (now (word .entry)))) (now (file .entry))) r
+        (rooms (now (caps .exit)) (now (marks .exit)) (now (initial .exit)) (now (pre .exit)) (now (post .exit)) (now (word .exit))) ⌝ }
     ensures good { λ r. ⌜ GoodCase r ⌝ }
 {
     let s = Reading::new();
     let h = file_parts::cleared(s);
-    let r = file_parts::read_part(h, file, caps, initial, pre, post, word);
+    let r = file_parts::read_part(h, file, caps, marks, initial, pre, post, word);
     file_parts::finish_held(r)
 }
 
@@ -110,29 +128,32 @@ fn lay_bytes(room: &mut [u8], list: &[u8])
     }
 }
 
-// The net's own entries and the word's letters, from c, m, a, b and w, to the front of the lent rooms.
+// The net's own entries and the word's letters, from c, k, m, a, b and w, to the front of the lent rooms.
 fn lay_out(
     s: Reading,
     c: &[u16],
+    k: &[u8],
     m: &[u16],
     a: &[u8],
     b: &[u8],
     w: &[u8],
     caps: &mut [u16],
+    marks: &mut [u8],
     initial: &mut [u16],
     pre: &mut [Weight],
     post: &mut [Weight],
     word: &mut [u8],
 )
-    requires { ⌜ (Good s) × (Large (rooms (now c) (now m) (now a) (now b) (now w))) × (Large (rooms (now caps) (now initial) (now pre) (now post) (now word))) ⌝ }
-    ensures { λ _. ⌜ rooms (now (caps .exit)) (now (initial .exit)) (now (pre .exit)) (now (post .exit)) (now (word .exit))
-        ≡ laid s (rooms (now (c .entry)) (now (m .entry)) (now (a .entry)) (now (b .entry)) (now (w .entry)))
-        (rooms (now (caps .entry)) (now (initial .entry)) (now (pre .entry)) (now (post .entry)) (now (word .entry))) ⌝ }
+    requires { ⌜ (Good s) × (Large (rooms (now c) (now k) (now m) (now a) (now b) (now w))) × (Large (rooms (now caps) (now marks) (now initial) (now pre) (now post) (now word))) ⌝ }
+    ensures { λ _. ⌜ rooms (now (caps .exit)) (now (marks .exit)) (now (initial .exit)) (now (pre .exit)) (now (post .exit)) (now (word .exit))
+        ≡ laid s (rooms (now (c .entry)) (now (k .entry)) (now (m .entry)) (now (a .entry)) (now (b .entry)) (now (w .entry)))
+        (rooms (now (caps .entry)) (now (marks .entry)) (now (initial .entry)) (now (pre .entry)) (now (post .entry)) (now (word .entry))) ⌝ }
 {
     let p = s.places;
     let cells = s.transitions * p;
     let n = s.letters;
     lay_words(caps, &c[..p]);
+    lay_bytes(marks, &k[..p]);
     lay_words(initial, &m[..p]);
     lay_bytes(pre, &a[..cells]);
     lay_bytes(post, &b[..cells]);
@@ -143,24 +164,26 @@ fn lay_out(
 fn answer(
     case: Case,
     c: &[u16],
+    k: &[u8],
     m: &[u16],
     a: &[u8],
     b: &[u8],
     w: &[u8],
     caps: &mut [u16],
+    marks: &mut [u8],
     initial: &mut [u16],
     pre: &mut [Weight],
     post: &mut [Weight],
     word: &mut [u8],
 ) -> CaseFile
-    requires { ⌜ (GoodCase case) × (Large (rooms (now c) (now m) (now a) (now b) (now w))) × (Large (rooms (now caps) (now initial) (now pre) (now post) (now word))) ⌝ }
-    ensures { λ r. ⌜ came r (rooms (now (caps .exit)) (now (initial .exit)) (now (pre .exit)) (now (post .exit)) (now (word .exit)))
-        ≡ answered case (rooms (now (c .entry)) (now (m .entry)) (now (a .entry)) (now (b .entry)) (now (w .entry)))
-        (rooms (now (caps .entry)) (now (initial .entry)) (now (pre .entry)) (now (post .entry)) (now (word .entry))) ⌝ }
+    requires { ⌜ (GoodCase case) × (Large (rooms (now c) (now k) (now m) (now a) (now b) (now w))) × (Large (rooms (now caps) (now marks) (now initial) (now pre) (now post) (now word))) ⌝ }
+    ensures { λ r. ⌜ came r (rooms (now (caps .exit)) (now (marks .exit)) (now (initial .exit)) (now (pre .exit)) (now (post .exit)) (now (word .exit)))
+        ≡ answered case (rooms (now (c .entry)) (now (k .entry)) (now (m .entry)) (now (a .entry)) (now (b .entry)) (now (w .entry)))
+        (rooms (now (caps .entry)) (now (marks .entry)) (now (initial .entry)) (now (pre .entry)) (now (post .entry)) (now (word .entry))) ⌝ }
 {
     match case {
         Case::Whole(s) => {
-            lay_out(s, c, m, a, b, w, caps, initial, pre, post, word);
+            lay_out(s, c, k, m, a, b, w, caps, marks, initial, pre, post, word);
             CaseFile::Read(s.places, s.transitions, s.letters)
         }
         Case::Refused(number, line) => CaseFile::Refused(number, line),
@@ -172,40 +195,65 @@ fn answer(
 fn read_into(
     file: &[u8],
     caps: &mut [u16],
+    marks: &mut [u8],
     initial: &mut [u16],
     pre: &mut [Weight],
     post: &mut [Weight],
     word: &mut [u8],
 ) -> CaseFile
-    requires { ⌜ Large (rooms (now caps) (now initial) (now pre) (now post) (now word)) ⌝ }
-    ensures { λ r. ⌜ came r (rooms (now (caps .exit)) (now (initial .exit)) (now (pre .exit)) (now (post .exit)) (now (word .exit)))
-        ≡ filledOf (now (file .entry)) (rooms (now (caps .entry)) (now (initial .entry)) (now (pre .entry)) (now (post .entry)) (now (word .entry))) ⌝ }
+    requires { ⌜ Large (rooms (now caps) (now marks) (now initial) (now pre) (now post) (now word)) ⌝ }
+    ensures { λ r. ⌜ came r (rooms (now (caps .exit)) (now (marks .exit)) (now (initial .exit)) (now (pre .exit)) (now (post .exit)) (now (word .exit)))
+        ≡ filledOf (now (file .entry)) (rooms (now (caps .entry)) (now (marks .entry)) (now (initial .entry)) (now (pre .entry)) (now (post .entry)) (now (word .entry))) ⌝ }
 {
     let mut c = blank_counts();
+    let mut k = blank_marks();
     let mut m = blank_counts();
     let mut a = blank_cells();
     let mut b = blank_cells();
     let mut w = blank_word();
-    let case = read_file(file, &mut c, &mut m, &mut a, &mut b, &mut w);
-    answer(case, &c, &m, &a, &b, &w, caps, initial, pre, post, word)
+    let case = read_file(file, &mut c, &mut k, &mut m, &mut a, &mut b, &mut w);
+    answer(
+        case,
+        &c,
+        &k,
+        &m,
+        &a,
+        &b,
+        &w,
+        caps,
+        marks,
+        initial,
+        pre,
+        post,
+        word,
+    )
 }
 
-// A file of bytes into rooms of 64, 64, 4,096, 4,096 and 65,535 entries: the net's own capacities,
-// tokens, Pre, Post and letters stand at their fronts, and the rest is as found; so is all after a refusal.
+// A file of bytes into rooms of 64, 64, 64, 4,096, 4,096 and 65,535 entries: the net's own
+// capacities, marks (0 or 1), tokens, Pre, Post and letters stand at their fronts, and the rest is as
+// found; so is all after a refusal.
 pub fn read_case(
     file: &[u8],
     caps: &mut [u16],
+    marks: &mut [u8],
     initial: &mut [u16],
     pre: &mut [Weight],
     post: &mut [Weight],
     word: &mut [u8],
 ) -> CaseFile
-    ensures { λ r. ⌜ CaseRead (now (file .entry)) (rooms (now (caps .entry)) (now (initial .entry)) (now (pre .entry)) (now (post .entry)) (now (word .entry))) r
-        (rooms (now (caps .exit)) (now (initial .exit)) (now (pre .exit)) (now (post .exit)) (now (word .exit))) ⌝ }
+    ensures { λ r. ⌜ CaseRead (now (file .entry)) (rooms (now (caps .entry)) (now (marks .entry)) (now (initial .entry)) (now (pre .entry)) (now (post .entry)) (now (word .entry))) r
+        (rooms (now (caps .exit)) (now (marks .exit)) (now (initial .exit)) (now (pre .exit)) (now (post .exit)) (now (word .exit))) ⌝ }
 {
-    let fits = is_largest(caps.len(), initial.len(), pre.len(), post.len(), word.len());
+    let fits = is_largest(
+        caps.len(),
+        marks.len(),
+        initial.len(),
+        pre.len(),
+        post.len(),
+        word.len(),
+    );
     if !fits {
         return CaseFile::Refused(2, 0);
     }
-    read_into(file, caps, initial, pre, post, word)
+    read_into(file, caps, marks, initial, pre, post, word)
 }

@@ -17,20 +17,32 @@ ghost use Rattle.file_reads.specs.Walk.{OneRead};
 fn read_some(
     h: Held,
     caps: &mut [u16],
+    marks: &mut [u8],
     initial: &mut [u16],
     pre: &mut [Weight],
     post: &mut [Weight],
     word: &mut [u8],
 ) -> Fed
-    requires { ⌜ (Sound h) × (Large (rooms (now caps) (now initial) (now pre) (now post) (now word))) ⌝ }
+    requires { ⌜ (Sound h) × (Large (rooms (now caps) (now marks) (now initial) (now pre) (now post) (now word))) ⌝ }
     ensures sound { λ r. ⌜ Sound (r .held) ⌝ }
-    ensures step { λ r. ⌜ OneRead (state (both (abs h) (rooms (now (caps .entry)) (now (initial .entry)) (now (pre .entry)) (now (post .entry)) (now (word .entry)))) Input.More)
-        (state (both (abs (r .held)) (rooms (now (caps .exit)) (now (initial .exit)) (now (pre .exit)) (now (post .exit)) (now (word .exit)))) (r .input)) ⌝ }
+    ensures step { λ r. ⌜ OneRead (state (both (abs h) (rooms (now (caps .entry)) (now (marks .entry)) (now (initial .entry)) (now (pre .entry)) (now (post .entry)) (now (word .entry)))) Input.More)
+        (state (both (abs (r .held)) (rooms (now (caps .exit)) (now (marks .exit)) (now (initial .exit)) (now (pre .exit)) (now (post .exit)) (now (word .exit)))) (r .input)) ⌝ }
 {
     let mut buf = io::large_buffer();
     let got = libc::read(STDIN_FILENO, &mut buf);
     let interrupted = os::errno() == libc::EINTR;
-    file_reads::take_read(h, got, interrupted, &buf, caps, initial, pre, post, word)
+    file_reads::take_read(
+        h,
+        got,
+        interrupted,
+        &buf,
+        caps,
+        marks,
+        initial,
+        pre,
+        post,
+        word,
+    )
 }
 
 // Every read of standard input, up to the first that leaves no more. The loop counts its turns down from a number that no
@@ -38,20 +50,21 @@ fn read_some(
 pub fn read_all(
     h: Held,
     caps: &mut [u16],
+    marks: &mut [u8],
     initial: &mut [u16],
     pre: &mut [Weight],
     post: &mut [Weight],
     word: &mut [u8],
 ) -> Fed
-    requires { ⌜ (Sound h) × (Large (rooms (now caps) (now initial) (now pre) (now post) (now word))) ⌝ }
+    requires { ⌜ (Sound h) × (Large (rooms (now caps) (now marks) (now initial) (now pre) (now post) (now word))) ⌝ }
     ensures sound { λ r. ⌜ Sound (r .held) ⌝ }
-    ensures reads { λ r. ⌜ InputRead (state (both (abs h) (rooms (now (caps .entry)) (now (initial .entry)) (now (pre .entry)) (now (post .entry)) (now (word .entry)))) Input.More)
-        (state (both (abs (r .held)) (rooms (now (caps .exit)) (now (initial .exit)) (now (pre .exit)) (now (post .exit)) (now (word .exit)))) (r .input)) ⌝ }
+    ensures reads { λ r. ⌜ InputRead (state (both (abs h) (rooms (now (caps .entry)) (now (marks .entry)) (now (initial .entry)) (now (pre .entry)) (now (post .entry)) (now (word .entry)))) Input.More)
+        (state (both (abs (r .held)) (rooms (now (caps .exit)) (now (marks .exit)) (now (initial .exit)) (now (pre .exit)) (now (post .exit)) (now (word .exit)))) (r .input)) ⌝ }
 {
     let mut r = h;
     let mut turns = u64::MAX;
     while 0 < turns {
-        let f = read_some(r, caps, initial, pre, post, word);
+        let f = read_some(r, caps, marks, initial, pre, post, word);
         let input = f.input;
         match input {
             Input::More => {

@@ -1,6 +1,7 @@
 -- What the walk needs of a line that is taken, from document 01's demands, and that a good state stays good. Assumes nothing.
 use mathlib.Core.Path.{_≡_, refl, sym, subst}
 use mathlib.Core.Bool.{Bool, true, false, cond}
+use mathlib.Core.Logic.{_⊎_, inl, inr}
 use mathlib.Core.List.{List}
 use Prim.Native.Nat.{ℕ, zero, suc, _+_, _*_, _≤_, _<_}
 use native.Mathlib.Omega.{arith}
@@ -14,7 +15,7 @@ use Rattle.file_line.specs.declared.Reading.{Reading}
 use Rattle.file_line.specs.Read.{cellLimit, Rooms, kindOf, phaseAfter, lettersIn, judgeOf, advanced, advancedKind, storedKind}
 use Rattle.file_line.specs.Line.{Ruled, Formed, CountsInRange, WordNotOver}
 use Rattle.file_line.specs.Walk.{Good, askedOf, Accepted}
-use Rattle.file_line.proofs.Order.{formed-kind, formed-01, formed-02, formed-03, formed-04, formed-05, taken-of, asked-of-line}
+use Rattle.file_line.proofs.Order.{formed-kind, formed-01, formed-02, formed-03, formed-04, formed-05, formed-06, taken-of, asked-of-line}
 
 pub row-fits : (t p n : ℕ) → t < n → n ≤ countLimit → p ≤ countLimit → t * p + p ≤ cellLimit
 row-fits t p n h k l =
@@ -33,6 +34,7 @@ module _ (s : Reading) (d : List ℕ) where
             let r = counts .transitions q in
             (f .0, f .1, p .1, r .0, r .1, p .0);
         caps = λ q. formed-02 s d formed q;
+        pockets = λ q. let f = formed-06 s d formed q in (f .0, f .1);
         tokens = λ q. formed-03 s d formed q;
         row = λ q. let f = formed-04 s d formed q in (f .0, f .1);
         letters = λ q. let f = formed-05 s d formed q in (f .0, f .2, f .3, word .few q);
@@ -51,11 +53,10 @@ module _ (s : Reading) (d : List ℕ) where
   pub good-advanced : Good s → Accepted s d → Good (advanced s d)
   unfolding advancedKind
   good-advanced g a = go (byteAt d 0) refl (a .kind-least) (a .kind) where
-    early : (k : ℕ) → s .phase ≡ k → 2 ≤ k → k ≤ 3
-        → Good (record { phase = k + 1; places = s .places; transitions = s .transitions; next = 0; letters = 0; line = s .line + 1 })
-    early k e l m =
-        let n = g .early (omega arith) in
-        let w = g .wordless (omega arith) in
+    -- after 02, 06 and 03: f is the kind that comes next
+    early : (f : ℕ) → 2 ≤ s .phase → s .next ≡ 0 → s .letters ≡ 0 → 3 ≤ f → f ≤ 6 → s .line + 1 ≤ f → (f ≡ 6 → s .line + 1 ≤ 2)
+        → Good (record { phase = f; places = s .places; transitions = s .transitions; next = 0; letters = 0; line = s .line + 1 })
+    early f e n w l m h p =
         let t = g .some (omega arith) in
         let u = g .some-places (omega arith) in
         record {
@@ -69,9 +70,20 @@ module _ (s : Reading) (d : List ℕ) where
           rows = λ _. omega arith;
           early = λ _. refl;
           wordless = λ _. refl;
+          pockets = λ q. (refl, refl, p q);
           letters = omega arith;
+          line-early = λ q. omega arith;
           line = omega arith;
         }
+
+    -- 03 comes after 06, or where it may come
+    tokens : (s .phase ≡ 6) ⊎ (s .phase ≡ 3)
+        → Good (record { phase = 4; places = s .places; transitions = s .transitions; next = 0; letters = 0; line = s .line + 1 })
+    tokens (inl e) = let p = g .pockets e in early 4 (omega arith) (p .0) (p .1) (omega arith) (omega arith) (omega (arith, p .2)) (λ q. omega arith)
+    tokens (inr e) =
+        let n = g .early (omega arith) in
+        let w = g .wordless (omega arith) in
+        early 4 (omega arith) n w (omega arith) (omega arith) (omega (arith, g .line)) (λ q. omega arith)
 
     row : (b : Bool) → eqb (s .next + 1) (s .transitions) ≡ b → s .phase ≡ 4
         → Good (record { phase = cond b 5 4; places = s .places; transitions = s .transitions; next = s .next + 1; letters = 0; line = s .line + 1 })
@@ -89,7 +101,9 @@ module _ (s : Reading) (d : List ℕ) where
           rows = λ q. omega arith;
           early = λ q. omega arith;
           wordless = λ q. refl;
+          pockets = λ q. omega arith;
           letters = omega arith;
+          line-early = λ q. omega arith;
           line = omega arith;
         }
     row false e h =
@@ -107,16 +121,19 @@ module _ (s : Reading) (d : List ℕ) where
           rows = λ q. omega arith;
           early = λ q. omega arith;
           wordless = λ q. refl;
+          pockets = λ q. omega arith;
           letters = omega arith;
+          line-early = λ q. omega arith;
           line = omega arith;
         }
 
-    go : (k : ℕ) → byteAt d 0 ≡ k → 1 ≤ k → k ≤ 5 → Good (advancedKind k s d)
+    go : (k : ℕ) → byteAt d 0 ≡ k → 1 ≤ k → k ≤ 6 → Good (advancedKind k s d)
     go zero e l m = absurd (not-suc-le-zero l)
     go (suc zero) e l m =
         let h = a .counts e in
         let n = g .early (omega arith) in
         let w = g .wordless (omega arith) in
+        let i = g .line-early (omega arith) in
         record {
           phase-least = omega arith;
           phase = omega arith;
@@ -128,11 +145,18 @@ module _ (s : Reading) (d : List ℕ) where
           rows = λ q. omega arith;
           early = λ q. refl;
           wordless = λ q. refl;
+          pockets = λ q. omega arith;
           letters = omega arith;
+          line-early = λ q. omega arith;
           line = omega arith;
         }
-    go (suc (suc zero)) e l m = early 2 (a .caps e .0) (omega arith) (omega arith)
-    go (suc (suc (suc zero))) e l m = early 3 (a .tokens e .0) (omega arith) (omega arith)
+    go (suc (suc zero)) e l m =
+        let p = a .caps e .0 in
+        let n = g .early (omega arith) in
+        let w = g .wordless (omega arith) in
+        let i = g .line-early (omega arith) in
+        early 6 (omega arith) n w (omega arith) (omega arith) (omega arith) (λ q. omega arith)
+    go (suc (suc (suc zero))) e l m = tokens (a .tokens e .0)
     go (suc (suc (suc (suc zero)))) e l m = row _ refl (a .row e .0)
     go (suc (suc (suc (suc (suc zero))))) e l m =
         let h = a .letters e in
@@ -149,10 +173,16 @@ module _ (s : Reading) (d : List ℕ) where
           rows = λ q. omega arith;
           early = λ q. omega arith;
           wordless = λ q. omega arith;
+          pockets = λ q. omega arith;
           letters = h .3;
+          line-early = λ q. omega arith;
           line = omega arith;
         }
-    go (suc (suc (suc (suc (suc (suc k)))))) e l m = absurd (omega arith)
+    go (suc (suc (suc (suc (suc (suc zero)))))) e l m =
+        let p = a .pockets e .0 in
+        let q = g .pockets p in
+        early 3 (omega arith) (q .0) (q .1) (omega arith) (omega arith) (omega (arith, q .2)) (λ z. omega arith)
+    go (suc (suc (suc (suc (suc (suc (suc k))))))) e l m = absurd (omega arith)
 
   pub both : (r : Reading) → Good s → Accepted s d → r ≡ advanced s d → (r ≡ advanced s d) × Good r
   both r g a e = (e, subst Good (sym e) (good-advanced g a))
@@ -178,6 +208,6 @@ module _ (s : Reading) (d : List ℕ) where
     unfolding advancedKind
     advanced-rest a b g = rw (← e, p, ne-eqb k 1 a, ne-eqb k 4 b, ne-eqb k 5 g)
 
-pub stored-rest : (s : Reading) (d : List ℕ) (x : Rooms) (k : ℕ) → (k ≡ 2 → ⊥) → (k ≡ 3 → ⊥) → (k ≡ 4 → ⊥) → (k ≡ 5 → ⊥) → storedKind k s d x ≡ x
+pub stored-rest : (s : Reading) (d : List ℕ) (x : Rooms) (k : ℕ) → (k ≡ 2 → ⊥) → (k ≡ 3 → ⊥) → (k ≡ 4 → ⊥) → (k ≡ 5 → ⊥) → (k ≡ 6 → ⊥) → storedKind k s d x ≡ x
 unfolding storedKind
-stored-rest s d x k a b g h = simp (ne-eqb k 2 a, ne-eqb k 3 b, ne-eqb k 4 g, ne-eqb k 5 h)
+stored-rest s d x k a b g h i = simp (ne-eqb k 2 a, ne-eqb k 3 b, ne-eqb k 4 g, ne-eqb k 5 h, ne-eqb k 6 i)

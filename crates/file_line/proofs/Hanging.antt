@@ -60,11 +60,11 @@ module _ (s : Reading) (d : List ℕ) (k : ℕ) (e : k ≡ kindOf d) (r : Bool) 
     asked-loose y h g = g ∙ rw (← e) (goes (eqb k 4) (eqb (s .next + 1) (s .transitions)) (hangsLoose (netIn s y)) (sym f ∙ q))
 
     -- the net is in the rooms
-    module _ (g : Good s) (t : Accepted s d) (c a b : List ℕ) (m : Tables c a b) where
+    module _ (g : Good s) (t : Accepted s d) (c marks a b : List ℕ) (m : Tables c marks a b) where
       fourth : s .phase ≡ 4
       fourth = t .row (sym e ∙ eqb-true k 4 (and-true (eqb k 4) (eqb (s .next + 1) (s .transitions)) (sym f ∙ q) .0)) .0
 
-      pub net-sized : Sized (netIn s (rooms c [] a b []))
+      pub net-sized : Sized (netIn s (rooms c marks [] a b []))
       net-sized =
           let p = fourth in
           record {
@@ -75,6 +75,7 @@ module _ (s : Reading) (d : List ℕ) (k : ℕ) (e : k ≡ kindOf d) (r : Bool) 
             pres = length-take-le (s .transitions * s .places) a (omega (arith, cells-few s g, m .pre));
             posts = length-take-le (s .transitions * s .places) b (omega (arith, cells-few s g, m .post));
             capped = length-take-le (s .places) c (omega (arith, g .places, m .caps));
+            noted = length-take-le (s .places) marks (omega (arith, g .places, m .marks));
           }
 
 -- what a line that is stored comes to: r whether the net hangs loose

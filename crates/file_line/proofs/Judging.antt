@@ -7,7 +7,7 @@ use mathlib.Core.List.{List, []}
 use Prim.Native.Nat.{ℕ, _+_, _*_, _<_, _≤_, _%_}
 use lib.Dec.{leb, ltb, eqb}
 use lib.ListN.{length}
-use borrow.Author.Tests.{lt-ltb, le-ltb, eq-eqb, ne-eqb, lt-leb, le-leb, eqb-true}
+use borrow.Author.Tests.{lt-ltb, le-ltb, eq-eqb, ne-eqb, lt-leb, le-leb, eqb-true, eqb-false, not-true, not-false}
 use Rattle.ground.specs.Limits.{wordLimit}
 use Rattle.refusals.specs.Given.{refuse, orElse, outside, badToken, badLetter}
 use Rattle.refusals.specs.declared.Fault.{Fault}
@@ -15,6 +15,7 @@ use Rattle.refusals.specs.declared.Fault.the-variants.{Sound, Faulty}
 use Rattle.refusals.proofs.Chains.{fault-one, not-sound, or-none}
 use Rattle.file_digits.specs.Frame.{block, byteAt, wordsFrom}
 use Rattle.file_digits.proofs.Bytes.{words-long}
+use Rattle.file_mask.specs.Mask.{maskBytes, maskFits, maskIn}
 use Rattle.file_line.specs.declared.Reading.{Reading}
 use Rattle.file_line.specs.declared.Took.{Took}
 use Rattle.file_line.specs.Read.{Rooms, rooms, kindOf, expected, tokensIn, lettersIn, wordPart, stored, countsBad, tokensBad, looseBad, wordOver, lettersBad, lineHere, ruleOf, formedOf, formedKind, judgeOf, advanced, tookBy, keptBy, lineOf, roomsOf}
@@ -33,41 +34,61 @@ module _ (letters len : ℕ) where
   pub block-long : letters % block ≡ 0 → 4 ≤ len → leb len (2 + 2 * block) ≡ (eqb (letters % block) 0 && (leb 4 len && leb len (2 + 2 * block)))
   block-long e h = rw (eq-eqb (letters % block) 0 e, le-leb 4 len h)
 
--- the form of a frame, by its kind
-module _ (s : Reading) (d : List ℕ) where
-  pub form-other : (k : ℕ) → k ≡ kindOf d → (k ≡ s .phase → ⊥) → false ≡ formedOf s d
-  unfolding formedOf
-  form-other k e n = rw (← e, ne-eqb k (expected s) n)
+-- whether a kind may come next, as a test of two numbers: it is true only there, and false nowhere there
+pub expected-test : (t : Bool) (phase kind : ℕ) → (t ≡ true → (kind ≡ phase → ⊥) → (phase ≡ 6) × (kind ≡ 3)) → (t ≡ false → kind ≡ phase → ⊥) → (t ≡ false → phase ≡ 6 → kind ≡ 3 → ⊥)
+    → t ≡ (eqb kind phase || (eqb phase 6 && eqb kind 3))
+expected-test t phase kind a b c = go (eqb kind phase) refl t refl
+  where
+    rest : (x : Bool) → eqb phase 6 ≡ x → (y : Bool) → eqb kind 3 ≡ y → t ≡ false → false ≡ (x && y)
+    rest true p true q r = absurd (c r (eqb-true _ _ p) (eqb-true _ _ q))
+    rest true p false q r = refl
+    rest false p y q r = refl
 
-  form-is : (k : ℕ) (r : Bool) → k ≡ kindOf d → k ≡ s .phase → r ≡ formedKind k s d → r ≡ formedOf s d
-  unfolding formedOf
-  form-is k r e p q = rw (← e, eq-eqb k (expected s) p) q
+    go : (x : Bool) → eqb kind phase ≡ x → (u : Bool) → t ≡ u → t ≡ (x || (eqb phase 6 && eqb kind 3))
+    go true q true r = r
+    go true q false r = absurd (b r (eqb-true _ _ q))
+    go false q true r = let h = a r (eqb-false _ _ q) in rw (r, h .0, h .1)
+    go false q false r = rw r (rest (eqb phase 6) refl (eqb kind 3) refl r)
 
-  module _ (k : ℕ) (e : k ≡ kindOf d) (p : k ≡ s .phase) where
+-- the form of a frame, by its kind: x is whether it may come next
+module _ (s : Reading) (d : List ℕ) (k : ℕ) (e : k ≡ kindOf d) (x : Bool) (f : x ≡ expected s k) where
+  pub form-other : not x ≡ true → false ≡ formedOf s d
+  unfolding formedOf
+  form-other n = rw (← e, ← f, not-true x n)
+
+  module _ (p : not x ≡ false) where
+    form-is : (r : Bool) → r ≡ formedKind k s d → r ≡ formedOf s d
+    unfolding formedOf
+    form-is r q = rw (← e, ← f, not-false x p) q
+
     pub form-01 : k ≡ 1 → eqb (length d) 6 ≡ formedOf s d
     unfolding formedKind
-    form-01 q = form-is k _ e p (rw q)
+    form-01 q = form-is _ (rw q)
 
     pub form-02 : k ≡ 2 → eqb (length d) (2 + 4 * s .places) ≡ formedOf s d
     unfolding formedKind
-    form-02 q = form-is k _ e p (rw q)
+    form-02 q = form-is _ (rw q)
 
     pub form-03 : k ≡ 3 → eqb (length d) (2 + 4 * s .places) ≡ formedOf s d
     unfolding formedKind
-    form-03 q = form-is k _ e p (rw q)
+    form-03 q = form-is _ (rw q)
 
     pub form-04 : (r : Bool) → k ≡ 4 → r ≡ (eqb (length d) (4 + 4 * s .places) && eqb (byteAt d 1) (s .next)) → r ≡ formedOf s d
     unfolding formedKind
-    form-04 r q h = form-is k r e p (rw q h)
+    form-04 r q h = form-is r (rw q h)
 
     pub form-05 : (r : Bool) → k ≡ 5 → r ≡ (eqb (s .letters % block) 0 && (leb 4 (length d) && leb (length d) (2 + 2 * block))) → r ≡ formedOf s d
     unfolding formedKind
-    form-05 r q h = form-is k r e p (rw q h)
+    form-05 r q h = form-is r (rw q h)
 
-    pub form-rest : (k ≡ 1 → ⊥) → (k ≡ 2 → ⊥) → (k ≡ 3 → ⊥) → (k ≡ 4 → ⊥) → (k ≡ 5 → ⊥) → false ≡ formedOf s d
-    form-rest a b c f g = form-is k false e p (sym (formed-rest s d k a b c f g))
+    pub form-06 : (r : Bool) → k ≡ 6 → r ≡ (eqb (length d) (2 + 2 * maskBytes) && maskFits (maskIn d) (s .places)) → r ≡ formedOf s d
+    unfolding formedKind
+    form-06 r q h = form-is r (rw q h)
 
-pub ruleset forms = (form-other, form-01, form-02, form-03, form-04, form-05, form-rest)
+    pub form-rest : (k ≡ 1 → ⊥) → (k ≡ 2 → ⊥) → (k ≡ 3 → ⊥) → (k ≡ 4 → ⊥) → (k ≡ 5 → ⊥) → (k ≡ 6 → ⊥) → false ≡ formedOf s d
+    form-rest a b c f g h = form-is false (sym (formed-rest s d k a b c f g h))
+
+pub ruleset forms = (form-other, form-01, form-02, form-03, form-04, form-05, form-06, form-rest)
 
 -- the chain before a line is stored
 module _ (s : Reading) (d : List ℕ) (x : Rooms) where
@@ -100,7 +121,7 @@ module _ (s : Reading) (d : List ℕ) (x : Rooms) where
       judge-rest a b c = rw (r, f, ne-eqb (kindOf d) 1 a, ne-eqb (kindOf d) 3 b, ne-eqb (kindOf d) 5 c)
 
 -- only the capacities are looked at
-judge-caps : (s : Reading) (d : List ℕ) (x : Rooms) (a : Fault) → a ≡ askedOf s d (rooms (x .caps) [] [] [] []) → askedOf s d x ≡ a
+judge-caps : (s : Reading) (d : List ℕ) (x : Rooms) (a : Fault) → a ≡ askedOf s d (rooms (x .caps) [] [] [] [] []) → askedOf s d x ≡ a
 unfolding askedOf
 judge-caps s d x a e = sym e
 
@@ -147,7 +168,7 @@ asked-early s d x =
     (early-test (lettersBad s d) 5 (lineHere s) (omega arith))))))
 
 -- a line that is refused before it is stored, and one that is not: a is what `judge` found
-module _ (s : Reading) (d : List ℕ) (x : Rooms) (a : Fault) (e : a ≡ askedOf s d (rooms (x .caps) [] [] [] [])) where
+module _ (s : Reading) (d : List ℕ) (x : Rooms) (a : Fault) (e : a ≡ askedOf s d (rooms (x .caps) [] [] [] [] [])) where
   pub asked-refused : (n at : ℕ) → a ≡ Faulty n at → (judgeOf s d x ≡ Faulty n at) × (eqb n 17 ≡ false)
   asked-refused n at q =
       let f = judge-caps s d x a e ∙ q in

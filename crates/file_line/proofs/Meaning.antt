@@ -1,7 +1,7 @@
 -- What the answer to a line means: the first of document 01's demands that it breaks (in the order 11, 12, 1, 3, 17, 4, 5: DECISIONS 48). Assumes nothing.
 use mathlib.Core.Path.{_≡_, refl}
 use mathlib.Core.Bool.{Bool, true, false, cond}
-use mathlib.Core.Logic.{_↔_}
+use mathlib.Core.Logic.{_↔_, _⊎_}
 use mathlib.Core.List.{List, []}
 use Prim.Native.Nat.{ℕ, _+_, _≤_, _<_, _%_}
 use native.Mathlib.Omega.{arith}
@@ -13,11 +13,12 @@ use Rattle.wiring.specs.Wired.{Wired}
 use Rattle.refusals.specs.First.{First, fails, holds, Given}
 use Rattle.refusals.specs.declared.Fault.the-variants.{Sound, Faulty}
 use Rattle.file_digits.specs.Frame.{lineLimit, block}
+use Rattle.file_mask.specs.Mask.{maskIn}
 use Rattle.file_line.specs.declared.Reading.{Reading}
 use Rattle.file_line.specs.declared.Took.the-variants.{Next, Refused}
-use Rattle.file_line.specs.Read.{Rooms, kindOf, expected, lettersIn, lineHere, judgeOf, advanced, advancedKind, stored, netIn, lineOf, roomsOf}
-use Rattle.file_line.specs.Line.{Digit, Ruled, Formed, NetWired, WordNotOver, LettersNamed, Taken, Judged}
-use Rattle.file_line.proofs.Order.{no-counts, no-tokens, no-net, no-long, no-letters, formed-01, formed-03, formed-05, judged-chain, taken-of, of-taken}
+use Rattle.file_line.specs.Read.{Rooms, kindOf, lettersIn, lineHere, judgeOf, advanced, advancedKind, stored, netIn, lineOf, roomsOf}
+use Rattle.file_line.specs.Line.{Digit, Ruled, NoBitPast, Formed, frame01, frame02, frame06, frame03, frame04, frame05, NetWired, WordNotOver, LettersNamed, Taken, Judged}
+use Rattle.file_line.proofs.Order.{no-counts, no-tokens, no-net, no-long, no-letters, formed-01, formed-03, formed-05, formed-06, judged-chain, taken-of, of-taken}
 
 -- another number was given, so the demand holds
 past : {Demand Next : Type 0} {k p n at : ℕ} → First Demand (Given k p n at) Next → (n ≡ k → ⊥) → Demand × Next
@@ -61,9 +62,20 @@ module _ (s : Reading) (d : List ℕ) (x : Rooms) where
   pub digits-most : lineLimit < length d → judgeOf s d x ≡ Faulty 11 (lineHere s)
   digits-most h = digits-first (λ r. let z = r .most in omega arith)
 
-  -- then a frame of another kind, length or index is 12, whatever its numbers are
+  -- then a frame of another kind, length, index or mask is 12, whatever its numbers are
   pub form-second : Ruled d → (Formed s d → ⊥) → judgeOf s d x ≡ Faulty 12 (lineHere s)
   form-second r h = judged-exactly 12 (lineHere s) .1 (holds r (fails h (given 12)))
+
+  -- so is a 06 anywhere but behind 02, a mask with no bit, and one with a bit at or past P
+  module _ (r : Ruled d) (k : kindOf d ≡ 6) where
+    pub pockets-elsewhere : (s .phase ≡ 6 → ⊥) → judgeOf s d x ≡ Faulty 12 (lineHere s)
+    pockets-elsewhere n = form-second r (λ f. n (formed-06 s d f k .0))
+
+    pub pockets-none : maskIn d ≡ 0 → judgeOf s d x ≡ Faulty 12 (lineHere s)
+    pockets-none z = form-second r (λ f. formed-06 s d f k .2 z)
+
+    pub pockets-past : (NoBitPast s d → ⊥) → judgeOf s d x ≡ Faulty 12 (lineHere s)
+    pockets-past n = form-second r (λ f. n (formed-06 s d f k .3))
 
   -- letter 65,536 is 4, before a wrong letter of the same line
   pub over-before-letter : Ruled d → Formed s d → kindOf d ≡ 5 → wordLimit < s .letters + lettersIn d → judgeOf s d x ≡ Faulty 4 (lineHere s)
@@ -85,14 +97,14 @@ module _ (s : Reading) (d : List ℕ) (x : Rooms) where
   not-held no-more (fails h e) = h
 
   module _ (at : ℕ) where
-    pub one-on-01 : judgeOf s d x ≡ Faulty 1 at → (expected s ≡ 1) × (kindOf d ≡ 1)
+    pub one-on-01 : judgeOf s d x ≡ Faulty 1 at → (s .phase ≡ 1) × (kindOf d ≡ 1)
     one-on-01 e =
         let a = past (judged-exactly 1 at .0 e) (λ q. omega arith) in
         let b = past (a .1) (λ q. omega arith) in
         let k = on-kind 1 (no-counts s d x) (λ f. past (past (past (past f (λ q. omega arith) .1) (λ q. omega arith) .1) (λ q. omega arith) .1) (λ q. omega arith) .1) (b .1) in
         (formed-01 s d (b .0) k .0, k)
 
-    pub three-on-03 : judgeOf s d x ≡ Faulty 3 at → (expected s ≡ 3) × (kindOf d ≡ 3)
+    pub three-on-03 : judgeOf s d x ≡ Faulty 3 at → ((s .phase ≡ 6) ⊎ (s .phase ≡ 3)) × (kindOf d ≡ 3)
     three-on-03 e =
         let a = past (judged-exactly 3 at .0 e) (λ q. omega arith) in
         let b = past (a .1) (λ q. omega arith) in
@@ -128,7 +140,7 @@ module _ (s : Reading) (d : List ℕ) (x : Rooms) where
             (holds (h .0) (holds (h .1) (holds (no-counts s d x (λ q. omega arith)) (holds (no-tokens s d x (λ q. omega arith))
             (fails (λ w. h .4 (w .wired (h .2) (h .3))) (record { number = refl; position = h .5 }))))))
 
-    pub four-on-05 : judgeOf s d x ≡ Faulty 4 at → (expected s ≡ 5) × (kindOf d ≡ 5)
+    pub four-on-05 : judgeOf s d x ≡ Faulty 4 at → (s .phase ≡ 5) × (kindOf d ≡ 5)
     four-on-05 e =
         let a = past (judged-exactly 4 at .0 e) (λ q. omega arith) in
         let b = past (a .1) (λ q. omega arith) in
@@ -137,7 +149,7 @@ module _ (s : Reading) (d : List ℕ) (x : Rooms) where
         let k = on-kind 5 (no-long s d x) (λ f. past f (λ q. omega arith) .1) (f .1) in
         (formed-05 s d (b .0) k .0, k)
 
-    pub five-on-05 : judgeOf s d x ≡ Faulty 5 at → (expected s ≡ 5) × (kindOf d ≡ 5)
+    pub five-on-05 : judgeOf s d x ≡ Faulty 5 at → (s .phase ≡ 5) × (kindOf d ≡ 5)
     five-on-05 e =
         let a = past (judged-exactly 5 at .0 e) (λ q. omega arith) in
         let b = past (a .1) (λ q. omega arith) in
@@ -170,3 +182,21 @@ short-then-more s d e x j k h r l =
     let even : length d % 2 ≡ 0 = t .ruled .even in
     let m : advanced s d .letters ≡ s .letters + lettersIn d = rw k in
     form-second (advanced s d) e x r (λ g. let z = formed-05 (advanced s d) e g l .1 in omega (arith, f .1, f .2))
+
+-- behind a line that is no 02 a 06 is 12: so after 03, and so a second 06
+behind : (s : Reading) (d : List ℕ) → (kindOf d ≡ 2 → ⊥) → Formed s d → advanced s d .phase ≡ 6 → ⊥
+unfolding advancedKind
+behind s d n (frame01 p k l) q = let z : _≡_ {A = ℕ} 2 6 = rw k at q in omega arith
+behind s d n (frame02 p k l) q = n k
+behind s d n (frame06 p k l m z) q = let w : _≡_ {A = ℕ} 3 6 = rw k at q in omega arith
+behind s d n (frame03 p k l) q = let z : _≡_ {A = ℕ} 4 6 = rw k at q in omega arith
+behind s d n (frame04 p k l i) q = row (eqb (s .next + 1) (s .transitions)) (rw k at q)
+  where
+    row : (b : Bool) → _≡_ {A = ℕ} (cond b 5 4) 6 → ⊥
+    row true z = omega arith
+    row false z = omega arith
+behind s d n (frame05 p k a l m) q = let z : _≡_ {A = ℕ} 5 6 = rw k at q in omega arith
+
+pub pockets-only-behind-02 : (s : Reading) (d e : List ℕ) (x y : Rooms) → judgeOf s d x ≡ Sound → (kindOf d ≡ 2 → ⊥) → Ruled e → kindOf e ≡ 6
+    → judgeOf (advanced s d) e y ≡ Faulty 12 (lineHere (advanced s d))
+pockets-only-behind-02 s d e x y j n r l = pockets-elsewhere (advanced s d) e y r l (behind s d n (taken-exactly s d x .0 j .formed))

@@ -1,6 +1,7 @@
 -- The tests of a line are document 01's demands, in the order of the numbers. Assumes nothing.
 use mathlib.Core.Path.{_≡_, refl, sym, _∙_}
 use mathlib.Core.Bool.{Bool, true, false, not, _&&_}
+use mathlib.Core.Logic.{_⊎_, inl, inr}
 use mathlib.Core.List.{List}
 use Prim.Native.Nat.{ℕ, zero, suc, _+_, _*_, _≤_, _<_, _%_}
 use native.Mathlib.Omega.{arith}
@@ -18,9 +19,10 @@ use Rattle.refusals.proofs.Chains.{refuse-sound, sound-refuse, or-sound, sound-
 use Rattle.refusals.proofs.Refusals.{inside-of, inside-is, loose-met, met-loose, fine-of, fine-is}
 use Rattle.refusals.proofs.Exactly.{Chain, tells-test, reads-test, reads-both, reads-all}
 use Rattle.file_digits.specs.Frame.{block, byteAt}
+use Rattle.file_mask.specs.Mask.{maskBytes, aboveBits, maskFits, maskIn}
 use Rattle.file_line.specs.declared.Reading.{Reading}
 use Rattle.file_line.specs.Read.{Rooms, kindOf, expected, tokensIn, wordPart, lineHere, ruleOf, formedKind, formedOf, countsBad, tokensBad, isFaulty, hangsLoose, looseBad, wordOver, lettersBad, stored, judgeOf}
-use Rattle.file_line.specs.Line.{Ruled, Formed, frame01, frame02, frame03, frame04, frame05, CountsInRange, TokensAllowed, NetWired, WordNotOver, LettersNamed, Taken, Judged}
+use Rattle.file_line.specs.Line.{Ruled, SomeBit, NoBitPast, Formed, frame01, frame02, frame06, frame03, frame04, frame05, CountsInRange, TokensAllowed, NetWired, WordNotOver, LettersNamed, Taken, Judged}
 use Rattle.file_line.specs.Walk.{askedOf}
 use Rattle.file_line.proofs.Digits.{rule-exactly}
 
@@ -37,50 +39,89 @@ module _ (k j : ℕ) (b : Bool) where
       go false q = refl
 
 -- no other kind is known
-pub formed-rest : (s : Reading) (d : List ℕ) (k : ℕ) → (k ≡ 1 → ⊥) → (k ≡ 2 → ⊥) → (k ≡ 3 → ⊥) → (k ≡ 4 → ⊥) → (k ≡ 5 → ⊥) → formedKind k s d ≡ false
+pub formed-rest : (s : Reading) (d : List ℕ) (k : ℕ) → (k ≡ 1 → ⊥) → (k ≡ 2 → ⊥) → (k ≡ 3 → ⊥) → (k ≡ 4 → ⊥) → (k ≡ 5 → ⊥) → (k ≡ 6 → ⊥) → formedKind k s d ≡ false
 unfolding formedKind
-formed-rest s d k a b e f g = simp (ne-eqb k 1 a, ne-eqb k 2 b, ne-eqb k 3 e, ne-eqb k 4 f, ne-eqb k 5 g)
+formed-rest s d k a b e f g h = simp (ne-eqb k 1 a, ne-eqb k 2 b, ne-eqb k 3 e, ne-eqb k 4 f, ne-eqb k 5 g, ne-eqb k 6 h)
+
+-- a mask has some bit, and none past the places: its test says so
+module _ (m P : ℕ) where
+  mask-some : maskFits m P ≡ true → (m ≡ 0 → ⊥) × (aboveBits m P ≡ 0)
+  unfolding maskFits
+  mask-some e =
+      let a = and-true (not (eqb m 0)) (eqb (aboveBits m P) 0) e in
+      (λ z. never (sym (rw z at (a .0))), eqb-true _ _ (a .1))
+
+  mask-is : (m ≡ 0 → ⊥) → aboveBits m P ≡ 0 → maskFits m P ≡ true
+  unfolding maskFits
+  mask-is n z = rw (ne-eqb m 0 n, z)
+
+-- the kind that the state says, or a 03 where a 06 may come
+module _ (s : Reading) (k : ℕ) where
+  expected-says : expected s k ≡ true → (k ≡ s .phase) ⊎ ((s .phase ≡ 6) × (k ≡ 3))
+  expected-says e = go (eqb k (s .phase)) refl
+    where
+      go : (b : Bool) → eqb k (s .phase) ≡ b → (k ≡ s .phase) ⊎ ((s .phase ≡ 6) × (k ≡ 3))
+      go true q = inl (eqb-true _ _ q)
+      go false q =
+          let a = and-true (eqb (s .phase) 6) (eqb k 3) (rw q at e) in
+          inr (eqb-true _ _ (a .0), eqb-true _ _ (a .1))
 
 -- a frame that is formedOf, by its kind
 module _ (s : Reading) (d : List ℕ) where
-  pub formed-kind : Formed s d → (1 ≤ kindOf d) × (kindOf d ≤ 5) × (kindOf d ≡ expected s)
-  formed-kind (frame01 p k l) = (omega arith, omega arith, k ∙ sym p)
-  formed-kind (frame02 p k l) = (omega arith, omega arith, k ∙ sym p)
-  formed-kind (frame03 p k l) = (omega arith, omega arith, k ∙ sym p)
-  formed-kind (frame04 p k l i) = (omega arith, omega arith, k ∙ sym p)
-  formed-kind (frame05 p k q l m) = (omega arith, omega arith, k ∙ sym p)
+  -- where it stands: the kind that the state says, or a 03 where a 06 may come
+  pub formed-kind : Formed s d → (1 ≤ kindOf d) × (kindOf d ≤ 6) × ((kindOf d ≡ s .phase) ⊎ ((s .phase ≡ 6) × (kindOf d ≡ 3)))
+  formed-kind (frame01 p k l) = (omega arith, omega arith, inl (k ∙ sym p))
+  formed-kind (frame02 p k l) = (omega arith, omega arith, inl (k ∙ sym p))
+  formed-kind (frame06 p k l n z) = (omega arith, omega arith, inl (k ∙ sym p))
+  formed-kind (frame03 (inl p) k l) = (omega arith, omega arith, inr (p, k))
+  formed-kind (frame03 (inr p) k l) = (omega arith, omega arith, inl (k ∙ sym p))
+  formed-kind (frame04 p k l i) = (omega arith, omega arith, inl (k ∙ sym p))
+  formed-kind (frame05 p k q l m) = (omega arith, omega arith, inl (k ∙ sym p))
 
-  pub formed-01 : Formed s d → kindOf d ≡ 1 → (expected s ≡ 1) × (length d ≡ 6)
+  pub formed-01 : Formed s d → kindOf d ≡ 1 → (s .phase ≡ 1) × (length d ≡ 6)
   formed-01 (frame01 p k l) e = (p, l)
   formed-01 (frame02 p k l) e = absurd (omega arith)
+  formed-01 (frame06 p k l n z) e = absurd (omega arith)
   formed-01 (frame03 p k l) e = absurd (omega arith)
   formed-01 (frame04 p k l i) e = absurd (omega arith)
   formed-01 (frame05 p k q l m) e = absurd (omega arith)
 
-  pub formed-02 : Formed s d → kindOf d ≡ 2 → (expected s ≡ 2) × (length d ≡ 2 + 4 * s .places)
+  pub formed-02 : Formed s d → kindOf d ≡ 2 → (s .phase ≡ 2) × (length d ≡ 2 + 4 * s .places)
   formed-02 (frame01 p k l) e = absurd (omega arith)
   formed-02 (frame02 p k l) e = (p, l)
+  formed-02 (frame06 p k l n z) e = absurd (omega arith)
   formed-02 (frame03 p k l) e = absurd (omega arith)
   formed-02 (frame04 p k l i) e = absurd (omega arith)
   formed-02 (frame05 p k q l m) e = absurd (omega arith)
 
-  pub formed-03 : Formed s d → kindOf d ≡ 3 → (expected s ≡ 3) × (length d ≡ 2 + 4 * s .places)
+  pub formed-06 : Formed s d → kindOf d ≡ 6 → (s .phase ≡ 6) × (length d ≡ 2 + 2 * maskBytes) × SomeBit d × NoBitPast s d
+  formed-06 (frame01 p k l) e = absurd (omega arith)
+  formed-06 (frame02 p k l) e = absurd (omega arith)
+  formed-06 (frame06 p k l n z) e = (p, l, n, z)
+  formed-06 (frame03 p k l) e = absurd (omega arith)
+  formed-06 (frame04 p k l i) e = absurd (omega arith)
+  formed-06 (frame05 p k q l m) e = absurd (omega arith)
+
+  pub formed-03 : Formed s d → kindOf d ≡ 3 → ((s .phase ≡ 6) ⊎ (s .phase ≡ 3)) × (length d ≡ 2 + 4 * s .places)
   formed-03 (frame01 p k l) e = absurd (omega arith)
   formed-03 (frame02 p k l) e = absurd (omega arith)
+  formed-03 (frame06 p k l n z) e = absurd (omega arith)
   formed-03 (frame03 p k l) e = (p, l)
   formed-03 (frame04 p k l i) e = absurd (omega arith)
   formed-03 (frame05 p k q l m) e = absurd (omega arith)
 
-  pub formed-04 : Formed s d → kindOf d ≡ 4 → (expected s ≡ 4) × (length d ≡ 4 + 4 * s .places) × (byteAt d 1 ≡ s .next)
+  pub formed-04 : Formed s d → kindOf d ≡ 4 → (s .phase ≡ 4) × (length d ≡ 4 + 4 * s .places) × (byteAt d 1 ≡ s .next)
   formed-04 (frame01 p k l) e = absurd (omega arith)
   formed-04 (frame02 p k l) e = absurd (omega arith)
+  formed-04 (frame06 p k l n z) e = absurd (omega arith)
   formed-04 (frame03 p k l) e = absurd (omega arith)
   formed-04 (frame04 p k l i) e = (p, l, i)
   formed-04 (frame05 p k q l m) e = absurd (omega arith)
 
-  pub formed-05 : Formed s d → kindOf d ≡ 5 → (expected s ≡ 5) × (s .letters % block ≡ 0) × (4 ≤ length d) × (length d ≤ 2 + 2 * block)
+  pub formed-05 : Formed s d → kindOf d ≡ 5 → (s .phase ≡ 5) × (s .letters % block ≡ 0) × (4 ≤ length d) × (length d ≤ 2 + 2 * block)
   formed-05 (frame01 p k l) e = absurd (omega arith)
   formed-05 (frame02 p k l) e = absurd (omega arith)
+  formed-05 (frame06 p k l n z) e = absurd (omega arith)
   formed-05 (frame03 p k l) e = absurd (omega arith)
   formed-05 (frame04 p k l i) e = absurd (omega arith)
   formed-05 (frame05 p k q l m) e = (p, q, l, m)
@@ -89,29 +130,43 @@ module _ (s : Reading) (d : List ℕ) where
   pub formed-of : formedOf s d ≡ true → Formed s d
   unfolding formedOf formedKind
   formed-of e =
-      let a = and-true (eqb (kindOf d) (expected s)) _ e in
-      let p = eqb-true _ _ (a .0) in
-      go (kindOf d) refl p (a .1)
+      let a = and-true (expected s (kindOf d)) (formedKind (kindOf d) s d) e in
+      go (kindOf d) refl (expected-says s (kindOf d) (a .0)) (a .1)
     where
-      go : (k : ℕ) → kindOf d ≡ k → kindOf d ≡ expected s → formedKind k s d ≡ true → Formed s d
+      -- a kind but 03 is the one that the state says
+      at : (k : ℕ) → kindOf d ≡ k → (k ≡ 3 → ⊥) → (kindOf d ≡ s .phase) ⊎ ((s .phase ≡ 6) × (kindOf d ≡ 3)) → s .phase ≡ k
+      at k q n (inl p) = sym p ∙ q
+      at k q n (inr p) = absurd (n (sym q ∙ p .1))
+
+      at-03 : kindOf d ≡ 3 → (kindOf d ≡ s .phase) ⊎ ((s .phase ≡ 6) × (kindOf d ≡ 3)) → (s .phase ≡ 6) ⊎ (s .phase ≡ 3)
+      at-03 q (inl p) = inr (sym p ∙ q)
+      at-03 q (inr p) = inl (p .0)
+
+      go : (k : ℕ) → kindOf d ≡ k → (kindOf d ≡ s .phase) ⊎ ((s .phase ≡ 6) × (kindOf d ≡ 3)) → formedKind k s d ≡ true → Formed s d
       go zero q p h = never (sym h)
-      go (suc zero) q p h = frame01 (sym p ∙ q) q (eqb-true _ _ h)
-      go (suc (suc zero)) q p h = frame02 (sym p ∙ q) q (eqb-true _ _ h)
-      go (suc (suc (suc zero))) q p h = frame03 (sym p ∙ q) q (eqb-true _ _ h)
+      go (suc zero) q p h = frame01 (at 1 q (λ n. omega arith) p) q (eqb-true _ _ h)
+      go (suc (suc zero)) q p h = frame02 (at 2 q (λ n. omega arith) p) q (eqb-true _ _ h)
+      go (suc (suc (suc zero))) q p h = frame03 (at-03 q p) q (eqb-true _ _ h)
       go (suc (suc (suc (suc zero)))) q p h =
           let z = and-true (eqb (length d) (4 + 4 * s .places)) _ h in
-          frame04 (sym p ∙ q) q (eqb-true _ _ (z .0)) (eqb-true _ _ (z .1))
+          frame04 (at 4 q (λ n. omega arith) p) q (eqb-true _ _ (z .0)) (eqb-true _ _ (z .1))
       go (suc (suc (suc (suc (suc zero))))) q p h =
           let z = and-true (eqb (s .letters % block) 0) _ h in
           let y = and-true (leb 4 (length d)) _ (z .1) in
-          frame05 (sym p ∙ q) q (eqb-true _ _ (z .0)) (leb-true _ _ (y .0)) (leb-true _ _ (y .1))
-      go (suc (suc (suc (suc (suc (suc k)))))) q p h = never (sym h ∙ formed-rest s d (suc (suc (suc (suc (suc (suc k)))))) (λ q. omega arith) (λ q. omega arith) (λ q. omega arith) (λ q. omega arith) (λ q. omega arith))
+          frame05 (at 5 q (λ n. omega arith) p) q (eqb-true _ _ (z .0)) (leb-true _ _ (y .0)) (leb-true _ _ (y .1))
+      go (suc (suc (suc (suc (suc (suc zero)))))) q p h =
+          let z = and-true (eqb (length d) (2 + 2 * maskBytes)) _ h in
+          let m = mask-some (maskIn d) (s .places) (z .1) in
+          frame06 (at 6 q (λ n. omega arith) p) q (eqb-true _ _ (z .0)) (m .0) (m .1)
+      go (suc (suc (suc (suc (suc (suc (suc k))))))) q p h = never (sym h ∙ formed-rest s d (suc (suc (suc (suc (suc (suc (suc k))))))) (λ q. omega arith) (λ q. omega arith) (λ q. omega arith) (λ q. omega arith) (λ q. omega arith) (λ q. omega arith))
 
   pub formed-is : Formed s d → formedOf s d ≡ true
   unfolding formedOf formedKind
   formed-is (frame01 p k l) = rw (k, p, l)
   formed-is (frame02 p k l) = rw (k, p) (eq-eqb _ _ l)
-  formed-is (frame03 p k l) = rw (k, p) (eq-eqb _ _ l)
+  formed-is (frame06 p k l n z) = rw (k, p, eq-eqb (length d) (2 + 2 * maskBytes) l) (mask-is (maskIn d) (s .places) n z)
+  formed-is (frame03 (inl p) k l) = rw (k, p) (eq-eqb _ _ l)
+  formed-is (frame03 (inr p) k l) = rw (k, p) (eq-eqb _ _ l)
   formed-is (frame04 p k l i) = rw (k, p, eq-eqb (length d) (4 + 4 * s .places) l) (eq-eqb _ _ i)
   formed-is (frame05 p k q l m) = rw (k, p, eq-eqb (s .letters % block) 0 q, le-leb 4 (length d) l) (le-leb _ _ m)
 

@@ -9,8 +9,9 @@ use Rattle.wiring.specs.Wired.{Wired}
 use Rattle.refusals.specs.Given.{Fine, Letters}
 use Rattle.refusals.specs.First.{First, Given}
 use Rattle.file_digits.specs.Frame.{lineLimit, block, byteAt}
+use Rattle.file_mask.specs.Mask.{maskBytes, aboveBits, maskIn}
 use Rattle.file_line.specs.declared.Reading.{Reading}
-use Rattle.file_line.specs.Read.{Rooms, kindOf, expected, tokensIn, lettersIn, wordPart, stored, netIn, lineHere}
+use Rattle.file_line.specs.Read.{Rooms, kindOf, tokensIn, lettersIn, wordPart, stored, netIn, lineHere}
 
 -- "digits 0-9 and A-F"
 abbrev pub Digit : ℕ → Type 0
@@ -23,14 +24,23 @@ pub record Ruled (d : List ℕ) : Type 0 where
   pub even : length d % 2 ≡ 0
   pub digits : (k : ℕ) → k < length d → Digit (getD d k 0)
 
--- 12 unless it is a frame of the kind that must come next, of its length and with its index
--- ("unknown kind, wrong order, length or index"; "all but the last hold 64, else the next 05 is faulty")
+-- "an all-zero mask", "A bit at or past P": neither is so of a 06
+abbrev pub SomeBit : List ℕ → Type 0
+SomeBit d = maskIn d ≡ 0 → ⊥
+
+abbrev pub NoBitPast : Reading → List ℕ → Type 0
+NoBitPast s d = aboveBits (maskIn d) (s .places) ≡ 0
+
+-- 12 unless it is a frame of the kind that must come next, of its length, with its index and its mask
+-- ("unknown kind, wrong order, length or index"; "all but the last hold 64, else the next 05 is faulty"; "A frame 06 .. may follow 02":
+-- phase 6 is that of 06 or 03)
 pub data Formed (s : Reading) (d : List ℕ) : Type 0 where
-  frame01 : expected s ≡ 1 → kindOf d ≡ 1 → length d ≡ 6 → Formed s d
-  frame02 : expected s ≡ 2 → kindOf d ≡ 2 → length d ≡ 2 + 4 * s .places → Formed s d
-  frame03 : expected s ≡ 3 → kindOf d ≡ 3 → length d ≡ 2 + 4 * s .places → Formed s d
-  frame04 : expected s ≡ 4 → kindOf d ≡ 4 → length d ≡ 4 + 4 * s .places → byteAt d 1 ≡ s .next → Formed s d
-  frame05 : expected s ≡ 5 → kindOf d ≡ 5 → s .letters % block ≡ 0 → 4 ≤ length d → length d ≤ 2 + 2 * block → Formed s d
+  frame01 : s .phase ≡ 1 → kindOf d ≡ 1 → length d ≡ 6 → Formed s d
+  frame02 : s .phase ≡ 2 → kindOf d ≡ 2 → length d ≡ 2 + 4 * s .places → Formed s d
+  frame06 : s .phase ≡ 6 → kindOf d ≡ 6 → length d ≡ 2 + 2 * maskBytes → SomeBit d → NoBitPast s d → Formed s d
+  frame03 : (s .phase ≡ 6) ⊎ (s .phase ≡ 3) → kindOf d ≡ 3 → length d ≡ 2 + 4 * s .places → Formed s d
+  frame04 : s .phase ≡ 4 → kindOf d ≡ 4 → length d ≡ 4 + 4 * s .places → byteAt d 1 ≡ s .next → Formed s d
+  frame05 : s .phase ≡ 5 → kindOf d ≡ 5 → s .letters % block ≡ 0 → 4 ≤ length d → length d ≤ 2 + 2 * block → Formed s d
 
 -- 1 unless its counts are in range
 pub record CountsInRange (d : List ℕ) : Type 0 where

@@ -11,6 +11,7 @@ use Rattle.refusals.specs.Given.{refuse, orElse, outside, looseFault, badToken,
 use Rattle.refusals.specs.declared.Fault.{Fault}
 use Rattle.refusals.specs.declared.Fault.the-variants.{Sound, Faulty}
 use Rattle.file_digits.specs.Frame.{lineLimit, block, allDigits, byteAt, bytesFrom, wordsFrom}
+use Rattle.file_mask.specs.Mask.{maskBytes, bitsOf, maskFits, maskIn}
 use Rattle.file_line.specs.declared.Reading.{Reading}
 use Rattle.file_line.specs.declared.Took.{Took}
 use Rattle.file_line.specs.declared.Took.the-variants.{Next, Refused}
@@ -19,16 +20,17 @@ use Rattle.file_line.specs.declared.Took.the-variants.{Next, Refused}
 abbrev pub cellLimit : ℕ
 cellLimit = countLimit * countLimit
 
--- the rooms that are filled: capacities, tokens, Pre, Post and letters
+-- the rooms that are filled: capacities, marks, tokens, Pre, Post and letters
 pub record Rooms : Type 0 where
   pub caps : List ℕ
+  pub marks : List ℕ
   pub initial : List ℕ
   pub pre : List ℕ
   pub post : List ℕ
   pub word : List ℕ
 
-abbrev pub rooms : List ℕ → List ℕ → List ℕ → List ℕ → List ℕ → Rooms
-rooms a b c d e = record { caps = a; initial = b; pre = c; post = d; word = e }
+abbrev pub rooms : List ℕ → List ℕ → List ℕ → List ℕ → List ℕ → List ℕ → Rooms
+rooms a k b c d e = record { caps = a; marks = k; initial = b; pre = c; post = d; word = e }
 
 -- the state before the first line
 abbrev pub fresh : Reading
@@ -38,13 +40,15 @@ fresh = record { phase = 1; places = 0; transitions = 0; next = 0; letters = 0; 
 abbrev pub kindOf : List ℕ → ℕ
 kindOf d = byteAt d 0
 
--- the kind that must come next at a state
-abbrev pub expected : Reading → ℕ
-expected s = s .phase
+-- whether a line of kind k may come next: the kind that the state says, and 03 where a 06 may come ("A frame 06 .. may follow 02")
+abbrev pub expected : Reading → ℕ → Bool
+expected s k = eqb k (s .phase) || (eqb (s .phase) 6 && eqb k 3)
 
--- the kind that must come after a line of kind k: after the last row come letters, and after letters come more, or the end
+-- the kind that comes after a line of kind k: after 02 comes 06, or 03; after 06 comes 03; after the last row come letters, and after
+-- letters come more, or the end
 abbrev pub phaseAfter : ℕ → Reading → ℕ
-phaseAfter k s = cond (eqb k 4) (cond (eqb (s .next + 1) (s .transitions)) 5 4) (cond (eqb k 5) 5 (k + 1))
+phaseAfter k s =
+    cond (eqb k 4) (cond (eqb (s .next + 1) (s .transitions)) 5 4) (cond (eqb k 5) 5 (cond (eqb k 2) 6 (cond (eqb k 6) 3 (k + 1))))
 
 -- what stands in a line: of 03 its tokens, of 05 how many letters, and the letters
 abbrev pub tokensIn : Reading → List ℕ → List ℕ
@@ -56,15 +60,17 @@ lettersIn d = length d / 2 - 1
 abbrev pub wordPart : List ℕ → List ℕ
 wordPart d = bytesFrom d 1 (lettersIn d)
 
--- the rooms with the numbers of a line of kind k that is well formed
+-- the rooms with the numbers of a line of kind k that is well formed; with the capacities all places are plain, until a 06 says otherwise
 unfoldable pub storedKind : ℕ → Reading → List ℕ → Rooms → Rooms
 storedKind k s d x =
-    cond (eqb k 2) (rooms (sets (x .caps) 0 (wordsFrom d 1 (s .places))) (x .initial) (x .pre) (x .post) (x .word))
-    (cond (eqb k 3) (rooms (x .caps) (sets (x .initial) 0 (wordsFrom d 1 (s .places))) (x .pre) (x .post) (x .word))
+    cond (eqb k 2)
+    (rooms (sets (x .caps) 0 (wordsFrom d 1 (s .places))) (sets (x .marks) 0 (bitsOf 0 (s .places))) (x .initial) (x .pre) (x .post) (x .word))
+    (cond (eqb k 3) (rooms (x .caps) (x .marks) (sets (x .initial) 0 (wordsFrom d 1 (s .places))) (x .pre) (x .post) (x .word))
     (cond (eqb k 4)
-    (rooms (x .caps) (x .initial) (sets (x .pre) (s .next * s .places) (bytesFrom d 2 (s .places)))
+    (rooms (x .caps) (x .marks) (x .initial) (sets (x .pre) (s .next * s .places) (bytesFrom d 2 (s .places)))
     (sets (x .post) (s .next * s .places) (bytesFrom d (2 + s .places) (s .places))) (x .word))
-    (cond (eqb k 5) (rooms (x .caps) (x .initial) (x .pre) (x .post) (sets (x .word) (s .letters) (bytesFrom d 1 (lettersIn d)))) x)))
+    (cond (eqb k 5) (rooms (x .caps) (x .marks) (x .initial) (x .pre) (x .post) (sets (x .word) (s .letters) (bytesFrom d 1 (lettersIn d))))
+    (cond (eqb k 6) (rooms (x .caps) (sets (x .marks) 0 (bitsOf (maskIn d) (s .places))) (x .initial) (x .pre) (x .post) (x .word)) x))))
 
 abbrev pub stored : Reading → List ℕ → Rooms → Rooms
 stored s d x = storedKind (kindOf d) s d x
@@ -72,25 +78,27 @@ stored s d x = storedKind (kindOf d) s d x
 -- what the rooms y hold at their fronts, by the counts of the state s: a net
 abbrev pub netIn : Reading → Rooms → Net
 netIn s y =
-    netOf (s .places) (s .transitions) (take (s .transitions * s .places) (y .pre)) (take (s .transitions * s .places) (y .post)) (take (s .places) (y .caps))
+    netOf (s .places) (s .transitions) (take (s .transitions * s .places) (y .pre)) (take (s .transitions * s .places) (y .post)) (take (s .places) (y .caps)) (take (s .places) (y .marks))
 
 -- 11 unless: "One frame a line: an even number, 2 to 260, of digits 0-9 and A-F"
 unfoldable pub ruleOf : List ℕ → Bool
 ruleOf d = cond (ltb (length d) 2) false (cond (ltb lineLimit (length d)) false (cond (eqb (length d % 2) 1) false (allDigits d)))
 
 -- a frame of kind k has its length, and its index: "01 P T", "02 with P capacities of two bytes", "03 with P tokens of two bytes",
--- "04 t, P Pre bytes, P Post bytes; one for each t in order from 0", "05 with 1 to 64 letters of a byte; .. all but the last hold 64, else the next 05 is faulty"
+-- "04 t, P Pre bytes, P Post bytes; one for each t in order from 0", "05 with 1 to 64 letters of a byte; .. all but the last hold 64, else the next 05 is faulty";
+-- document 02, E5: "A frame 06, eight bytes .. A bit at or past P, or an all-zero mask, is refusal 12"
 unfoldable pub formedKind : ℕ → Reading → List ℕ → Bool
 formedKind k s d =
     cond (eqb k 1) (eqb (length d) 6)
     (cond (eqb k 2) (eqb (length d) (2 + 4 * s .places))
     (cond (eqb k 3) (eqb (length d) (2 + 4 * s .places))
     (cond (eqb k 4) (eqb (length d) (4 + 4 * s .places) && eqb (byteAt d 1) (s .next))
-    (cond (eqb k 5) (eqb (s .letters % block) 0 && (leb 4 (length d) && leb (length d) (2 + 2 * block))) false))))
+    (cond (eqb k 5) (eqb (s .letters % block) 0 && (leb 4 (length d) && leb (length d) (2 + 2 * block)))
+    (cond (eqb k 6) (eqb (length d) (2 + 2 * maskBytes) && maskFits (maskIn d) (s .places)) false)))))
 
--- 12 unless it is a frame of the kind expected, of its length and with its index
+-- 12 unless it is a frame of a kind expected, of its length, with its index and its mask
 unfoldable pub formedOf : Reading → List ℕ → Bool
-formedOf s d = eqb (kindOf d) (expected s) && formedKind (kindOf d) s d
+formedOf s d = expected s (kindOf d) && formedKind (kindOf d) s d
 
 -- then what the frames' numbers are asked, each kind its own, by the tests that a net and a word are asked
 -- 1: "a place or transition count outside 1..64"

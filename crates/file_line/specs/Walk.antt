@@ -2,6 +2,7 @@
 use Prim.Native.Nat.{ℕ, zero, suc, _+_, _*_, _≤_, _<_}
 use mathlib.Core.Path.{_≡_}
 use mathlib.Core.Bool.{Bool, true, false, cond, not}
+use mathlib.Core.Logic.{_⊎_}
 use mathlib.Core.List.{List}
 use lib.ListN.{length}
 use lib.Dec.{leb}
@@ -9,15 +10,16 @@ use Rattle.ground.specs.Limits.{countLimit, wordLimit}
 use Rattle.refusals.specs.Given.{refuse, orElse}
 use Rattle.refusals.specs.declared.Fault.{Fault}
 use Rattle.file_digits.specs.Frame.{block, byteAt}
+use Rattle.file_mask.specs.Mask.{maskBytes}
 use Rattle.file_line.specs.declared.Reading.{Reading}
 use Rattle.file_line.specs.declared.Took.{Took}
 use Rattle.file_line.specs.declared.Took.the-variants.{Next, Refused}
-use Rattle.file_line.specs.Read.{cellLimit, Rooms, kindOf, expected, lettersIn, ruleOf, formedOf, countsBad, tokensBad, wordOver, lettersBad, lineHere}
+use Rattle.file_line.specs.Read.{cellLimit, Rooms, kindOf, lettersIn, ruleOf, formedOf, countsBad, tokensBad, wordOver, lettersBad, lineHere}
 
 -- what holds of every state of a reading
 pub record Good (s : Reading) : Type 0 where
   pub phase-least : 1 ≤ s .phase
-  pub phase : s .phase ≤ 5
+  pub phase : s .phase ≤ 6
   pub places : s .places ≤ countLimit
   pub transitions : s .transitions ≤ countLimit
   pub some : 2 ≤ s .phase → 1 ≤ s .transitions
@@ -26,20 +28,24 @@ pub record Good (s : Reading) : Type 0 where
   pub rows : s .phase ≡ 4 → s .next < s .transitions
   pub early : s .phase ≤ 3 → s .next ≡ 0
   pub wordless : s .phase ≤ 4 → s .letters ≡ 0
+  pub pockets : s .phase ≡ 6 → (s .next ≡ 0) × (s .letters ≡ 0) × (s .line ≤ 2)
   pub letters : s .letters ≤ wordLimit
-  pub line : s .line + 1 ≤ s .phase + s .next + s .letters
+  pub line-early : s .phase ≤ 2 → s .line < s .phase
+  pub line : s .line ≤ s .phase + s .next + s .letters
 
 -- the rooms are large enough for any file
 pub record Large (x : Rooms) : Type 0 where
   pub caps : countLimit ≤ length (x .caps)
+  pub marks : countLimit ≤ length (x .marks)
   pub initial : countLimit ≤ length (x .initial)
   pub pre : cellLimit ≤ length (x .pre)
   pub post : cellLimit ≤ length (x .post)
   pub word : wordLimit ≤ length (x .word)
 
 -- those of them that hold a net are
-pub record Tables (c a b : List ℕ) : Type 0 where
+pub record Tables (c k a b : List ℕ) : Type 0 where
   pub caps : countLimit ≤ length c
+  pub marks : countLimit ≤ length k
   pub pre : cellLimit ≤ length a
   pub post : cellLimit ≤ length b
 
@@ -61,12 +67,13 @@ askedOf s d x =
 -- what a line that is taken has, by its kind (`accepted` has it from document 01's demands)
 pub record Accepted (s : Reading) (d : List ℕ) : Type 0 where
   pub least : 2 ≤ length d
-  pub counts : kindOf d ≡ 1 → (expected s ≡ 1) × (length d ≡ 6) × (byteAt d 1 ≤ countLimit) × (1 ≤ byteAt d 2) × (byteAt d 2 ≤ countLimit) × (1 ≤ byteAt d 1)
-  pub caps : kindOf d ≡ 2 → (expected s ≡ 2) × (length d ≡ 2 + 4 * s .places)
-  pub tokens : kindOf d ≡ 3 → (expected s ≡ 3) × (length d ≡ 2 + 4 * s .places)
-  pub row : kindOf d ≡ 4 → (expected s ≡ 4) × (length d ≡ 4 + 4 * s .places)
-  pub letters : kindOf d ≡ 5 → (expected s ≡ 5) × (4 ≤ length d) × (length d ≤ 2 + 2 * block) × (s .letters + lettersIn d ≤ wordLimit)
-  pub kind : kindOf d ≤ 5
+  pub counts : kindOf d ≡ 1 → (s .phase ≡ 1) × (length d ≡ 6) × (byteAt d 1 ≤ countLimit) × (1 ≤ byteAt d 2) × (byteAt d 2 ≤ countLimit) × (1 ≤ byteAt d 1)
+  pub caps : kindOf d ≡ 2 → (s .phase ≡ 2) × (length d ≡ 2 + 4 * s .places)
+  pub pockets : kindOf d ≡ 6 → (s .phase ≡ 6) × (length d ≡ 2 + 2 * maskBytes)
+  pub tokens : kindOf d ≡ 3 → ((s .phase ≡ 6) ⊎ (s .phase ≡ 3)) × (length d ≡ 2 + 4 * s .places)
+  pub row : kindOf d ≡ 4 → (s .phase ≡ 4) × (length d ≡ 4 + 4 * s .places)
+  pub letters : kindOf d ≡ 5 → (s .phase ≡ 5) × (4 ≤ length d) × (length d ≤ 2 + 2 * block) × (s .letters + lettersIn d ≤ wordLimit)
+  pub kind : kindOf d ≤ 6
   pub kind-least : 1 ≤ kindOf d
 
 -- a state that goes on is good, and a refusal has a number

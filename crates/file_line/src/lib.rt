@@ -1,6 +1,7 @@
 // Inner: the case file reader, one line at a time, over a state by value and lent rooms.
 use file_digits::BLOCK;
 use file_digits::LINE_LIMIT;
+use file_mask::MASK_BYTES;
 use ground::COUNT_LIMIT;
 use ground::WORD_LIMIT;
 use ground::Weight;
@@ -16,6 +17,7 @@ ghost use Rattle.ground.specs.Limits.{countLimit, wordLimit};
 ghost use Rattle.net.specs.Net.{netOf, Sized};
 ghost use Rattle.refusals.specs.Given.{refuse, orElse, outside, badToken, badLetter};
 ghost use Rattle.file_digits.specs.Frame.{block, byteAt, bytesFrom, wordsFrom};
+ghost use Rattle.file_mask.specs.Mask.{maskBytes, bitsOf, maskFits, maskIn};
 ghost use Rattle.file_line.specs.Read.{cellLimit, rooms, fresh, phaseAfter, tokensIn, lettersIn, wordPart, ruleOf, formedOf, hangsLoose, looseBad, lineHere, stored, advanced, tookBy, lineOf, roomsOf};
 ghost use Rattle.file_line.specs.Walk.{Good, Large, Tables, fitLetters, askedOf, Accepted, GoodTook};
 
@@ -23,7 +25,7 @@ ghost use Rattle.file_line.specs.Walk.{Good, Large, Tables, fitLetters, 
 pub const CELL_LIMIT: usize = COUNT_LIMIT * COUNT_LIMIT;
 
 pub struct Reading {
-    // the kind that must come next: 1 to 4, and 5 for letters or the end
+    // the kind that must come next: 1 to 4, 5 for letters or the end, and 6 for pockets or tokens
     pub phase: u8,
     pub places: usize,
     pub transitions: usize,
@@ -105,13 +107,36 @@ fn is_block(letters: usize, len: usize) -> bool
     len <= 2 + 2 * BLOCK
 }
 
-// Whether a line is a frame of the kind that must come next, of its length and with its index.
+// Whether a line of this kind may come next: the one that the state says, and 03 where a 06 may come.
+fn is_expected(phase: u8, kind: u8) -> bool
+    ensures { λ r. ⌜ r ≡ (eqb kind phase || (eqb phase 6 && eqb kind 3)) ⌝ }
+{
+    if kind == phase {
+        return true;
+    }
+    if phase != 6 {
+        return false;
+    }
+    kind == 3
+}
+
+// A frame 06 has its length, some bit, and none at or past the number of places.
+fn is_pockets(d: &[u8], places: usize) -> bool
+    ensures { λ r. ⌜ r ≡ (eqb (length (now (d .entry))) (2 + 2 * maskBytes) && maskFits (maskIn (now (d .entry))) places) ⌝ }
+{
+    if d.len() != 2 + 2 * MASK_BYTES {
+        return false;
+    }
+    file_mask::is_mask(file_mask::mask_at(d), places)
+}
+
+// Whether a line is a frame of a kind that may come next, of its length, with its index and its mask.
 fn is_formed(s: Reading, d: &[u8]) -> bool
     requires { ⌜ (Good s) × (2 ≤ length (now d)) ⌝ }
     ensures { λ r. ⌜ r ≡ formedOf s (now (d .entry)) ⌝ }
 {
     let kind = file_digits::byte_at(d, 0);
-    if kind != s.phase {
+    if !is_expected(s.phase, kind) {
         return false;
     }
     let len = d.len();
@@ -121,6 +146,7 @@ fn is_formed(s: Reading, d: &[u8]) -> bool
         3 => len == 2 + 4 * s.places,
         4 => is_row(s, d),
         5 => is_block(s.letters, len),
+        6 => is_pockets(d, s.places),
         _ => false,
     }
 }
@@ -218,7 +244,7 @@ fn letters_fault(s: Reading, d: &[u8], here: usize) -> Fault
 // looked at.
 fn judge(s: Reading, d: &[u8], caps: &[u16]) -> Fault
     requires { ⌜ (Good s) × (countLimit ≤ length (now caps)) ⌝ }
-    ensures { λ r. ⌜ r ≡ askedOf s (now (d .entry)) (rooms (now (caps .entry)) [] [] [] []) ⌝ }
+    ensures { λ r. ⌜ r ≡ askedOf s (now (d .entry)) (rooms (now (caps .entry)) [] [] [] [] []) ⌝ }
 {
     let here = s.line + 1;
     if !rule(d) {
@@ -248,24 +274,35 @@ fn store_row(s: Reading, d: &[u8], pre: &mut [Weight], post: &mut [Weight])
     file_digits::store_bytes(d, 2 + p, post, at, p);
 }
 
+// The capacities, with which all places are plain until a 06 says otherwise.
+fn store_caps(d: &[u8], caps: &mut [u16], marks: &mut [u8], places: usize)
+    requires { ⌜ (2 + 4 * places ≤ length (now d)) × (places ≤ length (now caps)) × (places ≤ length (now marks)) ⌝ }
+    ensures caps { λ _. ⌜ now (caps .exit) ≡ sets (now (caps .entry)) 0 (wordsFrom (now (d .entry)) 1 places) ⌝ }
+    ensures marks { λ _. ⌜ now (marks .exit) ≡ sets (now (marks .entry)) 0 (bitsOf 0 places) ⌝ }
+{
+    file_digits::store_words(d, 1, caps, places);
+    file_mask::store_marks(0, marks, places);
+}
+
 // The stores of an accepted line.
 fn store(
     s: Reading,
     d: &[u8],
     caps: &mut [u16],
+    marks: &mut [u8],
     initial: &mut [u16],
     pre: &mut [Weight],
     post: &mut [Weight],
     word: &mut [u8],
 )
-    requires { ⌜ (Good s) × (Accepted s (now d)) × (Large (rooms (now caps) (now initial) (now pre) (now post) (now word))) ⌝ }
-    ensures { λ _. ⌜ rooms (now (caps .exit)) (now (initial .exit)) (now (pre .exit)) (now (post .exit)) (now (word .exit))
-        ≡ stored s (now (d .entry)) (rooms (now (caps .entry)) (now (initial .entry)) (now (pre .entry)) (now (post .entry)) (now (word .entry))) ⌝ }
+    requires { ⌜ (Good s) × (Accepted s (now d)) × (Large (rooms (now caps) (now marks) (now initial) (now pre) (now post) (now word))) ⌝ }
+    ensures { λ _. ⌜ rooms (now (caps .exit)) (now (marks .exit)) (now (initial .exit)) (now (pre .exit)) (now (post .exit)) (now (word .exit))
+        ≡ stored s (now (d .entry)) (rooms (now (caps .entry)) (now (marks .entry)) (now (initial .entry)) (now (pre .entry)) (now (post .entry)) (now (word .entry))) ⌝ }
 {
     let kind = file_digits::byte_at(d, 0);
     let p = s.places;
     match kind {
-        2 => file_digits::store_words(d, 1, caps, p),
+        2 => store_caps(d, caps, marks, p),
         3 => file_digits::store_words(d, 1, initial, p),
         4 => store_row(s, d, pre, post),
         5 => {
@@ -273,6 +310,7 @@ fn store(
             let at = s.letters;
             file_digits::store_bytes(d, 1, word, at, n);
         }
+        6 => file_mask::store_marks(file_mask::mask_at(d), marks, p),
         _ => {}
     }
 }
@@ -286,12 +324,14 @@ fn last_row(next: usize, transitions: usize) -> u8
 
 // The kind that must come after a line of this kind.
 fn phase_after(kind: u8, s: Reading) -> u8
-    requires { ⌜ (kind ≤ 5) × (s .next ≤ countLimit) ⌝ }
+    requires { ⌜ (kind ≤ 6) × (s .next ≤ countLimit) ⌝ }
     ensures { λ r. ⌜ r ≡ phaseAfter kind s ⌝ }
 {
     match kind {
+        2 => 6,
         4 => last_row(s.next + 1, s.transitions),
         5 => 5,
+        6 => 3,
         _ => kind + 1,
     }
 }
@@ -347,11 +387,12 @@ fn is_loose(
     pre: &[Weight],
     post: &[Weight],
     caps: &[u16],
+    marks: &[u8],
 ) -> bool
-    requires { ⌜ Sized (netOf places transitions (now pre) (now post) (now caps)) ⌝ }
-    ensures { λ r. ⌜ r ≡ hangsLoose (netOf places transitions (now (pre .entry)) (now (post .entry)) (now (caps .entry))) ⌝ }
+    requires { ⌜ Sized (netOf places transitions (now pre) (now post) (now caps) (now marks)) ⌝ }
+    ensures { λ r. ⌜ r ≡ hangsLoose (netOf places transitions (now (pre .entry)) (now (post .entry)) (now (caps .entry)) (now (marks .entry))) ⌝ }
 {
-    let found = refusals::loose_fault(places, transitions, pre, post, caps);
+    let found = refusals::loose_fault(places, transitions, pre, post, caps, marks);
     match found {
         Fault::Faulty(number, at) => true,
         Fault::Sound => false,
@@ -371,9 +412,16 @@ fn is_last_row(kind: u8, next: usize, transitions: usize) -> bool
 
 // Whether a line that is stored is refused: the net that the rooms hold now is asked on the line of the
 // last transition.
-fn is_net_loose(s: Reading, d: &[u8], caps: &[u16], pre: &[Weight], post: &[Weight]) -> bool
-    requires { ⌜ (Good s) × (Accepted s (now d)) × (Tables (now caps) (now pre) (now post)) ⌝ }
-    ensures { λ r. ⌜ r ≡ looseBad s (now (d .entry)) (rooms (now (caps .entry)) [] (now (pre .entry)) (now (post .entry)) []) ⌝ }
+fn is_net_loose(
+    s: Reading,
+    d: &[u8],
+    caps: &[u16],
+    marks: &[u8],
+    pre: &[Weight],
+    post: &[Weight],
+) -> bool
+    requires { ⌜ (Good s) × (Accepted s (now d)) × (Tables (now caps) (now marks) (now pre) (now post)) ⌝ }
+    ensures { λ r. ⌜ r ≡ looseBad s (now (d .entry)) (rooms (now (caps .entry)) (now (marks .entry)) [] (now (pre .entry)) (now (post .entry)) []) ⌝ }
 {
     let kind = file_digits::byte_at(d, 0);
     let t = s.transitions;
@@ -382,17 +430,24 @@ fn is_net_loose(s: Reading, d: &[u8], caps: &[u16], pre: &[Weight], post: &[Weig
     }
     let p = s.places;
     let cells = t * p;
-    is_loose(p, t, &pre[..cells], &post[..cells], &caps[..p])
+    is_loose(p, t, &pre[..cells], &post[..cells], &caps[..p], &marks[..p])
 }
 
 // What a line comes to that is stored: the next state, or 17. It is asked of the rooms themselves, which
 // are the reader's own.
-fn take_line(s: Reading, d: &[u8], caps: &[u16], pre: &[Weight], post: &[Weight]) -> Took
-    requires { ⌜ (Good s) × (Accepted s (now d)) × (Tables (now caps) (now pre) (now post)) ⌝ }
-    ensures value { λ r. ⌜ r ≡ tookBy (refuse (looseBad s (now (d .entry)) (rooms (now (caps .entry)) [] (now (pre .entry)) (now (post .entry)) [])) 17 (lineHere s)) (advanced s (now (d .entry))) ⌝ }
+fn take_line(
+    s: Reading,
+    d: &[u8],
+    caps: &[u16],
+    marks: &[u8],
+    pre: &[Weight],
+    post: &[Weight],
+) -> Took
+    requires { ⌜ (Good s) × (Accepted s (now d)) × (Tables (now caps) (now marks) (now pre) (now post)) ⌝ }
+    ensures value { λ r. ⌜ r ≡ tookBy (refuse (looseBad s (now (d .entry)) (rooms (now (caps .entry)) (now (marks .entry)) [] (now (pre .entry)) (now (post .entry)) [])) 17 (lineHere s)) (advanced s (now (d .entry))) ⌝ }
     ensures good { λ r. ⌜ GoodTook r ⌝ }
 {
-    if is_net_loose(s, d, caps, pre, post) {
+    if is_net_loose(s, d, caps, marks, pre, post) {
         let last = s.line + 1;
         return Took::Refused {
             number: 17,
@@ -407,15 +462,16 @@ pub fn read_line(
     s: Reading,
     d: &[u8],
     caps: &mut [u16],
+    marks: &mut [u8],
     initial: &mut [u16],
     pre: &mut [Weight],
     post: &mut [Weight],
     word: &mut [u8],
 ) -> Took
-    requires { ⌜ (Good s) × (Large (rooms (now caps) (now initial) (now pre) (now post) (now word))) ⌝ }
-    ensures value { λ r. ⌜ r ≡ lineOf s (now (d .entry)) (rooms (now (caps .entry)) (now (initial .entry)) (now (pre .entry)) (now (post .entry)) (now (word .entry))) ⌝ }
-    ensures lent { λ _. ⌜ rooms (now (caps .exit)) (now (initial .exit)) (now (pre .exit)) (now (post .exit)) (now (word .exit))
-        ≡ roomsOf s (now (d .entry)) (rooms (now (caps .entry)) (now (initial .entry)) (now (pre .entry)) (now (post .entry)) (now (word .entry))) ⌝ }
+    requires { ⌜ (Good s) × (Large (rooms (now caps) (now marks) (now initial) (now pre) (now post) (now word))) ⌝ }
+    ensures value { λ r. ⌜ r ≡ lineOf s (now (d .entry)) (rooms (now (caps .entry)) (now (marks .entry)) (now (initial .entry)) (now (pre .entry)) (now (post .entry)) (now (word .entry))) ⌝ }
+    ensures lent { λ _. ⌜ rooms (now (caps .exit)) (now (marks .exit)) (now (initial .exit)) (now (pre .exit)) (now (post .exit)) (now (word .exit))
+        ≡ roomsOf s (now (d .entry)) (rooms (now (caps .entry)) (now (marks .entry)) (now (initial .entry)) (now (pre .entry)) (now (post .entry)) (now (word .entry))) ⌝ }
     ensures good { λ r. ⌜ GoodTook r ⌝ }
 {
     let fault = judge(s, d, caps);
@@ -425,8 +481,8 @@ pub fn read_line(
             line: line,
         },
         Fault::Sound => {
-            store(s, d, caps, initial, pre, post, word);
-            take_line(s, d, caps, pre, post)
+            store(s, d, caps, marks, initial, pre, post, word);
+            take_line(s, d, caps, marks, pre, post)
         }
     }
 }

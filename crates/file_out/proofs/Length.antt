@@ -1,20 +1,25 @@
 -- How long a case file is: each line, the lines written so far, the whole file, and the longest one. Assumes nothing.
 use Prim.Native.Nat.{ℕ, zero, suc, _+_, _-_, _*_, _≤_, _<_, min}
 use mathlib.Core.Path.{_≡_, refl, _∙_, ap}
+use mathlib.Core.Bool.{Bool, true, false, cond}
 use mathlib.Core.List.{List, [], _∷_, _++_}
 use native.Mathlib.Omega.{arith}
 use native.Mathlib.Nat.{suc-mul, mul-le-mul}
 use lib.ListN.{length, drop, length-append, length-take, length-drop}
+use lib.Dec.{eqb}
+use borrow.Author.Tests.{eq-eqb, ne-eqb}
 use Rattle.ground.specs.Limits.{countLimit, wordLimit}
 use Rattle.file_digits.specs.Frame.{block, lineFeed}
 use Rattle.file_put.specs.Put.{digitsOf, lineText, twos}
 use Rattle.file_put.proofs.Round.{digits-long}
 use Rattle.file_put.proofs.Twos.{twos-long}
+use Rattle.file_mask.specs.Mask.{maskBytes, maskOf, eight}
+use Rattle.file_mask.proofs.Masks.{eight-long}
 use Rattle.net.specs.Net.{Net, Sized}
 use Rattle.net.specs.Letter.{row}
 use Rattle.net.proofs.Rows.{row-end, row-length}
-use Rattle.file_text.specs.Text.{countsLine, capsLine, tokensLine, rowLine, lettersLine, lettersLines, joined, fileOf}
-use Rattle.file_out.specs.Length.{lineLength, numbersLength, rowLength, wordLength, fileLength, fileLimit}
+use Rattle.file_text.specs.Text.{countsLine, capsLine, pocketsLine, pocketsLines, tokensLine, rowLine, lettersLine, lettersLines, joined, fileOf}
+use Rattle.file_out.specs.Length.{lineLength, numbersLength, maskLength, rowLength, wordLength, fileLength, fileLimit}
 
 -- ---- a line
 -- two digits a byte, and a line feed
@@ -33,6 +38,34 @@ caps-long caps = numbers-long 2 caps
 
 pub tokens-long : (initial : List ℕ) → length (tokensLine initial) ≡ numbersLength (length initial)
 tokens-long initial = numbers-long 3 initial
+
+-- a 06, and how long it is where the mask is 0 and where it is not
+pub mask-line-long : (mask : ℕ) → length (lineText (6 ∷ eight mask)) ≡ lineLength (1 + maskBytes)
+mask-line-long mask = omega (arith, line-long (6 ∷ eight mask), eight-long mask)
+
+pub mask-none : (mask : ℕ) → mask ≡ 0 → maskLength mask ≡ 0
+unfolding maskLength
+mask-none mask h = rw (eq-eqb mask 0 h)
+
+pub mask-some : (mask : ℕ) → (mask ≡ 0 → ⊥) → maskLength mask ≡ lineLength (1 + maskBytes)
+unfolding maskLength
+mask-some mask h = rw (ne-eqb mask 0 h)
+
+pub mask-most : (mask : ℕ) → maskLength mask ≤ lineLength (1 + maskBytes)
+unfolding maskLength
+mask-most mask = go (eqb mask 0)
+  where
+    go : (b : Bool) → cond b 0 (lineLength (1 + maskBytes)) ≤ lineLength (1 + maskBytes)
+    go true = omega arith
+    go false = omega arith
+
+pub pockets-long : (marks : List ℕ) → length (pocketsLines marks) ≡ maskLength (maskOf marks)
+unfolding pocketsLines maskLength
+pockets-long marks = go (eqb (maskOf marks) 0)
+  where
+    go : (b : Bool) → length (cond b [] (pocketsLine marks)) ≡ cond b 0 (lineLength (1 + maskBytes))
+    go true = refl
+    go false = mask-line-long (maskOf marks)
 
 -- a 04 of a net whose lists have their lengths
 module _ (net : Net) (pres : length (net .pre) ≡ net .transitions * net .places) (posts : length (net .post) ≡ net .transitions * net .places) where
@@ -88,26 +121,30 @@ word-long w = letters-all w (lettersLines (length w)) (lines-end (length w))
 
 -- ---- the file
 module _ (net : Net) (initial w : List ℕ) (sized : Sized net) (marked : length initial ≡ net .places) where
-  pub file-length : length (fileOf net initial w) ≡ fileLength (net .places) (net .transitions) (length w)
+  pub file-length : length (fileOf net initial w) ≡ fileLength (net .places) (net .transitions) (maskOf (net .marks)) (length w)
   unfolding fileOf
   file-length =
       let a = countsLine (net .places) (net .transitions) in
       let b = capsLine (net .caps) in
+      let p = pocketsLines (net .marks) in
       let c = tokensLine initial in
       let d = joined (rowLine net) (net .transitions) in
       let e = joined (lettersLine w) (lettersLines (length w)) in
       let la = counts-long (net .places) (net .transitions) in
       let lb : length b ≡ numbersLength (net .places) = caps-long (net .caps) ∙ ap numbersLength (sized .capped) in
+      let lp = pockets-long (net .marks) in
       let lc : length c ≡ numbersLength (net .places) = tokens-long initial ∙ ap numbersLength marked in
       let ld = rows-long net (sized .pres) (sized .posts) (net .transitions) (omega arith) in
       let le = word-long w in
-      omega (arith, length-append (a ++ b ++ c ++ d) e, length-append (a ++ b ++ c) d, length-append (a ++ b) c, length-append a b)
+      omega (arith, length-append (a ++ b ++ p ++ c ++ d) e, length-append (a ++ b ++ p ++ c) d, length-append (a ++ b ++ p) c, length-append (a ++ b) p, length-append a b)
 
 -- within the limits no file is longer than the longest
-pub longest-file : (P T n : ℕ) → P ≤ countLimit → T ≤ countLimit → n ≤ wordLimit → fileLength P T n ≤ fileLimit
-longest-file P T n p t h =
+pub longest-file : (P T mask n : ℕ) → P ≤ countLimit → T ≤ countLimit → n ≤ wordLimit → fileLength P T mask n ≤ fileLimit
+longest-file P T mask n p t h =
     let a : rowLength P ≤ rowLength countLimit = omega arith in
-    omega (arith, mul-le-mul t a)
+    let m : maskLength mask ≤ maskLength 1 = rw (mask-some 1 (λ e. omega arith)) (mask-most mask) in
+    omega (arith, mul-le-mul t a, m)
 
-pub largest : fileLimit ≡ 151371
+pub largest : fileLimit ≡ 151390
+unfolding maskLength
 largest = refl

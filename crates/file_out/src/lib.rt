@@ -1,6 +1,7 @@
 // Inner: a case file put into a room, frame by frame, and how long it is. Each function puts its text at a
 // number of the room and answers the number after it; what stands before and after is as found.
 use file_digits::BLOCK;
+use file_mask::MASK_BYTES;
 use ground::COUNT_LIMIT;
 use ground::WORD_LIMIT;
 use ground::Weight;
@@ -13,13 +14,15 @@ ghost use Rattle.net.specs.Net.{netOf, Sized};
 ghost use Rattle.file_digits.specs.Frame.{block, lineLimit};
 ghost use Rattle.file_put.specs.Append.{Appended};
 ghost use Rattle.file_put.specs.Put.{twos, Put, PutLine};
-ghost use Rattle.file_text.specs.Text.{lettersLines, lettersLine, rowLine, joined, fileOf};
-ghost use Rattle.file_out.specs.Length.{lineLength, numbersLength, rowLength, wordLength, fileLength};
+ghost use Rattle.file_mask.specs.Mask.{maskBytes, maskOf, eight};
+ghost use Rattle.file_text.specs.Text.{pocketsLines, lettersLines, lettersLine, rowLine, joined, fileOf};
+ghost use Rattle.file_out.specs.Length.{lineLength, numbersLength, maskLength, rowLength, wordLength, fileLength};
 
-// The longest file, of the most places, transitions and letters: 01, twice the capacities or tokens, a row
-// for each transition, two digits a letter, and a kind and a line feed for each 05.
+// The longest file, of the most places, transitions and letters: 01, twice the capacities or tokens, a mask,
+// a row for each transition, two digits a letter, and a kind and a line feed for each 05.
 pub const FILE_LIMIT: usize = 7
     + 2 * (4 * COUNT_LIMIT + 3)
+    + (2 * MASK_BYTES + 3)
     + COUNT_LIMIT * (4 * COUNT_LIMIT + 5)
     + 2 * WORD_LIMIT
     + 3 * ((WORD_LIMIT + (BLOCK - 1)) / BLOCK);
@@ -73,6 +76,28 @@ fn put_numbers(out: &mut [u8], at: usize, kind: u8, list: &[u16]) -> usize
     file_put::put_feed(out, b)
 }
 
+// 06: the mask of the places that are pockets.
+fn put_mask(out: &mut [u8], at: usize, mask: u64) -> usize
+    requires { ⌜ at + lineLength (1 + maskBytes) ≤ length (now out) ⌝ }
+    ensures { λ r. ⌜ PutLine (now (out .entry)) at (6 ∷ eight mask) r (now (out .exit)) ⌝ }
+{
+    let a = file_put::put_byte(out, at, 6);
+    let b = file_mask::put_eight(out, a, mask);
+    file_put::put_feed(out, b)
+}
+
+// The 06, where some place is a pocket; else nothing.
+fn put_pockets(out: &mut [u8], at: usize, marks: &[u8]) -> usize
+    requires { ⌜ (length (now marks) ≤ countLimit) × (at + maskLength (maskOf (now marks)) ≤ length (now out)) ⌝ }
+    ensures { λ r. ⌜ Appended (now (out .entry)) at (pocketsLines (now (marks .entry))) r (now (out .exit)) ⌝ }
+{
+    let mask = file_mask::mask_of(marks);
+    if mask == 0 {
+        return at;
+    }
+    put_mask(out, at, mask)
+}
+
 // 04: a transition, what it takes from each place, and what it puts there.
 fn put_row(out: &mut [u8], at: usize, t: u8, takes: &[Weight], puts: &[Weight]) -> usize
     requires { ⌜ (at + rowLength (length (now takes)) ≤ length (now out)) × (length (now puts) ≡ length (now takes)) ⌝ }
@@ -102,12 +127,13 @@ fn put_rows(
     pre: &[Weight],
     post: &[Weight],
     caps: &[u16],
+    marks: &[u8],
     out: &mut [u8],
     at: usize,
 ) -> usize
-    requires { ⌜ Sized (netOf places transitions (now pre) (now post) (now caps)) ⌝ }
+    requires { ⌜ Sized (netOf places transitions (now pre) (now post) (now caps) (now marks)) ⌝ }
     requires { ⌜ at + transitions * rowLength places ≤ length (now out) ⌝ }
-    ensures { λ r. ⌜ Appended (now (out .entry)) at (joined (rowLine (netOf places transitions (now (pre .entry)) (now (post .entry)) (now (caps .entry)))) transitions) r (now (out .exit)) ⌝ }
+    ensures { λ r. ⌜ Appended (now (out .entry)) at (joined (rowLine (netOf places transitions (now (pre .entry)) (now (post .entry)) (now (caps .entry)) (now (marks .entry)))) transitions) r (now (out .exit)) ⌝ }
 {
     let mut r = at;
     let mut t: usize = 0;
@@ -173,36 +199,49 @@ fn word_length(n: usize) -> usize
     2 * n + line_length(1) * letters_lines(n)
 }
 
-// How long the file is.
-pub fn file_length(places: usize, transitions: usize, letters: usize) -> usize
+// The frame 06: of a mask that is not 0.
+fn mask_length(mask: u64) -> usize
+    ensures { λ r. ⌜ r ≡ maskLength mask ⌝ }
+{
+    if 0 < mask {
+        return line_length(1 + MASK_BYTES);
+    }
+    0
+}
+
+// How long the file is, of a net whose marks have this mask.
+pub fn file_length(places: usize, transitions: usize, mask: u64, letters: usize) -> usize
     requires { ⌜ (places ≤ countLimit) × (transitions ≤ countLimit) × (letters ≤ wordLimit) ⌝ }
-    ensures { λ r. ⌜ r ≡ fileLength places transitions letters ⌝ }
+    ensures { λ r. ⌜ r ≡ fileLength places transitions mask letters ⌝ }
 {
     let counts = line_length(3);
     let numbers = line_length(1 + 2 * places);
+    let pockets = mask_length(mask);
     let row = line_length(2 + 2 * places);
     let word = word_length(letters);
-    counts + 2 * numbers + transitions * row + word
+    counts + 2 * numbers + pockets + transitions * row + word
 }
 
-// The whole file at the front of the room: 01, 02, 03, the 04 and the 05.
+// The whole file at the front of the room: 01, 02, perhaps 06, 03, the 04 and the 05.
 pub fn put_file(
     places: usize,
     transitions: usize,
     pre: &[Weight],
     post: &[Weight],
     caps: &[u16],
+    marks: &[u8],
     initial: &[u16],
     word: &[u8],
     out: &mut [u8],
 ) -> usize
-    requires { ⌜ (Sized (netOf places transitions (now pre) (now post) (now caps))) × (length (now initial) ≡ places) × (length (now word) ≤ wordLimit) ⌝ }
-    requires { ⌜ fileLength places transitions (length (now word)) ≤ length (now out) ⌝ }
-    ensures { λ r. ⌜ Appended (now (out .entry)) 0 (fileOf (netOf places transitions (now (pre .entry)) (now (post .entry)) (now (caps .entry))) (now (initial .entry)) (now (word .entry))) r (now (out .exit)) ⌝ }
+    requires { ⌜ (Sized (netOf places transitions (now pre) (now post) (now caps) (now marks))) × (length (now initial) ≡ places) × (length (now word) ≤ wordLimit) ⌝ }
+    requires { ⌜ fileLength places transitions (maskOf (now marks)) (length (now word)) ≤ length (now out) ⌝ }
+    ensures { λ r. ⌜ Appended (now (out .entry)) 0 (fileOf (netOf places transitions (now (pre .entry)) (now (post .entry)) (now (caps .entry)) (now (marks .entry))) (now (initial .entry)) (now (word .entry))) r (now (out .exit)) ⌝ }
 {
     let a = put_counts(out, 0, places, transitions);
     let b = put_numbers(out, a, 2, caps);
-    let c = put_numbers(out, b, 3, initial);
-    let d = put_rows(places, transitions, pre, post, caps, out, c);
-    put_word(out, d, word)
+    let c = put_pockets(out, b, marks);
+    let d = put_numbers(out, c, 3, initial);
+    let e = put_rows(places, transitions, pre, post, caps, marks, out, d);
+    put_word(out, e, word)
 }

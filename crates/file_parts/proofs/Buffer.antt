@@ -161,14 +161,14 @@ pub record LinesRead (f : List ℕ) (h : Held) (x₀ : Rooms) (at : ℕ) (r : He
   pub comes : feedAll (both (abs r) x) (drop at f) ≡ feedAll (both (abs h) x₀) f
 
 pub reads-start : (f : List ℕ) (h : Held) (x : Rooms) → Sound h → LinesRead f h x 0 h x
-reads-start f h x s = record { sound = s; same = record { caps = refl; initial = refl; pre = refl; post = refl; word = refl }; comes = refl }
+reads-start f h x s = record { sound = s; same = record { caps = refl; marks = refl; initial = refl; pre = refl; post = refl; word = refl }; comes = refl }
 
 module _ (f : List ℕ) (h : Held) (x₀ : Rooms) (at : ℕ) (r : Held) (x : Rooms) (m : LinesRead f h x₀ at r x) where
   pub reads-next : (e : ℕ) (u : Held) (y : Rooms) → feedAll (both (abs u) y) (drop (e + 1) f) ≡ feedAll (both (abs r) x) (drop at f) → Sound u → Same y x → LinesRead f h x₀ (e + 1) u y
   reads-next e u y q s d =
       record {
         sound = s;
-        same = record { caps = d .caps ∙ m .same .caps; initial = d .initial ∙ m .same .initial; pre = d .pre ∙ m .same .pre; post = d .post ∙ m .same .post; word = d .word ∙ m .same .word };
+        same = record { caps = d .caps ∙ m .same .caps; marks = d .marks ∙ m .same .marks; initial = d .initial ∙ m .same .initial; pre = d .pre ∙ m .same .pre; post = d .post ∙ m .same .post; word = d .word ∙ m .same .word };
         comes = q ∙ m .comes;
       }
 

@@ -220,13 +220,14 @@ module _ (f : List ℕ) (at e : ℕ) (h : e ≡ at + lineLen (drop at f)) (l : a
 -- rooms of the same lengths
 pub record Same (x y : Rooms) : Type 0 where
   pub caps : length (x .caps) ≡ length (y .caps)
+  pub marks : length (x .marks) ≡ length (y .marks)
   pub initial : length (x .initial) ≡ length (y .initial)
   pub pre : length (x .pre) ≡ length (y .pre)
   pub post : length (x .post) ≡ length (y .post)
   pub word : length (x .word) ≡ length (y .word)
 
 pub large : (x y : Rooms) → Same x y → Large y → Large x
-large x y s l = record { caps = omega arith; initial = omega arith; pre = omega arith; post = omega arith; word = omega arith }
+large x y s l = record { caps = omega arith; marks = omega arith; initial = omega arith; pre = omega arith; post = omega arith; word = omega arith }
 
 -- the end of a file, by its state
 pub finish-missing : (s : Reading) → (s .phase ≡ 5 → ⊥) → Refused 12 (s .line + 1) ≡ finishOf s

@@ -143,19 +143,20 @@ fn after_line(took: Took) -> Held
 fn end_line(
     h: Held,
     caps: &mut [u16],
+    marks: &mut [u8],
     initial: &mut [u16],
     pre: &mut [Weight],
     post: &mut [Weight],
     word: &mut [u8],
 ) -> Held
-    requires { ⌜ (Sound h) × (h .refusal ≡ 0) × (Large (rooms (now caps) (now initial) (now pre) (now post) (now word))) ⌝ }
-    ensures value { λ r. ⌜ both (abs r) (rooms (now (caps .exit)) (now (initial .exit)) (now (pre .exit)) (now (post .exit)) (now (word .exit)))
-        ≡ feedOf (both (abs h) (rooms (now (caps .entry)) (now (initial .entry)) (now (pre .entry)) (now (post .entry)) (now (word .entry)))) lineFeed ⌝ }
+    requires { ⌜ (Sound h) × (h .refusal ≡ 0) × (Large (rooms (now caps) (now marks) (now initial) (now pre) (now post) (now word))) ⌝ }
+    ensures value { λ r. ⌜ both (abs r) (rooms (now (caps .exit)) (now (marks .exit)) (now (initial .exit)) (now (pre .exit)) (now (post .exit)) (now (word .exit)))
+        ≡ feedOf (both (abs h) (rooms (now (caps .entry)) (now (marks .entry)) (now (initial .entry)) (now (pre .entry)) (now (post .entry)) (now (word .entry)))) lineFeed ⌝ }
     ensures sound { λ r. ⌜ Sound r ⌝ }
 {
     let n = h.len;
     let d = h.line;
-    let took = file_line::read_line(h.reading, &d[..n], caps, initial, pre, post, word);
+    let took = file_line::read_line(h.reading, &d[..n], caps, marks, initial, pre, post, word);
     after_line(took)
 }
 
@@ -166,14 +167,15 @@ fn feed_line(
     at: usize,
     e: usize,
     caps: &mut [u16],
+    marks: &mut [u8],
     initial: &mut [u16],
     pre: &mut [Weight],
     post: &mut [Weight],
     word: &mut [u8],
 ) -> Held
-    requires { ⌜ (Sound h) × (h .refusal ≡ 0) × (at ≤ length (now part)) × (e ≡ at + lineLen (drop at (now part))) × (Large (rooms (now caps) (now initial) (now pre) (now post) (now word))) ⌝ }
-    ensures value { λ r. ⌜ feedAll (both (abs r) (rooms (now (caps .exit)) (now (initial .exit)) (now (pre .exit)) (now (post .exit)) (now (word .exit)))) (drop (e + 1) (now (part .entry)))
-        ≡ feedAll (both (abs h) (rooms (now (caps .entry)) (now (initial .entry)) (now (pre .entry)) (now (post .entry)) (now (word .entry)))) (drop at (now (part .entry))) ⌝ }
+    requires { ⌜ (Sound h) × (h .refusal ≡ 0) × (at ≤ length (now part)) × (e ≡ at + lineLen (drop at (now part))) × (Large (rooms (now caps) (now marks) (now initial) (now pre) (now post) (now word))) ⌝ }
+    ensures value { λ r. ⌜ feedAll (both (abs r) (rooms (now (caps .exit)) (now (marks .exit)) (now (initial .exit)) (now (pre .exit)) (now (post .exit)) (now (word .exit)))) (drop (e + 1) (now (part .entry)))
+        ≡ feedAll (both (abs h) (rooms (now (caps .entry)) (now (marks .entry)) (now (initial .entry)) (now (pre .entry)) (now (post .entry)) (now (word .entry)))) (drop at (now (part .entry))) ⌝ }
     ensures sound { λ r. ⌜ Sound r ⌝ }
 {
     let r = hold(h, &part[at..e]);
@@ -183,7 +185,7 @@ fn feed_line(
     if r.refusal != 0 {
         return r;
     }
-    end_line(r, caps, initial, pre, post, word)
+    end_line(r, caps, marks, initial, pre, post, word)
 }
 
 // One part of a file more, line by line, until its end or a refusal.
@@ -191,21 +193,22 @@ pub fn read_part(
     h: Held,
     part: &[u8],
     caps: &mut [u16],
+    marks: &mut [u8],
     initial: &mut [u16],
     pre: &mut [Weight],
     post: &mut [Weight],
     word: &mut [u8],
 ) -> Held
-    requires { ⌜ (Sound h) × (Large (rooms (now caps) (now initial) (now pre) (now post) (now word))) ⌝ }
-    ensures value { λ r. ⌜ both (abs r) (rooms (now (caps .exit)) (now (initial .exit)) (now (pre .exit)) (now (post .exit)) (now (word .exit)))
-        ≡ feedAll (both (abs h) (rooms (now (caps .entry)) (now (initial .entry)) (now (pre .entry)) (now (post .entry)) (now (word .entry)))) (now (part .entry)) ⌝ }
+    requires { ⌜ (Sound h) × (Large (rooms (now caps) (now marks) (now initial) (now pre) (now post) (now word))) ⌝ }
+    ensures value { λ r. ⌜ both (abs r) (rooms (now (caps .exit)) (now (marks .exit)) (now (initial .exit)) (now (pre .exit)) (now (post .exit)) (now (word .exit)))
+        ≡ feedAll (both (abs h) (rooms (now (caps .entry)) (now (marks .entry)) (now (initial .entry)) (now (pre .entry)) (now (post .entry)) (now (word .entry)))) (now (part .entry)) ⌝ }
     ensures sound { λ r. ⌜ Sound r ⌝ }
 {
     let mut r = h;
     let mut at: usize = 0;
     while at < part.len() && r.refusal == 0 {
         let e = line_end(part, at);
-        r = feed_line(r, part, at, e, caps, initial, pre, post, word);
+        r = feed_line(r, part, at, e, caps, marks, initial, pre, post, word);
         at = e + 1;
     }
     r

@@ -63,18 +63,19 @@ pub fn take_read(
     interrupted: bool,
     buf: &[u8],
     caps: &mut [u16],
+    marks: &mut [u8],
     initial: &mut [u16],
     pre: &mut [Weight],
     post: &mut [Weight],
     word: &mut [u8],
 ) -> Fed
-    requires { ⌜ (Sound h) × (Large (rooms (now caps) (now initial) (now pre) (now post) (now word))) ⌝ }
-    ensures value { λ r. ⌜ state (both (abs (r .held)) (rooms (now (caps .exit)) (now (initial .exit)) (now (pre .exit)) (now (post .exit)) (now (word .exit)))) (r .input)
-        ≡ stepOf (state (both (abs h) (rooms (now (caps .entry)) (now (initial .entry)) (now (pre .entry)) (now (post .entry)) (now (word .entry)))) Input.More) (readAs got interrupted (now (buf .entry))) ⌝ }
+    requires { ⌜ (Sound h) × (Large (rooms (now caps) (now marks) (now initial) (now pre) (now post) (now word))) ⌝ }
+    ensures value { λ r. ⌜ state (both (abs (r .held)) (rooms (now (caps .exit)) (now (marks .exit)) (now (initial .exit)) (now (pre .exit)) (now (post .exit)) (now (word .exit)))) (r .input)
+        ≡ stepOf (state (both (abs h) (rooms (now (caps .entry)) (now (marks .entry)) (now (initial .entry)) (now (pre .entry)) (now (post .entry)) (now (word .entry)))) Input.More) (readAs got interrupted (now (buf .entry))) ⌝ }
     ensures sound { λ r. ⌜ Sound (r .held) ⌝ }
 {
     let n = io::count(got, buf);
-    let r = file_parts::read_part(h, &buf[..n], caps, initial, pre, post, word);
+    let r = file_parts::read_part(h, &buf[..n], caps, marks, initial, pre, post, word);
     Fed {
         held: r,
         input: input_after(got, interrupted, r.refusal),

@@ -5,13 +5,14 @@ use mathlib.Core.List.{List}
 use lib.ListN.{length, take, drop}
 use Rattle.net.specs.Net.{Net}
 use Rattle.file_line.specs.Read.{Rooms}
-use Rattle.file_text.specs.Text.{fileOf, Limited, Written as WrittenFile, filled}
-use Rattle.file_text.proofs.Meaning.{filled-net, filled-marking, filled-word, file-apart}
+use Rattle.file_text.specs.Text.{fileOf, Limited, Written as WrittenFile, filled, filed}
+use Rattle.file_text.proofs.Meaning.{filled-net, filled-marking, filled-word, file-filed, file-apart}
 use Rattle.file_entry.specs.declared.CaseFile.{CaseFile}
 use Rattle.file_entry.specs.declared.CaseFile.the-variants.{Read}
 use Rattle.file_entry.specs.Entry.{Largest, CaseRead}
 use Rattle.file_entry.proofs.Fronts.{largest-large}
-use Rattle.file_entry.proofs.Accepted.{written-read, read-written as read-is-file}
+use Rattle.file_entry.proofs.Filed.{filed-limited}
+use Rattle.file_entry.proofs.Accepted.{filed-read, read-written as read-is-file}
 use Rattle.file_write.specs.declared.CaseLength.{CaseLength}
 use Rattle.file_write.specs.declared.CaseLength.the-variants.{Told}
 use Rattle.file_write.specs.declared.WriteCase.{WriteCase}
@@ -22,30 +23,30 @@ use Rattle.file_write.proofs.Exactly.{allowed-told, allowed-written}
 use Rattle.file_write.proofs.Meaning.{written-allowed, written-file, written-rest}
 use Rattle.file_round.specs.Fronts.{Bytes, frontNet, frontMarking, frontWord}
 
--- what is written is within the limits, its numbers being of their types
-limited-of : (net : Net) (initial w : List ℕ) → Writable net initial w → Bytes net → Limited net initial w
-limited-of net initial w a b =
-    record { sized = a .sized; weights = b .weights; capacities = b .capacities; marked = a .marked; fine = a .fine; wired = a .wired; short = a .short; letters = a .letters }
+-- what is written is within the limits as a file has it, its numbers being of their types
+limited-of : (net : Net) (initial w : List ℕ) → Writable net initial w → Bytes net → Limited (filed net) initial w
+limited-of net initial w a b = filed-limited net initial w (a .sized) (a .wired) (b .weights) (b .capacities) (a .marked) (a .fine) (a .short) (a .letters)
 
 of-limited : (net : Net) (initial w : List ℕ) → Limited net initial w → Writable net initial w
 of-limited net initial w m = record { sized = m .sized; marked = m .marked; fine = m .fine; wired = m .wired; short = m .short; letters = m .letters }
 
--- "reading what was written gives the same net and word": the first n bytes of the room, into rooms of the largest sizes
+-- "reading what was written gives the same net and word", its marks as the reader gives them, 1 for any but 0: the first n bytes of
+-- the room, into rooms of the largest sizes
 module _ (net : Net) (initial w room : List ℕ) (n : ℕ) (room′ : List ℕ) (written : CaseWritten net initial w room (Written n) room′) (bytes : Bytes net)
     (x : Rooms) (largest : Largest x) (r : CaseFile) (x′ : Rooms) (read : CaseRead (take n room′) x r x′) where
-  limited : Limited net initial w
+  limited : Limited (filed net) initial w
   limited = limited-of net initial w (written-allowed net initial w room n room′ written .writable) bytes
 
-  came : (r ≡ Read (net .places) (net .transitions) (length w)) × (x′ ≡ filled x net initial w)
-  came = written-read net initial w limited x r x′ largest (rw (written-file net initial w room n room′ written) at read)
+  came : (r ≡ Read (net .places) (net .transitions) (length w)) × (x′ ≡ filled x (filed net) initial w)
+  came = filed-read net initial w limited x r x′ largest (rw (written-file net initial w room n room′ written) at read)
 
   pub read-written : (r ≡ Read (net .places) (net .transitions) (length w))
-      × (frontNet (net .places) (net .transitions) x′ ≡ net) × (frontMarking (net .places) x′ ≡ initial) × (frontWord (length w) x′ ≡ w)
+      × (frontNet (net .places) (net .transitions) x′ ≡ filed net) × (frontMarking (net .places) x′ ≡ initial) × (frontWord (length w) x′ ≡ w)
   read-written = (
     came .0,
-    ap (frontNet (net .places) (net .transitions)) (came .1) ∙ filled-net x (largest-large x largest) net initial w limited,
-    ap (frontMarking (net .places)) (came .1) ∙ filled-marking x (largest-large x largest) net initial w limited,
-    ap (frontWord (length w)) (came .1) ∙ filled-word x (largest-large x largest) net initial w limited,
+    ap (frontNet (net .places) (net .transitions)) (came .1) ∙ filled-net x (largest-large x largest) (filed net) initial w limited,
+    ap (frontMarking (net .places)) (came .1) ∙ filled-marking x (largest-large x largest) (filed net) initial w limited,
+    ap (frontWord (length w)) (came .1) ∙ filled-word x (largest-large x largest) (filed net) initial w limited,
   )
 
 -- "writing what was read gives the same bytes": what the rooms hold at their fronts
@@ -75,29 +76,29 @@ module _ (file : List ℕ) (x : Rooms) (P T n : ℕ) (x′ : Rooms) (read : Case
           written-rest (frontNet P T x′) (frontMarking P x′) (frontWord n x′) room (length file) room′ p,
         )
 
--- no two nets, markings or words have one file: where the bytes are the same, so are they
+-- no two nets, markings or words have one file: where the bytes are the same, so are they, but for marks that are not 0, which count as 1
 module _ (net net′ : Net) (initial w room initial′ w′ other : List ℕ) (n k : ℕ) (room′ other′ : List ℕ)
     (written : CaseWritten net initial w room (Written n) room′) (written′ : CaseWritten net′ initial′ w′ other (Written k) other′)
     (bytes : Bytes net) (bytes′ : Bytes net′) where
-  pub written-apart : take n room′ ≡ take k other′ → (net ≡ net′) × (initial ≡ initial′) × (w ≡ w′)
+  pub written-apart : take n room′ ≡ take k other′ → (filed net ≡ filed net′) × (initial ≡ initial′) × (w ≡ w′)
   written-apart e = file-apart (take n room′) one two
     where
       one : WrittenFile (take n room′)
       one =
           record {
-            net = net;
+            net = filed net;
             initial = initial;
             word = w;
             limited = limited-of net initial w (written-allowed net initial w room n room′ written .writable) bytes;
-            text = written-file net initial w room n room′ written;
+            text = written-file net initial w room n room′ written ∙ sym (file-filed net initial w);
           }
 
       two : WrittenFile (take n room′)
       two =
           record {
-            net = net′;
+            net = filed net′;
             initial = initial′;
             word = w′;
             limited = limited-of net′ initial′ w′ (written-allowed net′ initial′ w′ other k other′ written′ .writable) bytes′;
-            text = e ∙ written-file net′ initial′ w′ other k other′ written′;
+            text = e ∙ written-file net′ initial′ w′ other k other′ written′ ∙ sym (file-filed net′ initial′ w′);
           }

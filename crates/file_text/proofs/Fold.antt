@@ -10,6 +10,7 @@ use lib.Dec.{eqb, ltb}
 use Rattle.refusals.specs.declared.Fault.{Fault}
 use Rattle.refusals.specs.declared.Fault.the-variants.{Sound, Faulty}
 use Rattle.file_digits.specs.Frame.{lineLimit, lineFeed, byteAt, bytesFrom, wordsFrom}
+use Rattle.file_mask.specs.Mask.{bitsOf, maskIn}
 use Rattle.file_line.specs.declared.Reading.{Reading}
 use Rattle.file_line.specs.Read.{fresh, Rooms, lineOf, roomsOf, judgeOf, advancedKind, stored, storedKind, lettersIn}
 use Rattle.file_line.specs.Walk.{Good}
@@ -29,10 +30,10 @@ pub record Fed (x : Rooms) (k : ℕ) (z : Both) : Type 0 where
   pub counted : LinesCounted k (z .run)
 
 same-own : (x : Rooms) → Same x x
-same-own x = record { caps = refl; initial = refl; pre = refl; post = refl; word = refl }
+same-own x = record { caps = refl; marks = refl; initial = refl; pre = refl; post = refl; word = refl }
 
 same-on : (x y z : Rooms) → Same x y → Same y z → Same x z
-same-on x y z a b = record { caps = a .caps ∙ b .caps; initial = a .initial ∙ b .initial; pre = a .pre ∙ b .pre; post = a .post ∙ b .post; word = a .word ∙ b .word }
+same-on x y z a b = record { caps = a .caps ∙ b .caps; marks = a .marks ∙ b .marks; initial = a .initial ∙ b .initial; pre = a .pre ∙ b .pre; post = a .post ∙ b .post; word = a .word ∙ b .word }
 
 -- an accepted line is one line more
 advanced-line : (s : Reading) (d : List ℕ) (k : ℕ) → advancedKind k s d .line ≡ s .line + 1
@@ -49,18 +50,20 @@ advanced-line s d k = go (eqb k 1) (eqb k 4) (eqb k 5) _ _ _ _ refl refl refl re
 stored-same : (s : Reading) (d : List ℕ) (x : Rooms) (k : ℕ) → Same (storedKind k s d x) x
 unfolding storedKind
 stored-same s d x k =
-    go (eqb k 2) (eqb k 3) (eqb k 4) (eqb k 5) _ _ _ _
-    (record { caps = length-sets (x .caps) 0 (wordsFrom d 1 (s .places)); initial = refl; pre = refl; post = refl; word = refl })
-    (record { caps = refl; initial = length-sets (x .initial) 0 (wordsFrom d 1 (s .places)); pre = refl; post = refl; word = refl })
-    (record { caps = refl; initial = refl; pre = length-sets (x .pre) (s .next * s .places) (bytesFrom d 2 (s .places)); post = length-sets (x .post) (s .next * s .places) (bytesFrom d (2 + s .places) (s .places)); word = refl })
-    (record { caps = refl; initial = refl; pre = refl; post = refl; word = length-sets (x .word) (s .letters) (bytesFrom d 1 (lettersIn d)) })
+    go (eqb k 2) (eqb k 3) (eqb k 4) (eqb k 5) (eqb k 6) _ _ _ _ _
+    (record { caps = length-sets (x .caps) 0 (wordsFrom d 1 (s .places)); marks = length-sets (x .marks) 0 (bitsOf 0 (s .places)); initial = refl; pre = refl; post = refl; word = refl })
+    (record { caps = refl; marks = refl; initial = length-sets (x .initial) 0 (wordsFrom d 1 (s .places)); pre = refl; post = refl; word = refl })
+    (record { caps = refl; marks = refl; initial = refl; pre = length-sets (x .pre) (s .next * s .places) (bytesFrom d 2 (s .places)); post = length-sets (x .post) (s .next * s .places) (bytesFrom d (2 + s .places) (s .places)); word = refl })
+    (record { caps = refl; marks = refl; initial = refl; pre = refl; post = refl; word = length-sets (x .word) (s .letters) (bytesFrom d 1 (lettersIn d)) })
+    (record { caps = refl; marks = length-sets (x .marks) 0 (bitsOf (maskIn d) (s .places)); initial = refl; pre = refl; post = refl; word = refl })
   where
-    go : (a b c e : Bool) (t u v w : Rooms) → Same t x → Same u x → Same v x → Same w x → Same (cond a t (cond b u (cond c v (cond e w x)))) x
-    go true b c e t u v w p q r m = p
-    go false true c e t u v w p q r m = q
-    go false false true e t u v w p q r m = r
-    go false false false true t u v w p q r m = m
-    go false false false false t u v w p q r m = same-own x
+    go : (a b c e f : Bool) (t u v w z : Rooms) → Same t x → Same u x → Same v x → Same w x → Same z x → Same (cond a t (cond b u (cond c v (cond e w (cond f z x))))) x
+    go true b c e f t u v w z p q r m n = p
+    go false true c e f t u v w z p q r m n = q
+    go false false true e f t u v w z p q r m n = r
+    go false false false true f t u v w z p q r m n = m
+    go false false false false true t u v w z p q r m n = n
+    go false false false false false t u v w z p q r m n = same-own x
 
 -- so does what a refused line leaves
 kept-same : (s : Reading) (d : List ℕ) (y : Rooms) (b : Bool) → Same (cond b (stored s d y) y) y
@@ -116,7 +119,9 @@ good-fresh =
       rows = λ h. absurd (omega arith);
       early = λ h. refl;
       wordless = λ h. refl;
+      pockets = λ h. absurd (omega arith);
       letters = omega arith;
+      line-early = λ h. omega arith;
       line = omega arith;
     }
 

@@ -1,8 +1,9 @@
 -- A line of each kind: the frame that it must be, and that the frame is taken. Assumes nothing.
 use mathlib.Core.Path.{_≡_, refl, sym, _∙_, ap, subst}
 use mathlib.Core.Bool.{true, cond}
+use mathlib.Core.Logic.{_⊎_, inl, inr, ⊎-elim}
 use mathlib.Core.List.{List, [], _∷_, _++_, append-nil}
-use Prim.Native.Nat.{ℕ, suc, _+_, _*_, _%_, _≤_}
+use Prim.Native.Nat.{ℕ, suc, _+_, _*_, _%_, _≤_, _<_}
 use native.Mathlib.Omega.{arith}
 use lib.Dec.{eqb}
 use lib.ListN.{length, length-append}
@@ -10,15 +11,17 @@ use lib.Seq.{sets}
 use Rattle.ground.specs.Limits.{countLimit, wordLimit}
 use Rattle.file_digits.specs.Frame.{lineLimit, lineFeed, block, byteAt, bytesFrom, wordsFrom}
 use Rattle.file_put.specs.Put.{digitsOf, lineText, twos}
+use Rattle.file_mask.specs.Mask.{maskBytes, maskLimit, bitsOf, aboveBits, maskIn, eight}
+use Rattle.file_mask.proofs.Masks.{eight-long, eight-small, mask-digits, digits-mask}
 use Rattle.file_put.proofs.Round.{canon, digits-long, byte-digits, piece}
 use Rattle.file_line.specs.declared.Reading.{Reading}
 use Rattle.wiring.specs.Wired.{Wired}
 use Rattle.refusals.specs.Given.{Fine}
 use Rattle.refusals.specs.declared.Fault.the-variants.{Sound, Faulty}
 use Rattle.file_line.specs.Read.{Rooms, rooms, tokensIn, wordPart, ruleOf, judgeOf, lettersIn, advanced, advancedKind, stored, storedKind, netIn, lineHere}
-use Rattle.file_line.specs.Line.{Formed, frame01, frame02, frame03, frame04, frame05, CountsInRange, TokensAllowed, NetWired, WordNotOver, LettersNamed, Taken}
+use Rattle.file_line.specs.Line.{SomeBit, NoBitPast, Formed, frame01, frame02, frame03, frame04, frame05, frame06, CountsInRange, TokensAllowed, NetWired, WordNotOver, LettersNamed, Taken}
 use Rattle.file_line.proofs.Digits.{rule-all, rule-exactly}
-use Rattle.file_line.proofs.Order.{no-counts, no-tokens, no-net, no-long, no-letters, formed-kind, formed-01, formed-02, formed-03, formed-04, formed-05}
+use Rattle.file_line.proofs.Order.{no-counts, no-tokens, no-net, no-long, no-letters, formed-kind, formed-01, formed-02, formed-03, formed-04, formed-05, formed-06}
 use Rattle.file_line.proofs.Meaning.{taken-exactly, wired-exactly}
 use Rattle.file_parts.specs.File.{both, going, feedAll}
 use Rattle.file_parts.proofs.Line.{line-taken, held}
@@ -50,7 +53,7 @@ fed s y f t z k =
 
 -- the rooms y with the rows a and b of the next transition
 abbrev pub rowsOf : Reading → Rooms → List ℕ → List ℕ → Rooms
-rowsOf s y a b = rooms (y .caps) (y .initial) (sets (y .pre) (s .next * s .places) a) (sets (y .post) (s .next * s .places) b) (y .word)
+rowsOf s y a b = rooms (y .caps) (y .marks) (y .initial) (sets (y .pre) (s .next * s .places) a) (sets (y .post) (s .next * s .places) b) (y .word)
 
 -- the frame of each kind is taken
 module _ (s : Reading) (y : Rooms) where
@@ -86,7 +89,7 @@ module _ (s : Reading) (y : Rooms) where
       (rw (e, g)) refl
 
   pub takes-caps : (caps : List ℕ) → s .phase ≡ 2 → s .places ≤ countLimit → length caps ≡ s .places → Below 65536 caps
-      → Takes s y (2 ∷ twos caps) (state 3 (s .places) (s .transitions) 0 0 (s .line + 1)) (rooms (sets (y .caps) 0 caps) (y .initial) (y .pre) (y .post) (y .word))
+      → Takes s y (2 ∷ twos caps) (state 6 (s .places) (s .transitions) 0 0 (s .line + 1)) (rooms (sets (y .caps) 0 caps) (sets (y .marks) 0 (bitsOf 0 (s .places))) (y .initial) (y .pre) (y .post) (y .word))
   unfolding advancedKind storedKind
   takes-caps caps p h l w =
       let d : List ℕ = digitsOf (2 ∷ twos caps) in
@@ -102,9 +105,27 @@ module _ (s : Reading) (y : Rooms) where
       ))
       refl (rw (words-digits 2 (s .places) caps (omega arith) w l))
 
-  pub takes-tokens : (initial : List ℕ) → s .phase ≡ 3 → s .places ≤ countLimit → length initial ≡ s .places → Below 65536 initial
+  pub takes-pockets : (m : ℕ) → s .phase ≡ 6 → m < maskLimit → (m ≡ 0 → ⊥) → aboveBits m (s .places) ≡ 0
+      → Takes s y (6 ∷ eight m) (state 3 (s .places) (s .transitions) 0 0 (s .line + 1)) (rooms (y .caps) (sets (y .marks) 0 (bitsOf m (s .places))) (y .initial) (y .pre) (y .post) (y .word))
+  unfolding advancedKind storedKind
+  takes-pockets m p h some past =
+      let d : List ℕ = digitsOf (6 ∷ eight m) in
+      let n : length d ≡ 2 + 2 * maskBytes = let a = digits-long (6 ∷ eight m) in let b = eight-long m in omega arith in
+      let e : maskIn d ≡ m = mask-digits m h in
+      takes 6 (eight m) _ _ (more {x = 6} (omega arith) (eight-small m)) (omega (arith, eight-long m))
+      (λ q. (
+        frame06 p q n (λ z. some (sym e ∙ z)) (rw e past),
+        no-counts s d y (λ k. omega arith),
+        no-tokens s d y (λ k. omega arith),
+        no-net s d y (λ k. omega arith),
+        no-long s d y (λ k. omega arith),
+        no-letters s d y (λ k. omega arith),
+      ))
+      refl (rw e)
+
+  pub takes-tokens : (initial : List ℕ) → (s .phase ≡ 6) ⊎ (s .phase ≡ 3) → s .places ≤ countLimit → length initial ≡ s .places → Below 65536 initial
       → Fine (y .caps) initial
-      → Takes s y (3 ∷ twos initial) (state 4 (s .places) (s .transitions) 0 0 (s .line + 1)) (rooms (y .caps) (sets (y .initial) 0 initial) (y .pre) (y .post) (y .word))
+      → Takes s y (3 ∷ twos initial) (state 4 (s .places) (s .transitions) 0 0 (s .line + 1)) (rooms (y .caps) (y .marks) (sets (y .initial) 0 initial) (y .pre) (y .post) (y .word))
   unfolding advancedKind storedKind
   takes-tokens initial p h l w v =
       let d : List ℕ = digitsOf (3 ∷ twos initial) in
@@ -167,7 +188,7 @@ module _ (s : Reading) (y : Rooms) where
   pub takes-letters : (v : List ℕ) → s .phase ≡ 5 → s .letters % block ≡ 0 → s .transitions ≤ countLimit → 1 ≤ length v → length v ≤ block
       → s .letters + length v ≤ wordLimit → Below (s .transitions) v
       → Takes s y (5 ∷ v) (state 5 (s .places) (s .transitions) (s .next) (s .letters + length v) (s .line + 1))
-      (rooms (y .caps) (y .initial) (y .pre) (y .post) (sets (y .word) (s .letters) v))
+      (rooms (y .caps) (y .marks) (y .initial) (y .pre) (y .post) (sets (y .word) (s .letters) v))
   unfolding advancedKind storedKind
   takes-letters v p q t l h m w =
       let d : List ℕ = digitsOf (5 ∷ v) in
@@ -187,14 +208,22 @@ module _ (s : Reading) (y : Rooms) where
       ))
       (rw i) (rw (i, u))
 
+-- the kind, and then the other bytes
+kind-then : (d l : List ℕ) → bytesFrom d 0 1 ++ l ≡ byteAt d 0 ∷ l
+unfolding bytesFrom
+kind-then d l = refl
+
 -- and no other line of its kind is
 module _ (s : Reading) (d : List ℕ) (y : Rooms) (j : judgeOf s d y ≡ Sound) where
   asked : Taken s d y
   asked = taken-exactly s d y .0 j
 
-  -- its kind is the one that must come next
-  pub kind-next : byteAt d 0 ≡ s .phase
-  kind-next = formed-kind s d (asked .formed) .2
+  -- its kind is the one that must come next, or 06 or 03 where both may
+  pub kind-next : (s .phase ≡ 6 → ⊥) → byteAt d 0 ≡ s .phase
+  kind-next n = ⊎-elim (λ e. e) (λ z. absurd (n (z .0))) (formed-kind s d (asked .formed) .2)
+
+  pub kind-pockets : s .phase ≡ 6 → (byteAt d 0 ≡ 6) ⊎ (byteAt d 0 ≡ 3)
+  kind-pockets p = ⊎-elim (λ e. inl (e ∙ p)) (λ z. inr (z .1)) (formed-kind s d (asked .formed) .2)
 
   line-of : (n : ℕ) → length d ≡ 2 * n → d ≡ digitsOf (bytesFrom d 0 n)
   line-of n e = sym (canon n d e (rule-all d (rule-exactly d .1 (asked .ruled))))
@@ -206,25 +235,30 @@ module _ (s : Reading) (d : List ℕ) (y : Rooms) (j : judgeOf s d y ≡ Sound) 
   pub counts-of : s .phase ≡ 1 → (d ≡ digitsOf (1 ∷ byteAt d 1 ∷ byteAt d 2 ∷ [])) × (1 ≤ byteAt d 1) × (byteAt d 1 ≤ countLimit) × (1 ≤ byteAt d 2) × (byteAt d 2 ≤ countLimit)
   unfolding bytesFrom
   counts-of p =
-      let e : byteAt d 0 ≡ 1 = kind-next ∙ p in
+      let e : byteAt d 0 ≡ 1 = kind-next (λ z. omega arith) ∙ p in
       let a = asked .counts .places e in
       let b = asked .counts .transitions e in
       let three : bytesFrom d 0 3 ≡ byteAt d 0 ∷ byteAt d 1 ∷ byteAt d 2 ∷ [] = refl in
       (line-of 3 (formed-01 s d (asked .formed) e .1) ∙ ap digitsOf (three ∙ rw e), a .0, a .1, b .0, b .1)
 
   pub caps-of : s .phase ≡ 2 → d ≡ digitsOf (2 ∷ twos (wordsFrom d 1 (s .places)))
-  caps-of p = let e : byteAt d 0 ≡ 2 = kind-next ∙ p in words-of 2 (s .places) (formed-02 s d (asked .formed) e .1) e
+  caps-of p = let e : byteAt d 0 ≡ 2 = kind-next (λ z. omega arith) ∙ p in words-of 2 (s .places) (formed-02 s d (asked .formed) e .1) e
 
-  pub tokens-of : s .phase ≡ 3 → d ≡ digitsOf (3 ∷ twos (wordsFrom d 1 (s .places)))
-  tokens-of p = let e : byteAt d 0 ≡ 3 = kind-next ∙ p in words-of 3 (s .places) (formed-03 s d (asked .formed) e .1) e
+  pub pockets-of : byteAt d 0 ≡ 6 → (d ≡ digitsOf (6 ∷ eight (maskIn d))) × SomeBit d × NoBitPast s d
+  pockets-of e =
+      let f = formed-06 s d (asked .formed) e in
+      (line-of (1 + maskBytes) (f .1 ∙ omega arith) ∙ ap digitsOf (bytes-split d 0 1 maskBytes ∙ kind-then d (bytesFrom d 1 maskBytes) ∙ (λ i. e i ∷ digits-mask d i)), f .2, f .3)
 
-  pub tokens-fine : s .phase ≡ 3 → Fine (y .caps) (tokensIn s d)
-  tokens-fine p = asked .tokens .fine (kind-next ∙ p)
+  pub tokens-of : byteAt d 0 ≡ 3 → d ≡ digitsOf (3 ∷ twos (wordsFrom d 1 (s .places)))
+  tokens-of e = words-of 3 (s .places) (formed-03 s d (asked .formed) e .1) e
+
+  pub tokens-fine : byteAt d 0 ≡ 3 → Fine (y .caps) (tokensIn s d)
+  tokens-fine e = asked .tokens .fine e
 
   pub row-of : s .phase ≡ 4 → d ≡ digitsOf (4 ∷ s .next ∷ (bytesFrom d 2 (s .places) ++ bytesFrom d (2 + s .places) (s .places)))
   unfolding bytesFrom
   row-of p =
-      let e : byteAt d 0 ≡ 4 = kind-next ∙ p in
+      let e : byteAt d 0 ≡ 4 = kind-next (λ z. omega arith) ∙ p in
       let f = formed-04 s d (asked .formed) e in
       let n : byteAt d 1 ≡ s .next = f .2 in
       let two : bytesFrom d 0 2 ++ bytesFrom d 2 (s .places + s .places) ≡ byteAt d 0 ∷ byteAt d 1 ∷ bytesFrom d 2 (s .places + s .places) = refl in
@@ -234,14 +268,14 @@ module _ (s : Reading) (d : List ℕ) (y : Rooms) (j : judgeOf s d y ≡ Sound) 
   pub row-wired : s .phase ≡ 4 → s .next + 1 ≡ s .transitions
       → Wired (netIn s (rowsOf s y (bytesFrom d 2 (s .places)) (bytesFrom d (2 + s .places) (s .places))))
   unfolding storedKind
-  row-wired p l = let e : byteAt d 0 ≡ 4 = kind-next ∙ p in rw e at (asked .net .wired e l)
+  row-wired p l = let e : byteAt d 0 ≡ 4 = kind-next (λ z. omega arith) ∙ p in rw e at (asked .net .wired e l)
 
   pub letters-of : s .phase ≡ 5
       → (s .letters % block ≡ 0) × (1 ≤ lettersIn d) × (lettersIn d ≤ block) × (s .letters + lettersIn d ≤ wordLimit)
       × (d ≡ digitsOf (5 ∷ bytesFrom d 1 (lettersIn d))) × Below (s .transitions) (bytesFrom d 1 (lettersIn d))
   unfolding bytesFrom
   letters-of p =
-      let e : byteAt d 0 ≡ 5 = kind-next ∙ p in
+      let e : byteAt d 0 ≡ 5 = kind-next (λ z. omega arith) ∙ p in
       let f = formed-05 s d (asked .formed) e in
       let even : length d % 2 ≡ 0 = asked .ruled .even in
       let lo : 4 ≤ length d = f .2 in

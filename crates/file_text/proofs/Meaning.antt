@@ -2,15 +2,17 @@
 use mathlib.Core.Path.{_≡_, refl, sym, _∙_, ap}
 use mathlib.Core.Bool.{Bool, true, false, cond}
 use mathlib.Core.List.{List, [], _∷_, _++_}
-use mathlib.Core.Logic.{_↔_}
+use mathlib.Core.Logic.{_↔_, _⊎_, inl, inr, ⊎-elim}
 use Prim.Native.Nat.{ℕ, _+_, _*_, _≤_}
 use native.Mathlib.Omega.{arith}
 use native.Mathlib.Nat.{mul-le-mul}
 use lib.Dec.{eqb}
 use lib.ListN.{length, drop, replicate, length-replicate}
-use borrow.Author.Tests.{eqb-true}
+use borrow.Author.Tests.{eqb-true, eqb-false}
 use Rattle.ground.specs.Limits.{noCapacity, weightLimit, wordLimit}
 use Rattle.file_put.specs.Put.{digitOf, digitsOf, twos}
+use Rattle.file_mask.specs.Mask.{Bits, maskOf}
+use Rattle.file_mask.proofs.Masks.{mask-filed}
 use Rattle.net.specs.Net.{Net, netOf, Sized, Light}
 use Rattle.net.specs.Letter.{Small}
 use Rattle.wiring.specs.Wired.{Wired}
@@ -26,16 +28,16 @@ use Rattle.file_line.proofs.Meaning.{refused-line, judged-number, one-on-01, th
 use Rattle.file_parts.specs.declared.Case.{Case}
 use Rattle.file_parts.specs.declared.Case.the-variants.{Whole, Refused}
 use Rattle.file_parts.specs.File.{Run, going, stopped, Both, both, readOf, finishOf, caseOf}
-use Rattle.file_text.specs.Text.{lettersLine, lettersLines, joined, fileOf, Limited, Written, markingIn, wordIn, endOf, filled}
+use Rattle.file_text.specs.Text.{pocketsLines, pocketsCount, lettersLine, lettersLines, joined, fileOf, Limited, Written, markingIn, wordIn, endOf, filled, filed}
 use Rattle.file_digits.proofs.Bytes.{below-of, of-below, below-most}
 use Rattle.file_text.proofs.Fronts.{front-of, rest-of}
 use Rattle.file_text.proofs.Taken.{read-taken}
-use Rattle.file_text.proofs.Stage.{Rowed, Listed, held-net, Stage, start, counted, capped, rowed, lettered, staged}
+use Rattle.file_text.proofs.Stage.{Rowed, Listed, held-net, cappedState, phase-either, plain-phase, plain-count, pocket-phase, pocket-count, Stage, start, counted, capped, rowed, lettered, staged}
 use Rattle.file_text.proofs.Whole.{whole, loose-read}
 
 -- the limits, entry by entry and list by list
-rowed-of : (net : Net) (initial : List ℕ) → Sized net → Light net → Small noCapacity (net .caps) → length initial ≡ net .places → Fine (net .caps) initial → Rowed net (net .transitions) initial
-rowed-of net initial sized weights capacities marked fine =
+rowed-of : (net : Net) (initial : List ℕ) → Sized net → Light net → Small noCapacity (net .caps) → Bits (net .marks) → length initial ≡ net .places → Fine (net .caps) initial → Rowed net (net .transitions) initial
+rowed-of net initial sized weights capacities bits marked fine =
     record {
       some-places = sized .some-places;
       few-places = sized .few-places;
@@ -43,6 +45,8 @@ rowed-of net initial sized weights capacities marked fine =
       few-transitions = sized .few-transitions;
       capped = sized .capped;
       capacities = below-of 65536 (net .caps) (λ k h. let z = capacities .at k in omega arith);
+      noted = sized .noted;
+      bits = bits;
       marked = marked;
       fine = fine;
       pres = sized .pres;
@@ -54,7 +58,7 @@ rowed-of net initial sized weights capacities marked fine =
 listed : (net : Net) (initial w : List ℕ) → Limited net initial w → Listed net initial w
 listed net initial w m =
     record {
-      rowed = rowed-of net initial (m .sized) (m .weights) (m .capacities) (m .marked) (m .fine);
+      rowed = rowed-of net initial (m .sized) (m .weights) (m .capacities) (m .bits) (m .marked) (m .fine);
       wired = m .wired;
       short = m .short;
       letters = below-of (net .transitions) w (m .letters .at);
@@ -71,10 +75,12 @@ limited net initial w l =
         pres = l .rowed .pres;
         posts = l .rowed .posts;
         capped = l .rowed .capped;
+        noted = l .rowed .noted;
       };
       wired = l .wired;
       weights = record { pre = λ k. below-most weightLimit (net .pre) k (l .rowed .takes); post = λ k. below-most weightLimit (net .post) k (l .rowed .puts) };
       capacities = record { at = λ k. below-most noCapacity (net .caps) k (l .rowed .capacities) };
+      bits = l .rowed .bits;
       marked = l .rowed .marked;
       fine = l .rowed .fine;
       short = l .short;
@@ -111,12 +117,14 @@ module _ (x : Rooms) (big : Large x) (net : Net) (initial w : List ℕ) (m : Lim
 
   -- on success the net's own entries stand at their front and the rest is as found
   pub filled-rest : (drop (net .places) (filled x net initial w .caps) ≡ drop (net .places) (x .caps))
+      × (drop (net .places) (filled x net initial w .marks) ≡ drop (net .places) (x .marks))
       × (drop (net .places) (filled x net initial w .initial) ≡ drop (net .places) (x .initial))
       × (drop (net .transitions * net .places) (filled x net initial w .pre) ≡ drop (net .transitions * net .places) (x .pre))
       × (drop (net .transitions * net .places) (filled x net initial w .post) ≡ drop (net .transitions * net .places) (x .post))
       × (drop (length w) (filled x net initial w .word) ≡ drop (length w) (x .word))
   filled-rest = (
     rest-of (net .caps) (x .caps) (net .places) (m .sized .capped) (omega (arith, m .sized .few-places, big .caps)),
+    rest-of (net .marks) (x .marks) (net .places) (m .sized .noted) (omega (arith, m .sized .few-places, big .marks)),
     rest-of initial (x .initial) (net .places) (m .marked) (omega (arith, m .sized .few-places, big .initial)),
     rest-of (net .pre) (x .pre) (net .transitions * net .places) (m .sized .pres) (omega (arith, cells, big .pre)),
     rest-of (net .post) (x .post) (net .transitions * net .places) (m .sized .posts) (omega (arith, cells, big .post)),
@@ -131,11 +139,11 @@ module _ (x : Rooms) (big : Large x) (net : Net) (initial w : List ℕ) (m : Lim
       (ap (λ (z : Both). caseOf (z .run)) e, ap (λ (z : Both). z .rooms) e)
 
 -- "refused .. in a file, on the line of the last transition": the file of a net that is within the limits but for a loose node, whatever its word is
-pub loose-refused : (x : Rooms) → Large x → (net : Net) (initial w : List ℕ) → Sized net → Light net → Small noCapacity (net .caps) → length initial ≡ net .places → Fine (net .caps) initial
-    → (Wired net → ⊥) → caseOf (readOf x (fileOf net initial w) .run) ≡ Refused 17 (3 + net .transitions)
+pub loose-refused : (x : Rooms) → Large x → (net : Net) (initial w : List ℕ) → Sized net → Light net → Small noCapacity (net .caps) → Bits (net .marks) → length initial ≡ net .places → Fine (net .caps) initial
+    → (Wired net → ⊥) → caseOf (readOf x (fileOf net initial w) .run) ≡ Refused 17 (3 + pocketsCount (net .marks) + net .transitions)
 unfolding caseOf fileOf
-loose-refused x big net initial w sized weights capacities marked fine loose =
-    ap caseOf (loose-read x big net initial (rowed-of net initial sized weights capacities marked fine) loose (joined (lettersLine w) (lettersLines (length w))))
+loose-refused x big net initial w sized weights capacities bits marked fine loose =
+    ap caseOf (loose-read x big net initial (rowed-of net initial sized weights capacities bits marked fine) loose (joined (lettersLine w) (lettersLines (length w))))
 
 -- the other way: an accepted file is the file of what stands in the rooms
 module _ (x : Rooms) (big : Large x) (file : List ℕ) where
@@ -148,7 +156,7 @@ module _ (x : Rooms) (big : Large x) (file : List ℕ) where
       go : Stage x s (readOf x file .rooms) file → Written file
       go (start a b f) = early fresh a (λ z. omega arith)
       go (counted P T g h i j a b f) = early _ a (λ z. omega arith)
-      go (capped P T caps g h i j k l a b f) = early _ a (λ z. omega arith)
+      go (capped P T caps marks g h i j k l m n a b f) = early _ a (λ z. ⊎-elim (λ q. omega arith) (λ q. omega arith) (phase-either marks))
       go (rowed net n initial r h a b f) = early _ a (λ z. omega arith)
       go (lettered net initial w l a b f) = record { net = net; initial = initial; word = w; limited = limited net initial w l; text = f }
 
@@ -191,46 +199,86 @@ module _ (x : Rooms) (big : Large x) (file : List ℕ) where
 pub one-answer : (x : Rooms) (file : List ℕ) (a b : Case) → caseOf (readOf x file .run) ≡ a → caseOf (readOf x file .run) ≡ b → a ≡ b
 one-answer x file a b p q = sym p ∙ q
 
--- where the lines before were taken, the kind that must come next tells which line it is: 1 falls on line 1, 3 on line 3, and 17 on that of the last transition
+-- how many lines were read, by the kind that must come next: before 01 none; before the 03 two, or three after a 06; before a row also those that were read
+record LinesSoFar (s : Reading) (y : Rooms) : Type 0 where
+  first : s .phase ≡ 1 → s .line ≡ 0
+  plain : s .phase ≡ 6 → s .line ≡ 2
+  pocketed : s .phase ≡ 3 → s .line ≡ 3
+  rows : s .phase ≡ 4 → s .line ≡ 3 + pocketsCount (netIn s y .marks) + s .next
+
+-- where the lines before were taken, the kind that must come next tells which line it is: 1 falls on line 1, 3 on line 3, or 4 after a 06, and 17 on that
+-- of the last transition
 module _ (x : Rooms) (big : Large x) (lines : List ℕ) (s : Reading) (y : Rooms) (before : readOf x lines ≡ both (going s []) y) (d : List ℕ) where
-  lines-so-far : (s .phase ≡ 1 → s .line ≡ 0) × (s .phase ≡ 3 → s .line ≡ 2) × (s .phase ≡ 4 → s .line ≡ 3 + s .next)
+  lines-so-far : LinesSoFar s y
   lines-so-far = go (staged x big lines s y (read-taken x lines s y before))
     where
-      by : (t : Reading) → s ≡ t → (t .phase ≡ 1 → t .line ≡ 0) × (t .phase ≡ 3 → t .line ≡ 2) × (t .phase ≡ 4 → t .line ≡ 3 + t .next) → (s .phase ≡ 1 → s .line ≡ 0) × (s .phase ≡ 3 → s .line ≡ 2) × (s .phase ≡ 4 → s .line ≡ 3 + s .next)
-      by t e h = rw e h
+      by : (t : Reading) (z : Rooms) → s ≡ t → y ≡ z → LinesSoFar t z → LinesSoFar s y
+      by t z e f h = rw (e, f) h
 
-      go : Stage x s y lines → (s .phase ≡ 1 → s .line ≡ 0) × (s .phase ≡ 3 → s .line ≡ 2) × (s .phase ≡ 4 → s .line ≡ 3 + s .next)
-      go (start a b f) = by _ a (λ q. refl, λ q. absurd (omega arith), λ q. absurd (omega arith))
-      go (counted P T g h i j a b f) = by _ a (λ q. absurd (omega arith), λ q. absurd (omega arith), λ q. absurd (omega arith))
-      go (capped P T caps g h i j k l a b f) = by _ a (λ q. absurd (omega arith), λ q. refl, λ q. absurd (omega arith))
-      go (rowed net n initial r h a b f) = by _ a (λ q. absurd (omega arith), λ q. absurd (omega arith), λ q. refl)
-      go (lettered net initial w l a b f) = by _ a (λ q. absurd (omega arith), λ q. absurd (omega arith), λ q. absurd (omega arith))
+      none-of : {t : Reading} {z : Rooms} → (t .phase ≡ 1 → ⊥) → (t .phase ≡ 6 → ⊥) → (t .phase ≡ 3 → ⊥) → (t .phase ≡ 4 → ⊥) → LinesSoFar t z
+      none-of a b c d = record { first = λ q. absurd (a q); plain = λ q. absurd (b q); pocketed = λ q. absurd (c q); rows = λ q. absurd (d q) }
+
+      after-caps : (P T : ℕ) (marks : List ℕ) (z : Rooms) → LinesSoFar (cappedState P T marks) z
+      after-caps P T marks z = at (eqb (maskOf marks) 0) refl
+        where
+          at : (t : Bool) → eqb (maskOf marks) 0 ≡ t → LinesSoFar (cappedState P T marks) z
+          at true t =
+              let m : maskOf marks ≡ 0 = eqb-true _ _ t in
+              let p = plain-phase marks m in
+              let c = plain-count marks m in
+              record { first = λ q. absurd (omega arith); plain = λ q. omega arith; pocketed = λ q. absurd (omega arith); rows = λ q. absurd (omega arith) }
+          at false t =
+              let m : maskOf marks ≡ 0 → ⊥ = eqb-false _ _ t in
+              let p = pocket-phase marks m in
+              let c = pocket-count marks m in
+              record { first = λ q. absurd (omega arith); plain = λ q. absurd (omega arith); pocketed = λ q. omega arith; rows = λ q. absurd (omega arith) }
+
+      go : Stage x s y lines → LinesSoFar s y
+      go (start a b f) = by _ _ a b (record { first = λ q. refl; plain = λ q. absurd (omega arith); pocketed = λ q. absurd (omega arith); rows = λ q. absurd (omega arith) })
+      go (counted P T g h i j a b f) = by _ _ a b (none-of (λ q. omega arith) (λ q. omega arith) (λ q. omega arith) (λ q. omega arith))
+      go (capped P T caps marks g h i j k l m n a b f) = by _ _ a b (after-caps P T marks _)
+      go (rowed net n initial r h a b f) =
+          by _ _ a b
+          (record {
+            first = λ q. absurd (omega arith);
+            plain = λ q. absurd (omega arith);
+            pocketed = λ q. absurd (omega arith);
+            rows = λ q. rw (front-of (net .marks) (x .marks) (net .places) (r .noted) (omega (arith, r .few-places, big .marks)));
+          })
+      go (lettered net initial w l a b f) = by _ _ a b (none-of (λ q. omega arith) (λ q. omega arith) (λ q. omega arith) (λ q. omega arith))
 
   pub one-on-line-1 : (at : ℕ) → judgeOf s d y ≡ Faulty 1 at → lineOf s d y ≡ took.Refused 1 1
   one-on-line-1 at e =
-      let l : at ≡ 1 = let z = lines-so-far .0 (one-on-01 s d y at e .0) in omega (arith, judged-number s d y 1 at e .2) in
+      let l : at ≡ 1 = let z = lines-so-far .first (one-on-01 s d y at e .0) in omega (arith, judged-number s d y 1 at e .2) in
       refused-line s d y 1 at e .0 ∙ rw l
 
-  pub three-on-line-3 : (at : ℕ) → judgeOf s d y ≡ Faulty 3 at → lineOf s d y ≡ took.Refused 3 3
+  pub three-on-line-3 : (at : ℕ) → judgeOf s d y ≡ Faulty 3 at → ((s .phase ≡ 6) × (lineOf s d y ≡ took.Refused 3 3)) ⊎ ((s .phase ≡ 3) × (lineOf s d y ≡ took.Refused 3 4))
   three-on-line-3 at e =
-      let l : at ≡ 3 = let z = lines-so-far .1 (three-on-03 s d y at e .0) in omega (arith, judged-number s d y 3 at e .2) in
-      refused-line s d y 3 at e .0 ∙ rw l
+      ⊎-elim
+      (λ p. let l : at ≡ 3 = let z = lines-so-far .plain p in omega (arith, judged-number s d y 3 at e .2) in inl (p, refused-line s d y 3 at e .0 ∙ rw l))
+      (λ p. let l : at ≡ 4 = let z = lines-so-far .pocketed p in omega (arith, judged-number s d y 3 at e .2) in inr (p, refused-line s d y 3 at e .0 ∙ rw l))
+      (three-on-03 s d y at e .0)
 
-  pub seventeen-on-last-row : (at : ℕ) → judgeOf s d y ≡ Faulty 17 at → lineOf s d y ≡ took.Refused 17 (3 + s .transitions)
+  pub seventeen-on-last-row : (at : ℕ) → judgeOf s d y ≡ Faulty 17 at → lineOf s d y ≡ took.Refused 17 (3 + pocketsCount (netIn s y .marks) + s .transitions)
   seventeen-on-last-row at e =
       let w = wired-exactly s d y at .0 e in
-      let l : at ≡ 3 + s .transitions = let z = lines-so-far .2 (formed-04 s d (w .1) (w .2) .0) in omega (arith, w .3, w .5) in
+      let l : at ≡ 3 + pocketsCount (netIn s y .marks) + s .transitions = let z = lines-so-far .rows (formed-04 s d (w .1) (w .2) .0) in omega (arith, w .3, w .5) in
       refused-line s d y 17 at e .0 ∙ rw l
 
 -- rooms that are large enough, to read into
 blank : ℕ → Rooms
-blank n = rooms (replicate n 0) (replicate n 0) (replicate n 0) (replicate n 0) (replicate n 0)
+blank n = rooms (replicate n 0) (replicate n 0) (replicate n 0) (replicate n 0) (replicate n 0) (replicate n 0)
 
 large-blank : (n : ℕ) → wordLimit ≤ n → Large (blank n)
 unfolding blank
 large-blank n h =
     let e : length {A = ℕ} (replicate n 0) ≡ n = length-replicate n 0 in
-    record { caps = omega arith; initial = omega arith; pre = omega arith; post = omega arith; word = omega arith }
+    record { caps = omega arith; marks = omega arith; initial = omega arith; pre = omega arith; post = omega arith; word = omega arith }
+
+-- "0 plain, any other pocket, all alike; the file reader gives 1": a net is written as it stands in its file
+pub file-filed : (net : Net) (initial w : List ℕ) → fileOf (filed net) initial w ≡ fileOf net initial w
+unfolding fileOf pocketsLines
+file-filed net initial w = rw (mask-filed (net .marks))
 
 -- no two nets, markings and words within the limits have one file
 pub file-apart : (file : List ℕ) (a b : Written file) → (a .net ≡ b .net) × (a .initial ≡ b .initial) × (a .word ≡ b .word)
@@ -244,7 +292,7 @@ file-apart file a b = go (blank wordLimit) (large-blank wordLimit (omega arith))
         (sym (p .0) ∙ q .0, sym (p .1) ∙ q .1, sym (p .2) ∙ q .2)
 
 -- the whole case of document 01
-pub sample-file : fileOf (netOf 3 3 (1 ∷ 0 ∷ 0 ∷ 0 ∷ 1 ∷ 0 ∷ 0 ∷ 0 ∷ 3 ∷ []) (0 ∷ 1 ∷ 0 ∷ 1 ∷ 0 ∷ 2 ∷ 0 ∷ 0 ∷ 0 ∷ []) (noCapacity ∷ noCapacity ∷ 5 ∷ [])) (1 ∷ 0 ∷ 0 ∷ []) (0 ∷ 1 ∷ 0 ∷ 1 ∷ 2 ∷ [])
+pub sample-file : fileOf (netOf 3 3 (1 ∷ 0 ∷ 0 ∷ 0 ∷ 1 ∷ 0 ∷ 0 ∷ 0 ∷ 3 ∷ []) (0 ∷ 1 ∷ 0 ∷ 1 ∷ 0 ∷ 2 ∷ 0 ∷ 0 ∷ 0 ∷ []) (noCapacity ∷ noCapacity ∷ 5 ∷ []) (0 ∷ 0 ∷ 0 ∷ [])) (1 ∷ 0 ∷ 0 ∷ []) (0 ∷ 1 ∷ 0 ∷ 1 ∷ 2 ∷ [])
     ≡
     (48 ∷ 49 ∷ 48 ∷ 51 ∷ 48 ∷ 51 ∷ 10 ∷ [])
     ++ (48 ∷ 50 ∷ 70 ∷ 70 ∷ 70 ∷ 70 ∷ 70 ∷ 70 ∷ 70 ∷ 70 ∷ 48 ∷ 48 ∷ 48 ∷ 53 ∷ 10 ∷ [])
@@ -253,5 +301,5 @@ pub sample-file : fileOf (netOf 3 3 (1 ∷ 0 ∷ 0 ∷ 0 ∷ 1 ∷ 0 ∷ 0 ∷ 0
     ++ (48 ∷ 52 ∷ 48 ∷ 49 ∷ 48 ∷ 48 ∷ 48 ∷ 49 ∷ 48 ∷ 48 ∷ 48 ∷ 49 ∷ 48 ∷ 48 ∷ 48 ∷ 50 ∷ 10 ∷ [])
     ++ (48 ∷ 52 ∷ 48 ∷ 50 ∷ 48 ∷ 48 ∷ 48 ∷ 48 ∷ 48 ∷ 51 ∷ 48 ∷ 48 ∷ 48 ∷ 48 ∷ 48 ∷ 48 ∷ 10 ∷ [])
     ++ (48 ∷ 53 ∷ 48 ∷ 48 ∷ 48 ∷ 49 ∷ 48 ∷ 48 ∷ 48 ∷ 49 ∷ 48 ∷ 50 ∷ 10 ∷ [])
-unfolding fileOf twos joined digitsOf digitOf
+unfolding fileOf pocketsLines maskOf twos joined digitsOf digitOf
 sample-file = refl

@@ -18,7 +18,7 @@ use Rattle.file_parts.specs.File.{going, stopped, Both, readOf, finishOf, caseO
 use Rattle.file_parts.specs.Held.{holdOf}
 use Rattle.file_text.specs.Refusal.{feeds, TakenLines, RefusedFile, faulty-line, cut-off, frames-missing, lastLine}
 use Rattle.file_text.proofs.Taken.{Cutting, at-fault, at-end, cutting, taken-read, line-number, fault-read, end-read}
-use Rattle.file_text.proofs.Stage.{Stage, start, counted, capped, rowed, lettered, staged}
+use Rattle.file_text.proofs.Stage.{count-most, Stage, start, counted, capped, rowed, lettered, staged}
 
 -- the bytes after the last line feed, held or too many, are a line that lacks its own
 left-over : (t : Reading) (b : ℕ) (d : List ℕ) → caseOf (holdOf t [] (b ∷ d)) ≡ Refused 11 (t .line + 1)
@@ -73,7 +73,7 @@ module _ (x : Rooms) (file : List ℕ) (n l : ℕ) where
   pub refused-means : (caseOf (readOf x file .run) ≡ Refused n l) ↔ RefusedFile x file n l
   refused-means = (refused-is, is-refused)
 
--- however long a file is, it is refused at the latest on line 1,092, so that no line number comes near what four bytes hold
+-- however long a file is, it is refused at the latest on line 1,093, so that no line number comes near what four bytes hold
 module _ (x : Rooms) (big : Large x) where
   lines-few : (lines : List ℕ) (s : Reading) (y : Rooms) → TakenLines x lines s y → lineHere s ≤ lastLine
   lines-few lines s y k = go (staged x big lines s y k)
@@ -84,9 +84,9 @@ module _ (x : Rooms) (big : Large x) where
       go : Stage x s y lines → lineHere s ≤ lastLine
       go (start a b f) = by _ a (omega arith)
       go (counted P T g h i j a b f) = by _ a (omega arith)
-      go (capped P T caps g h i j k l a b f) = by _ a (omega arith)
-      go (rowed net n initial r h a b f) = by _ a (let z = r .few-transitions in omega arith)
-      go (lettered net initial w l a b f) = by _ a (let z = l .rowed .few-transitions in let u = l .short in omega arith)
+      go (capped P T caps marks g h i j k l m n a b f) = by _ a (let c = count-most marks in omega arith)
+      go (rowed net n initial r h a b f) = by _ a (let z = r .few-transitions in let c = count-most (net .marks) in omega arith)
+      go (lettered net initial w l a b f) = by _ a (let z = l .rowed .few-transitions in let u = l .short in let c = count-most (net .marks) in omega arith)
 
   pub refused-early : (file : List ℕ) (n l : ℕ) → RefusedFile x file n l → l ≤ lastLine
   refused-early file n l (faulty-line lines line rest s y k e f j i) = let z = lines-few lines s y k in omega (arith, line-number x lines s y k)

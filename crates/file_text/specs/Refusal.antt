@@ -7,7 +7,7 @@ use lib.Dec.{eqb}
 use Rattle.ground.specs.Limits.{countLimit, wordLimit}
 use Rattle.file_digits.specs.Frame.{lineFeed}
 use Rattle.file_line.specs.declared.Reading.{Reading}
-use Rattle.file_line.specs.Read.{Rooms, fresh, expected, advanced, stored}
+use Rattle.file_line.specs.Read.{Rooms, fresh, advanced, stored}
 use Rattle.file_line.specs.Line.{Taken, Judged}
 use Rattle.file_parts.specs.File.{NoFeed}
 use Rattle.file_text.specs.Text.{lettersLines}
@@ -32,8 +32,8 @@ pub data RefusedFile (x : Rooms) (file : List ℕ) (n l : ℕ) : Type 0 where
   cut-off : (lines line : List ℕ) (s : Reading) (y : Rooms) → TakenLines x lines s y → file ≡ lines ++ line → NoFeed line → (line ≡ [] → ⊥)
       → n ≡ 11 → l ≡ feeds lines + 1 → RefusedFile x file n l
   -- "frames missing at the end": 12 on the line after the last
-  frames-missing : (s : Reading) (y : Rooms) → TakenLines x file s y → (expected s ≡ 5 → ⊥) → n ≡ 12 → l ≡ feeds file + 1 → RefusedFile x file n l
+  frames-missing : (s : Reading) (y : Rooms) → TakenLines x file s y → (s .phase ≡ 5 → ⊥) → n ≡ 12 → l ≡ feeds file + 1 → RefusedFile x file n l
 
--- the last line on which a file can be refused: the one after 01, 02, 03, a 04 for each of 64 transitions, and the 1,024 times 05 of the longest word
+-- the last line on which a file can be refused: the one after 01, 02, 06, 03, a 04 for each of 64 transitions, and the 1,024 times 05 of the longest word
 abbrev pub lastLine : ℕ
-lastLine = 3 + countLimit + lettersLines wordLimit + 1
+lastLine = 4 + countLimit + lettersLines wordLimit + 1

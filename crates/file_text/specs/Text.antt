@@ -1,14 +1,18 @@
 -- To be believed: the case file of a net, its initial marking and a word ("Case file lines"), and what reading it comes to.
 use Prim.Native.Nat.{ℕ, zero, suc, _+_, _-_, _/_, _≤_}
 use mathlib.Core.Path.{_≡_}
-use mathlib.Core.List.{List, [], _∷_, _++_}
+use mathlib.Core.Bool.{cond}
+use mathlib.Core.List.{List, [], _∷_, _++_, map}
 use lib.ListN.{length, take}
 use lib.Seq.{sets}
+use lib.Dec.{eqb}
 use Rattle.ground.specs.Limits.{noCapacity, wordLimit}
 use Rattle.file_digits.specs.Frame.{block}
 use Rattle.file_put.specs.Put.{lineText, twos}
+use Rattle.file_mask.specs.Mask.{bitOf, Bits, maskOf, eight}
 use Rattle.net.specs.Net.{Net, Sized, Light}
 use Rattle.net.specs.Letter.{row, Small}
+use Rattle.net.specs.Marks.{remarked}
 use Rattle.wiring.specs.Wired.{Wired}
 use Rattle.refusals.specs.Given.{Fine, Letters}
 use Rattle.file_line.specs.declared.Reading.{Reading}
@@ -21,6 +25,17 @@ countsLine P T = lineText (1 ∷ P ∷ T ∷ [])
 -- "Then 02 with P capacities of two bytes"
 abbrev pub capsLine : List ℕ → List ℕ
 capsLine caps = lineText (2 ∷ twos caps)
+
+-- document 02, E5: "A frame 06, eight bytes, place 0 the lowest bit of the last byte, may follow 02"
+abbrev pub pocketsLine : List ℕ → List ℕ
+pocketsLine marks = lineText (6 ∷ eight (maskOf marks))
+
+-- "it is written only if some place is a pocket": none, or one, and how many
+unfoldable pub pocketsLines : List ℕ → List ℕ
+pocketsLines marks = cond (eqb (maskOf marks) 0) [] (pocketsLine marks)
+
+unfoldable pub pocketsCount : List ℕ → ℕ
+pocketsCount marks = cond (eqb (maskOf marks) 0) 0 1
 
 -- "03 with P tokens of two bytes."
 abbrev pub tokensLine : List ℕ → List ℕ
@@ -43,21 +58,24 @@ unfoldable pub joined : (ℕ → List ℕ) → ℕ → List ℕ
 joined line zero = []
 joined line (suc n) = joined line n ++ line n
 
--- the case file: 01, 02, 03, then 04 "one for each t in order from 0", then the word's 05
+-- the case file: 01, 02, perhaps 06, 03, then 04 "one for each t in order from 0", then the word's 05
 unfoldable pub fileOf : Net → List ℕ → List ℕ → List ℕ
 fileOf net initial w =
     countsLine (net .places) (net .transitions)
     ++ capsLine (net .caps)
+    ++ pocketsLines (net .marks)
     ++ tokensLine initial
     ++ joined (rowLine net) (net .transitions)
     ++ joined (lettersLine w) (lettersLines (length w))
 
--- a net, its initial marking and a word within the limits of document 01, as lists of bytes and of numbers in 16 bits; each place and transition has an arc
+-- a net, its initial marking and a word within the limits of document 01, as lists of bytes and of numbers in 16 bits; each place and transition has an arc;
+-- marks are 0 or 1, as a file has them
 pub record Limited (net : Net) (initial w : List ℕ) : Type 0 where
   pub sized : Sized net
   pub wired : Wired net
   pub weights : Light net
   pub capacities : Small noCapacity (net .caps)
+  pub bits : Bits (net .marks)
   pub marked : length initial ≡ net .places
   pub fine : Fine (net .caps) initial
   pub short : length w ≤ wordLimit
@@ -87,10 +105,14 @@ endOf net w =
       transitions = net .transitions;
       next = net .transitions;
       letters = length w;
-      line = 3 + net .transitions + lettersLines (length w);
+      line = 3 + pocketsCount (net .marks) + net .transitions + lettersLines (length w);
     }
 
 -- the rooms after it: each list at the front of its room, and the rest of the room as found
 abbrev pub filled : Rooms → Net → List ℕ → List ℕ → Rooms
 filled x net initial w =
-    rooms (sets (x .caps) 0 (net .caps)) (sets (x .initial) 0 initial) (sets (x .pre) 0 (net .pre)) (sets (x .post) 0 (net .post)) (sets (x .word) 0 w)
+    rooms (sets (x .caps) 0 (net .caps)) (sets (x .marks) 0 (net .marks)) (sets (x .initial) 0 initial) (sets (x .pre) 0 (net .pre)) (sets (x .post) 0 (net .post)) (sets (x .word) 0 w)
+
+-- a net as a file has it: "any other pocket, all alike; the file reader gives 1"
+abbrev pub filed : Net → Net
+filed net = remarked net (map bitOf (net .marks))

@@ -6,8 +6,10 @@ use native.Mathlib.Omega.{arith}
 use lib.ListN.{length, take, drop}
 use lib.Seq.{sets, length-sets}
 use Rattle.net.specs.Net.{Net}
-use Rattle.file_text.specs.Text.{fileOf}
+use Rattle.file_mask.specs.Mask.{maskOf}
+use Rattle.file_text.specs.Text.{fileOf, filed}
 use Rattle.file_text.proofs.Fronts.{front-of, rest-of}
+use Rattle.file_text.proofs.Meaning.{file-filed}
 use Rattle.file_out.specs.Length.{fileLimit}
 use Rattle.file_out.proofs.Length.{file-length, longest-file}
 use Rattle.file_write.specs.Told.{LengthTold, Writable}
@@ -53,6 +55,15 @@ one-file net initial w room n room′ other k other′ p q = (
   written-file net initial w room n room′ p ∙ sym (written-file net initial w other k other′ q),
 )
 
+-- "0 plain, any other pocket, all alike": the file of a net with any marks is the file of the net as a file has it, with 1 for each pocket
+pub one-file-filed : (net : Net) (initial w room : List ℕ) (n : ℕ) (room′ other : List ℕ) (k : ℕ) (other′ : List ℕ)
+    → CaseWritten net initial w room (Written n) room′ → CaseWritten (filed net) initial w other (Written k) other′ → (n ≡ k) × (take n room′ ≡ take k other′)
+one-file-filed net initial w room n room′ other k other′ p q =
+    let e = file-filed net initial w in (
+      written-length net initial w room n room′ p ∙ sym (written-length (filed net) initial w other k other′ q ∙ ap length e),
+      written-file net initial w room n room′ p ∙ sym (written-file (filed net) initial w other k other′ q ∙ e),
+    )
+
 -- the length that is told
 module _ (net : Net) (initial w : List ℕ) (n : ℕ) (asked : LengthTold net initial w (Told n)) where
   pub told-writable : Writable net initial w
@@ -66,7 +77,7 @@ module _ (net : Net) (initial w : List ℕ) (n : ℕ) (asked : LengthTold net in
   pub told-few : n ≤ fileLimit
   told-few =
       let a = told-writable in
-      let l = longest-file (net .places) (net .transitions) (length w) (a .sized .few-places) (a .sized .few-transitions) (a .short) in
+      let l = longest-file (net .places) (net .transitions) (maskOf (net .marks)) (length w) (a .sized .few-places) (a .sized .few-transitions) (a .short) in
       omega (arith, told-length, file-length net initial w (a .sized) (a .marked))
 
   -- it is the room that is needed: into as much the file is written, and into less nothing is

@@ -27,12 +27,13 @@ fn text_fault(
     pre: &[Weight],
     post: &[Weight],
     caps: &[u16],
+    marks: &[u8],
     initial: &[u16],
     word: &[u8],
 ) -> Fault
-    ensures { λ r. ⌜ r ≡ textFault (netOf places transitions (now (pre .entry)) (now (post .entry)) (now (caps .entry))) (now (initial .entry)) (now (word .entry)) ⌝ }
+    ensures { λ r. ⌜ r ≡ textFault (netOf places transitions (now (pre .entry)) (now (post .entry)) (now (caps .entry)) (now (marks .entry))) (now (initial .entry)) (now (word .entry)) ⌝ }
 {
-    let found = refusals::marked_fault(places, transitions, pre, post, caps, initial, true);
+    let found = refusals::marked_fault(places, transitions, pre, post, caps, marks, initial, true);
     match found {
         Fault::Faulty(number, at) => Fault::Faulty(number, at),
         Fault::Sound => refusals::word_fault(transitions, word),
@@ -57,17 +58,19 @@ fn write_fault(
     pre: &[Weight],
     post: &[Weight],
     caps: &[u16],
+    marks: &[u8],
     initial: &[u16],
     word: &[u8],
     room: usize,
 ) -> Fault
-    ensures { λ r. ⌜ r ≡ writeFault (netOf places transitions (now (pre .entry)) (now (post .entry)) (now (caps .entry))) (now (initial .entry)) (now (word .entry)) room ⌝ }
+    ensures { λ r. ⌜ r ≡ writeFault (netOf places transitions (now (pre .entry)) (now (post .entry)) (now (caps .entry)) (now (marks .entry))) (now (initial .entry)) (now (word .entry)) room ⌝ }
 {
-    let found = text_fault(places, transitions, pre, post, caps, initial, word);
+    let found = text_fault(places, transitions, pre, post, caps, marks, initial, word);
     match found {
         Fault::Faulty(number, at) => Fault::Faulty(number, at),
         Fault::Sound => {
-            let needed = file_out::file_length(places, transitions, word.len());
+            let mask = file_mask::mask_of(marks);
+            let needed = file_out::file_length(places, transitions, mask, word.len());
             room_fault(needed, room)
         }
     }
@@ -80,16 +83,18 @@ pub fn case_length(
     pre: &[Weight],
     post: &[Weight],
     caps: &[u16],
+    marks: &[u8],
     initial: &[u16],
     word: &[u8],
 ) -> CaseLength
-    ensures { λ r. ⌜ LengthTold (netOf places transitions (now (pre .entry)) (now (post .entry)) (now (caps .entry))) (now (initial .entry)) (now (word .entry)) r ⌝ }
+    ensures { λ r. ⌜ LengthTold (netOf places transitions (now (pre .entry)) (now (post .entry)) (now (caps .entry)) (now (marks .entry))) (now (initial .entry)) (now (word .entry)) r ⌝ }
 {
-    let found = text_fault(places, transitions, pre, post, caps, initial, word);
+    let found = text_fault(places, transitions, pre, post, caps, marks, initial, word);
     match found {
         Fault::Faulty(number, at) => CaseLength::Refused(number, at),
         Fault::Sound => {
-            let length = file_out::file_length(places, transitions, word.len());
+            let mask = file_mask::mask_of(marks);
+            let length = file_out::file_length(places, transitions, mask, word.len());
             CaseLength::Told(length)
         }
     }
@@ -103,14 +108,25 @@ pub fn write_case(
     pre: &[Weight],
     post: &[Weight],
     caps: &[u16],
+    marks: &[u8],
     initial: &[u16],
     word: &[u8],
     room: &mut [u8],
 ) -> WriteCase
-    ensures { λ r. ⌜ CaseWritten (netOf places transitions (now (pre .entry)) (now (post .entry)) (now (caps .entry))) (now (initial .entry)) (now (word .entry)) (now (room .entry)) r (now (room .exit)) ⌝ }
+    ensures { λ r. ⌜ CaseWritten (netOf places transitions (now (pre .entry)) (now (post .entry)) (now (caps .entry)) (now (marks .entry))) (now (initial .entry)) (now (word .entry)) (now (room .entry)) r (now (room .exit)) ⌝ }
 {
     let size = room.len();
-    let found = write_fault(places, transitions, pre, post, caps, initial, word, size);
+    let found = write_fault(
+        places,
+        transitions,
+        pre,
+        post,
+        caps,
+        marks,
+        initial,
+        word,
+        size,
+    );
     match found {
         Fault::Faulty(number, at) => WriteCase::Refused(number, at),
         Fault::Sound => {
@@ -120,6 +136,7 @@ pub fn write_case(
                 pre,
                 post,
                 caps,
+                marks,
                 initial,
                 word,
                 room,

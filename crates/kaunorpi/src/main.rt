@@ -24,16 +24,17 @@ ghost use Rattle.kaunorpi.specs.Made.{Shown, Made};
 fn show(
     h: Held,
     caps: &[u16],
+    marks: &[u8],
     initial: &[u16],
     pre: &[Weight],
     post: &[Weight],
     word: &[u8],
     out: &mut [u8],
 )
-    requires { ⌜ (Sound h) × (Large (rooms (now caps) (now initial) (now pre) (now post) (now word))) × (answerLimit ≤ length (now out)) ⌝ }
-    ensures { λ _. ⌜ Shown (now (out .entry)) (answerFor (caseOf (abs h)) (rooms (now (caps .entry)) (now (initial .entry)) (now (pre .entry)) (now (post .entry)) (now (word .entry)))) (now (out .exit)) ⌝ }
+    requires { ⌜ (Sound h) × (Large (rooms (now caps) (now marks) (now initial) (now pre) (now post) (now word))) × (answerLimit ≤ length (now out)) ⌝ }
+    ensures { λ _. ⌜ Shown (now (out .entry)) (answerFor (caseOf (abs h)) (rooms (now (caps .entry)) (now (marks .entry)) (now (initial .entry)) (now (pre .entry)) (now (post .entry)) (now (word .entry)))) (now (out .exit)) ⌝ }
 {
-    let n = verdict_line::answer_line(h, caps, initial, pre, post, word, out);
+    let n = verdict_line::answer_line(h, caps, marks, initial, pre, post, word, out);
     if !io::write_all(STDOUT_FILENO, &out[..n]) {
         os::fail(b"kaunorpi: standard output");
     }
@@ -42,28 +43,30 @@ fn show(
 // The whole program, over rooms that are large enough for any file and for any line.
 fn answer(
     caps: &mut [u16],
+    marks: &mut [u8],
     initial: &mut [u16],
     pre: &mut [Weight],
     post: &mut [Weight],
     word: &mut [u8],
     out: &mut [u8],
 )
-    requires { ⌜ (Large (rooms (now caps) (now initial) (now pre) (now post) (now word))) × (answerLimit ≤ length (now out)) ⌝ }
-    ensures { λ _. ⌜ Made (rooms (now (caps .entry)) (now (initial .entry)) (now (pre .entry)) (now (post .entry)) (now (word .entry))) (now (out .entry)) (now (out .exit)) ⌝ }
+    requires { ⌜ (Large (rooms (now caps) (now marks) (now initial) (now pre) (now post) (now word))) × (answerLimit ≤ length (now out)) ⌝ }
+    ensures { λ _. ⌜ Made (rooms (now (caps .entry)) (now (marks .entry)) (now (initial .entry)) (now (pre .entry)) (now (post .entry)) (now (word .entry))) (now (out .entry)) (now (out .exit)) ⌝ }
 {
     let s = Reading::new();
     let h = file_parts::cleared(s);
-    let f = file_input::read_all(h, caps, initial, pre, post, word);
+    let f = file_input::read_all(h, caps, marks, initial, pre, post, word);
     let input = f.input;
     match input {
         Input::Failed => os::fail(b"kaunorpi: standard input"),
-        _ => show(f.held, caps, initial, pre, post, word, out),
+        _ => show(f.held, caps, marks, initial, pre, post, word, out),
     }
 }
 
 // Makes the rooms of the largest sizes; the rest is done in rooms that are lent.
 fn main() {
     let mut caps = [0u16; COUNT_LIMIT];
+    let mut marks = [0u8; COUNT_LIMIT];
     let mut initial = [0u16; COUNT_LIMIT];
     let mut pre = [0u8; CELL_LIMIT];
     let mut post = [0u8; CELL_LIMIT];
@@ -71,6 +74,7 @@ fn main() {
     let mut out = [0u8; ANSWER_LIMIT];
     answer(
         &mut caps,
+        &mut marks,
         &mut initial,
         &mut pre,
         &mut post,

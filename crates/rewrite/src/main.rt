@@ -46,6 +46,7 @@ fn tell(number: u8, line: usize, told: &mut [u8])
 fn show(
     h: Held,
     caps: &[u16],
+    marks: &[u8],
     initial: &[u16],
     pre: &[Weight],
     post: &[Weight],
@@ -53,10 +54,10 @@ fn show(
     out: &mut [u8],
     told: &mut [u8],
 )
-    requires { ⌜ (Sound h) × (Large (rooms (now caps) (now initial) (now pre) (now post) (now word))) × (answerLimit ≤ length (now told)) ⌝ }
-    ensures { λ _. ⌜ Shown (againFor (caseOf (abs h)) (rooms (now (caps .entry)) (now (initial .entry)) (now (pre .entry)) (now (post .entry)) (now (word .entry))) (now (out .entry))) (now (out .exit)) (now (told .entry)) (now (told .exit)) ⌝ }
+    requires { ⌜ (Sound h) × (Large (rooms (now caps) (now marks) (now initial) (now pre) (now post) (now word))) × (answerLimit ≤ length (now told)) ⌝ }
+    ensures { λ _. ⌜ Shown (againFor (caseOf (abs h)) (rooms (now (caps .entry)) (now (marks .entry)) (now (initial .entry)) (now (pre .entry)) (now (post .entry)) (now (word .entry))) (now (out .entry))) (now (out .exit)) (now (told .entry)) (now (told .exit)) ⌝ }
 {
-    let again = file_again::rewrite_held(h, caps, initial, pre, post, word, out);
+    let again = file_again::rewrite_held(h, caps, marks, initial, pre, post, word, out);
     match again {
         WriteCase::Written(n) => give(out, n),
         WriteCase::Refused(number, line) => tell(number, line, told),
@@ -66,6 +67,7 @@ fn show(
 // The whole program, over rooms that are large enough for any file and for any line.
 fn answer(
     caps: &mut [u16],
+    marks: &mut [u8],
     initial: &mut [u16],
     pre: &mut [Weight],
     post: &mut [Weight],
@@ -73,22 +75,23 @@ fn answer(
     out: &mut [u8],
     told: &mut [u8],
 )
-    requires { ⌜ (Large (rooms (now caps) (now initial) (now pre) (now post) (now word))) × (fileLimit ≤ length (now out)) × (answerLimit ≤ length (now told)) ⌝ }
-    ensures { λ _. ⌜ Made (rooms (now (caps .entry)) (now (initial .entry)) (now (pre .entry)) (now (post .entry)) (now (word .entry))) (now (out .entry)) (now (out .exit)) (now (told .entry)) (now (told .exit)) ⌝ }
+    requires { ⌜ (Large (rooms (now caps) (now marks) (now initial) (now pre) (now post) (now word))) × (fileLimit ≤ length (now out)) × (answerLimit ≤ length (now told)) ⌝ }
+    ensures { λ _. ⌜ Made (rooms (now (caps .entry)) (now (marks .entry)) (now (initial .entry)) (now (pre .entry)) (now (post .entry)) (now (word .entry))) (now (out .entry)) (now (out .exit)) (now (told .entry)) (now (told .exit)) ⌝ }
 {
     let s = Reading::new();
     let h = file_parts::cleared(s);
-    let f = file_input::read_all(h, caps, initial, pre, post, word);
+    let f = file_input::read_all(h, caps, marks, initial, pre, post, word);
     let input = f.input;
     match input {
         Input::Failed => os::fail(b"kaunorpi: standard input"),
-        _ => show(f.held, caps, initial, pre, post, word, out, told),
+        _ => show(f.held, caps, marks, initial, pre, post, word, out, told),
     }
 }
 
 // Makes the rooms of the largest sizes; the rest is done in rooms that are lent.
 fn main() {
     let mut caps = [0u16; COUNT_LIMIT];
+    let mut marks = [0u8; COUNT_LIMIT];
     let mut initial = [0u16; COUNT_LIMIT];
     let mut pre = [0u8; CELL_LIMIT];
     let mut post = [0u8; CELL_LIMIT];
@@ -97,6 +100,7 @@ fn main() {
     let mut told = [0u8; ANSWER_LIMIT];
     answer(
         &mut caps,
+        &mut marks,
         &mut initial,
         &mut pre,
         &mut post,

@@ -27,6 +27,7 @@ fn fresh_room() -> [u32; COUNT_LIMIT]
 fn play_line(
     s: Reading,
     caps: &[u16],
+    marks: &[u8],
     initial: &[u16],
     pre: &[Weight],
     post: &[Weight],
@@ -34,8 +35,8 @@ fn play_line(
     room: &mut [u32],
     out: &mut [u8],
 ) -> usize
-    requires { ⌜ (Good s) × (Large (rooms (now caps) (now initial) (now pre) (now post) (now word))) × (length (now room) ≡ s .places) × (answerLimit ≤ length (now out)) ⌝ }
-    ensures line { λ r. ⌜ WrittenBytes (now (out .entry)) (answerFor (Case.Whole s) (rooms (now (caps .entry)) (now (initial .entry)) (now (pre .entry)) (now (post .entry)) (now (word .entry)))) r (now (out .exit)) ⌝ }
+    requires { ⌜ (Good s) × (Large (rooms (now caps) (now marks) (now initial) (now pre) (now post) (now word))) × (length (now room) ≡ s .places) × (answerLimit ≤ length (now out)) ⌝ }
+    ensures line { λ r. ⌜ WrittenBytes (now (out .entry)) (answerFor (Case.Whole s) (rooms (now (caps .entry)) (now (marks .entry)) (now (initial .entry)) (now (pre .entry)) (now (post .entry)) (now (word .entry)))) r (now (out .exit)) ⌝ }
     ensures few { λ r. ⌜ r ≤ answerLimit ⌝ }
 {
     let p = s.places;
@@ -48,6 +49,7 @@ fn play_line(
         &pre[..cells],
         &post[..cells],
         &caps[..p],
+        &marks[..p],
         &initial[..p],
         &word[..n],
         room,
@@ -59,38 +61,50 @@ fn play_line(
 fn whole_line(
     s: Reading,
     caps: &[u16],
+    marks: &[u8],
     initial: &[u16],
     pre: &[Weight],
     post: &[Weight],
     word: &[u8],
     out: &mut [u8],
 ) -> usize
-    requires { ⌜ (Good s) × (Large (rooms (now caps) (now initial) (now pre) (now post) (now word))) × (answerLimit ≤ length (now out)) ⌝ }
-    ensures line { λ r. ⌜ WrittenBytes (now (out .entry)) (answerFor (Case.Whole s) (rooms (now (caps .entry)) (now (initial .entry)) (now (pre .entry)) (now (post .entry)) (now (word .entry)))) r (now (out .exit)) ⌝ }
+    requires { ⌜ (Good s) × (Large (rooms (now caps) (now marks) (now initial) (now pre) (now post) (now word))) × (answerLimit ≤ length (now out)) ⌝ }
+    ensures line { λ r. ⌜ WrittenBytes (now (out .entry)) (answerFor (Case.Whole s) (rooms (now (caps .entry)) (now (marks .entry)) (now (initial .entry)) (now (pre .entry)) (now (post .entry)) (now (word .entry)))) r (now (out .exit)) ⌝ }
     ensures few { λ r. ⌜ r ≤ answerLimit ⌝ }
 {
     let p = s.places;
     let mut room = fresh_room();
-    play_line(s, caps, initial, pre, post, word, &mut room[..p], out)
+    play_line(
+        s,
+        caps,
+        marks,
+        initial,
+        pre,
+        post,
+        word,
+        &mut room[..p],
+        out,
+    )
 }
 
 // The line that answers a file, at its end, at the front of the room out; answers its length.
 pub fn answer_line(
     h: Held,
     caps: &[u16],
+    marks: &[u8],
     initial: &[u16],
     pre: &[Weight],
     post: &[Weight],
     word: &[u8],
     out: &mut [u8],
 ) -> usize
-    requires { ⌜ (Sound h) × (Large (rooms (now caps) (now initial) (now pre) (now post) (now word))) × (answerLimit ≤ length (now out)) ⌝ }
-    ensures line { λ r. ⌜ WrittenBytes (now (out .entry)) (answerFor (caseOf (abs h)) (rooms (now (caps .entry)) (now (initial .entry)) (now (pre .entry)) (now (post .entry)) (now (word .entry)))) r (now (out .exit)) ⌝ }
+    requires { ⌜ (Sound h) × (Large (rooms (now caps) (now marks) (now initial) (now pre) (now post) (now word))) × (answerLimit ≤ length (now out)) ⌝ }
+    ensures line { λ r. ⌜ WrittenBytes (now (out .entry)) (answerFor (caseOf (abs h)) (rooms (now (caps .entry)) (now (marks .entry)) (now (initial .entry)) (now (pre .entry)) (now (post .entry)) (now (word .entry)))) r (now (out .exit)) ⌝ }
     ensures few { λ r. ⌜ r ≤ answerLimit ⌝ }
 {
     let case = file_parts::finish_held(h);
     match case {
-        Case::Whole(s) => whole_line(s, caps, initial, pre, post, word, out),
+        Case::Whole(s) => whole_line(s, caps, marks, initial, pre, post, word, out),
         Case::Refused(number, line) => verdict_text::write_refused(out, number, line),
     }
 }

@@ -24,6 +24,9 @@ same-length-4 c = search needs
 same-length-5 : tie.Need-same-length-5
 same-length-5 c = search needs
 
+same-length-6 : tie.Need-same-length-6
+same-length-6 c = search needs
+
 returns : tie.Need-returns
 returns c = search (hand-case, needs)
 
@@ -38,4 +41,5 @@ kaunorpi-read-case-spec =
     same-length-3
     same-length-4
     same-length-5
+    same-length-6
     returns)

@@ -34,7 +34,7 @@ returns-2 c =
     let s : tie.Start = search needs in
     let f : tie.After-finish-held = search needs in
     let a = s .args in
-    case-again (f .finish-held .result) _ (c .before .case2 .given .1) _ (rooms (now (a .caps)) (now (a .initial)) (now (a .pre)) (now (a .post)) (now (a .word))) _ _ _ (f .finish-held .ensures .0) (refused-again _ _ _ _)
+    case-again (f .finish-held .result) _ (c .before .case2 .given .1) _ (rooms (now (a .caps)) (now (a .marks)) (now (a .initial)) (now (a .pre)) (now (a .post)) (now (a .word))) _ _ _ (f .finish-held .ensures .0) (refused-again _ _ _ _)
 
 pub rewrite-held-spec : {M : Type 1} → statement M
 rewrite-held-spec =

@@ -26,15 +26,20 @@ slice-aggregate-write-case-2 c =
 slice-aggregate-write-case-3 : tie.Need-slice-aggregate-write-case-3
 slice-aggregate-write-case-3 c =
     let s : tie.Start = search needs in
-    front-long _ _ (omega (arith, s .pre .0 .places, s .pre .1 .caps, s .pre .1 .initial))
+    front-long _ _ (omega (arith, s .pre .0 .places, s .pre .1 .caps, s .pre .1 .marks, s .pre .1 .initial))
 
 slice-aggregate-write-case-4 : tie.Need-slice-aggregate-write-case-4
 slice-aggregate-write-case-4 c =
     let s : tie.Start = search needs in
-    front-long _ _ (omega (arith, s .pre .0 .places, s .pre .1 .caps, s .pre .1 .initial))
+    front-long _ _ (omega (arith, s .pre .0 .places, s .pre .1 .caps, s .pre .1 .marks, s .pre .1 .initial))
 
 slice-aggregate-write-case-5 : tie.Need-slice-aggregate-write-case-5
 slice-aggregate-write-case-5 c =
+    let s : tie.Start = search needs in
+    front-long _ _ (omega (arith, s .pre .0 .places, s .pre .1 .caps, s .pre .1 .marks, s .pre .1 .initial))
+
+slice-aggregate-write-case-6 : tie.Need-slice-aggregate-write-case-6
+slice-aggregate-write-case-6 c =
     let s : tie.Start = search needs in
     front-long _ _ (omega (arith, s .pre .0 .letters, s .pre .1 .word))
 
@@ -49,7 +54,7 @@ returns c =
     let s : tie.Start = search needs in
     let w : tie.After-write-case = search needs in
     let a = s .args in
-    whole-again (a .s) (rooms (now (a .caps)) (now (a .initial)) (now (a .pre)) (now (a .post)) (now (a .word))) _ _ _ (w .write-case .ensures)
+    whole-again (a .s) (rooms (now (a .caps)) (now (a .marks)) (now (a .initial)) (now (a .pre)) (now (a .post)) (now (a .word))) _ _ _ (w .write-case .ensures)
 
 pub write-whole-spec : {M : Type 1} → statement M
 write-whole-spec =
@@ -61,6 +66,7 @@ write-whole-spec =
     slice-aggregate-write-case-3
     slice-aggregate-write-case-4
     slice-aggregate-write-case-5
+    slice-aggregate-write-case-6
     write-case-requires
     same-length
     returns)

@@ -18,5 +18,8 @@ returns-4 c = search (lengths, needs)
 returns-5 : tie.Need-returns-5
 returns-5 c = search (lengths, needs)
 
+returns-6 : tie.Need-returns-6
+returns-6 c = search (lengths, needs)
+
 pub is-largest-spec : {M : Type 1} → statement M
-is-largest-spec = tie.close (tie.spec returns returns-2 returns-3 returns-4 returns-5)
+is-largest-spec = tie.close (tie.spec returns returns-2 returns-3 returns-4 returns-5 returns-6)

@@ -7,8 +7,8 @@ use Rattle.file_entry.proofs.read_case.Statement.{statement}
 use Rattle.file_entry.proofs.read_case.Tie as tie
 
 -- the file read into the rooms, before a need after it
-abbrev into : tie.After-slice-known10 → tie.After-read-into
-into c = c .before .before .before .before .before .before .before .before .before .before
+abbrev into : tie.After-slice-known12 → tie.After-read-into
+into c = c .before .before .before .before .before .before .before .before .before .before .before .before
 
 is-largest-requires : tie.Need-is-largest-requires
 is-largest-requires c κs = search needs
@@ -18,8 +18,8 @@ returns c = wrong-lengths _ _ _ (c .before .is-largest .ensures) (not-true _ (c 
 
 read-into-requires : tie.Need-read-into-requires
 read-into-requires c κs =
-    let k = c .before .before .before .before .before .before in
-    largest-large _ (largest-of _ (sym (k .is-largest .ensures) ∙ not-false _ (c .before .before .before .before .before .if1 .left)))
+    let k = c .before .before .before .before .before .before .before in
+    largest-large _ (largest-of _ (sym (k .is-largest .ensures) ∙ not-false _ (c .before .before .before .before .before .before .if1 .left)))
 
 same-length : tie.Need-same-length
 same-length c = into c .read-into .kept .1 .0
@@ -36,10 +36,13 @@ same-length-4 c = into c .read-into .kept .1 .1 .1 .1 .0
 same-length-5 : tie.Need-same-length-5
 same-length-5 c = into c .read-into .kept .1 .1 .1 .1 .1 .0
 
+same-length-6 : tie.Need-same-length-6
+same-length-6 c = into c .read-into .kept .1 .1 .1 .1 .1 .1 .0
+
 returns-2 : tie.Need-returns-2
 returns-2 c =
     let l = into c in
-    right-lengths _ _ _ (l .before .before .before .before .before .before .before .is-largest .ensures) _ _ (not-false _ (l .before .before .before .before .before .before .if1 .left)) (l .read-into .ensures)
+    right-lengths _ _ _ (l .before .before .before .before .before .before .before .before .is-largest .ensures) _ _ (not-false _ (l .before .before .before .before .before .before .before .if1 .left)) (l .read-into .ensures)
 
 pub read-case-spec : {M : Type 1} → statement M
 read-case-spec =
@@ -53,4 +56,5 @@ read-case-spec =
     same-length-3
     same-length-4
     same-length-5
+    same-length-6
     returns-2)

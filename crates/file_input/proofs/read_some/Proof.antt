@@ -39,6 +39,9 @@ same-length-4 c = search needs
 same-length-5 : tie.Need-same-length-5
 same-length-5 c = search needs
 
+same-length-6 : tie.Need-same-length-6
+same-length-6 c = search needs
+
 -- what the read answered, before it is taken
 abbrev asked : tie.After-take-read → tie.After-read
 asked c = search needs
@@ -67,4 +70,5 @@ read-some-spec =
     same-length-3
     same-length-4
     same-length-5
+    same-length-6
     returns)

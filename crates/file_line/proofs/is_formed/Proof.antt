@@ -6,6 +6,9 @@ use Rattle.file_line.proofs.is_formed.Tie as tie
 byte-at-requires : tie.Need-byte-at-requires
 byte-at-requires c κs = search needs
 
+is-expected-requires : tie.Need-is-expected-requires
+is-expected-requires c κs = search needs
+
 returns : tie.Need-returns
 returns c = search (forms, needs)
 
@@ -27,6 +30,9 @@ is-row-requires c κs = search needs
 is-block-requires : tie.Need-is-block-requires
 is-block-requires c κs = search needs
 
+is-pockets-requires : tie.Need-is-pockets-requires
+is-pockets-requires c κs = search needs
+
 returns-2 : tie.Need-returns-2
 returns-2 c = search (forms, needs)
 
@@ -45,11 +51,15 @@ returns-6 c = search (forms, needs)
 returns-7 : tie.Need-returns-7
 returns-7 c = search (forms, needs)
 
+returns-8 : tie.Need-returns-8
+returns-8 c = search (forms, needs)
+
 pub is-formed-spec : {M : Type 1} → statement M
 is-formed-spec =
     tie.close
     (tie.spec
     byte-at-requires
+    is-expected-requires
     returns
     mul-result
     add-result
@@ -57,9 +67,11 @@ is-formed-spec =
     add-result-2
     is-row-requires
     is-block-requires
+    is-pockets-requires
     returns-2
     returns-3
     returns-4
     returns-5
     returns-6
-    returns-7)
+    returns-7
+    returns-8)

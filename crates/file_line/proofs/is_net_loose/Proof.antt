@@ -9,14 +9,14 @@ use Rattle.file_line.proofs.is_net_loose.Statement.{statement}
 use Rattle.file_line.proofs.is_net_loose.Tie as tie
 
 -- the calls before a need, and the tables at the function's entry
-abbrev told : tie.After-is-loose-arg3 → tie.Else1
-told c = c .before .before .before
+abbrev told : tie.After-is-loose-arg4 → tie.Else1
+told c = c .before .before .before .before
 
 abbrev start : tie.Else1 → tie.Start
-start c = c .before .before .before .before .before .before .before
+start c = c .before .before .before .before .before .before .before .before
 
 abbrev lent : tie.Start → Rooms
-lent s = rooms (now (s .args .caps)) [] (now (s .args .pre)) (now (s .args .post)) []
+lent s = rooms (now (s .args .caps)) (now (s .args .marks)) [] (now (s .args .pre)) (now (s .args .post)) []
 
 byte-at-requires : tie.Need-byte-at-requires
 byte-at-requires c κs = search needs
@@ -44,13 +44,17 @@ slice-aggregate-is-loose-2 c =
 
 slice-aggregate-is-loose-3 : tie.Need-slice-aggregate-is-loose-3
 slice-aggregate-is-loose-3 c =
-    let s = start (told c) in front-long _ _ (omega (arith, s .pre .0 .places, s .pre .2 .caps))
+    let s = start (c .before .before .before) in front-long _ _ (omega (arith, s .pre .0 .places, s .pre .2 .caps))
+
+slice-aggregate-is-loose-4 : tie.Need-slice-aggregate-is-loose-4
+slice-aggregate-is-loose-4 c =
+    let s = start (told c) in front-long _ _ (omega (arith, s .pre .0 .places, s .pre .2 .marks))
 
 is-loose-requires : tie.Need-is-loose-requires
 is-loose-requires c κs =
     let e = told c in
     let s = start e in
-    net-sized (s .args .s) (now (s .args .d)) _ (e .before .before .byte-at .ensures) _ (e .before .is-last-row .ensures) (not-false _ (e .if1 .left)) (s .pre .0) (s .pre .1) _ _ _ (s .pre .2)
+    net-sized (s .args .s) (now (s .args .d)) _ (e .before .before .byte-at .ensures) _ (e .before .is-last-row .ensures) (not-false _ (e .if1 .left)) (s .pre .0) (s .pre .1) _ _ _ _ (s .pre .2)
 
 returns-2 : tie.Need-returns-2
 returns-2 c =
@@ -69,5 +73,6 @@ is-net-loose-spec =
     slice-aggregate-is-loose
     slice-aggregate-is-loose-2
     slice-aggregate-is-loose-3
+    slice-aggregate-is-loose-4
     is-loose-requires
     returns-2)

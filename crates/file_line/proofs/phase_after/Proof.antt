@@ -13,14 +13,21 @@ add-result : tie.Need-add-result
 add-result c = search needs
 
 returns : tie.Need-returns
-returns c = simp (c .before .before .match .keys1) (c .last-row .ensures)
+returns c = simp (c .match .keys1)
 
 returns-2 : tie.Need-returns-2
-returns-2 c = simp (c .match .keys2)
+returns-2 c = simp (c .before .before .match .keys2) (c .last-row .ensures)
 
 returns-3 : tie.Need-returns-3
-returns-3 c = simp (ne-eqb _ 4 (c .match .rest .0 .1), ne-eqb _ 5 (c .match .rest .1))
+returns-3 c = simp (c .match .keys3)
+
+returns-4 : tie.Need-returns-4
+returns-4 c = simp (c .match .keys4)
+
+returns-5 : tie.Need-returns-5
+returns-5 c = simp (ne-eqb _ 2 (c .match .rest .0 .0 .0 .1), ne-eqb _ 4 (c .match .rest .0 .0 .1), ne-eqb _ 5 (c .match .rest .0 .1), ne-eqb _ 6 (c .match .rest .1))
 
 pub phase-after-spec : {M : Type 1} → statement M
 phase-after-spec =
-    tie.close (tie.spec add-last-row last-row-requires add-result returns returns-2 returns-3)
+    tie.close
+    (tie.spec add-last-row last-row-requires add-result returns returns-2 returns-3 returns-4 returns-5)

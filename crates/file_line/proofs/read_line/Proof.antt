@@ -12,17 +12,17 @@ use Rattle.file_line.proofs.read_line.Tie as tie
 
 -- the rooms as found
 abbrev found : tie.Start → Rooms
-found s = rooms (now (s .args .caps)) (now (s .args .initial)) (now (s .args .pre)) (now (s .args .post)) (now (s .args .word))
+found s = rooms (now (s .args .caps)) (now (s .args .marks)) (now (s .args .initial)) (now (s .args .pre)) (now (s .args .post)) (now (s .args .word))
 
 -- the calls before a need
 abbrev start : tie.After-judge → tie.Start
-start j = j .before .before .before .before .before .before .before .before
+start j = j .before .before .before .before .before .before .before .before .before
 
-abbrev told : tie.After-store-arg5 → tie.After-enum-told
-told c = c .before .before .before .before .before
+abbrev told : tie.After-store-arg6 → tie.After-enum-told
+told c = c .before .before .before .before .before .before
 
-abbrev stored-to : tie.After-slice-known10 → tie.After-store
-stored-to c = c .before .before .before .before .before .before .before .before .before .before
+abbrev stored-to : tie.After-slice-known12 → tie.After-store
+stored-to c = c .before .before .before .before .before .before .before .before .before .before .before .before
 
 sound : (c : tie.After-enum-told) → c .before .before .judge .result ≡ Sound
 sound c = search needs
@@ -45,7 +45,7 @@ store-requires c κs =
 
 take-line-requires : tie.Need-take-line-requires
 take-line-requires c κs =
-    let k = stored-to (c .before .before .before) in
+    let k = stored-to (c .before .before .before .before) in
     let t = told (k .before) in
     let j = t .before .before in
     let p = start j .pre in (
@@ -53,8 +53,9 @@ take-line-requires c κs =
       asked-accepted _ _ _ (sym (j .judge .ensures) ∙ sound t),
       record {
         caps = omega (arith, p .1 .caps, k .store .kept .1 .1 .0);
-        pre = omega (arith, p .1 .pre, k .store .kept .1 .1 .1 .1 .0);
-        post = omega (arith, p .1 .post, k .store .kept .1 .1 .1 .1 .1 .0);
+        marks = omega (arith, p .1 .marks, k .store .kept .1 .1 .1 .0);
+        pre = omega (arith, p .1 .pre, k .store .kept .1 .1 .1 .1 .1 .0);
+        post = omega (arith, p .1 .post, k .store .kept .1 .1 .1 .1 .1 .1 .0);
       },
     )
 
@@ -86,9 +87,12 @@ same-length-5 c = search needs
 same-length-6 : tie.Need-same-length-6
 same-length-6 c = search needs
 
+same-length-7 : tie.Need-same-length-7
+same-length-7 c = search needs
+
 returns-2 : tie.Need-returns-2
 returns-2 c =
-    let k = stored-to (c .before .before .before .before) in
+    let k = stored-to (c .before .before .before .before .before) in
     let t = told (k .before) in
     let j = t .before .before in
     let s = start j in
@@ -113,4 +117,5 @@ read-line-spec =
     same-length-4
     same-length-5
     same-length-6
+    same-length-7
     returns-2)

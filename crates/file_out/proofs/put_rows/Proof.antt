@@ -15,17 +15,17 @@ use Rattle.file_out.proofs.put_rows.Statement.{statement}
 use Rattle.file_out.proofs.put_rows.Tie as tie
 
 abbrev Inv-loop : tie.InvT-loop
-Inv-loop places transitions pre post caps out₀ at r₀ t₀ out r t = (t ≤ transitions) × (Appended out₀ at (joined (rowLine (netOf places transitions pre post caps)) t) r out)
+Inv-loop places transitions pre post caps marks out₀ at r₀ t₀ out r t = (t ≤ transitions) × (Appended out₀ at (joined (rowLine (netOf places transitions pre post caps marks)) t) r out)
 
 abbrev μ-loop : tie.MeasureT-loop
-μ-loop places transitions pre post caps out₀ at r₀ t₀ out r t = transitions - t
+μ-loop places transitions pre post caps marks out₀ at r₀ t₀ out r t = transitions - t
 
 -- the function's entry, its net, and what is known of a turn
 abbrev start : tie.In-loop Inv-loop μ-loop → tie.Start Inv-loop μ-loop
-start i = i .before .before .before .before .before .before
+start i = i .before .before .before .before .before .before .before
 
 abbrev net : tie.In-loop Inv-loop μ-loop → Net
-net i = netOf (start i .args .places) (start i .args .transitions) (now (start i .args .pre)) (now (start i .args .post)) (now (start i .args .caps))
+net i = netOf (start i .args .places) (start i .args .transitions) (now (start i .args .pre)) (now (start i .args .post)) (now (start i .args .caps)) (now (start i .args .marks))
 
 takes-in : (i : tie.In-loop Inv-loop μ-loop) → i .before .loop .t * start i .args .places + start i .args .places ≤ length (now (start i .args .pre))
 takes-in i = pre-end (net i) [] (i .before .loop .t) (start i .pre .0) (i .loop-test .taken)

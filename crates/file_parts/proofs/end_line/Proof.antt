@@ -37,12 +37,19 @@ same-length-4 c = search needs
 same-length-5 : tie.Need-same-length-5
 same-length-5 c = search needs
 
+same-length-6 : tie.Need-same-length-6
+same-length-6 c = search needs
+
+-- the call before the last return
+abbrev read : tie.After-after-line → tie.After-read-line
+read c = c .before .before .before .before .before .before .before .before .before .before .before .before .before
+
 returns : tie.Need-returns
 returns c =
     let s : tie.Start = search needs in
-    let l : tie.After-read-line = search needs in
+    let l = read c in
     let a = s .args in
-    (ended-line (a .h) (rooms (now (a .caps)) (now (a .initial)) (now (a .pre)) (now (a .post)) (now (a .word))) _ (l .read-line .result) _ (s .pre .1) (l .read-line .ensures .0) (l .read-line .ensures .1 .0) (c .after-line .ensures .0), c .after-line .ensures .1)
+    (ended-line (a .h) (rooms (now (a .caps)) (now (a .marks)) (now (a .initial)) (now (a .pre)) (now (a .post)) (now (a .word))) _ (l .read-line .result) _ (s .pre .1) (l .read-line .ensures .0) (l .read-line .ensures .1 .0) (c .after-line .ensures .0), c .after-line .ensures .1)
 
 pub end-line-spec : {M : Type 1} → statement M
 end-line-spec =
@@ -57,4 +64,5 @@ end-line-spec =
     same-length-3
     same-length-4
     same-length-5
+    same-length-6
     returns)

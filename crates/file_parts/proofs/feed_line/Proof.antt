@@ -55,12 +55,15 @@ same-length-4 c = search needs
 same-length-5 : tie.Need-same-length-5
 same-length-5 c = search needs
 
+same-length-6 : tie.Need-same-length-6
+same-length-6 c = search needs
+
 -- the calls before the last return
-abbrev ended : tie.After-slice-known10 → tie.After-end-line
-ended c = c .before .before .before .before .before .before .before .before .before .before
+abbrev ended : tie.After-slice-known12 → tie.After-end-line
+ended c = c .before .before .before .before .before .before .before .before .before .before .before .before
 
 abbrev held : tie.After-end-line → tie.After-hold
-held k = k .before .before .before .before .before .before .before .before .before
+held k = k .before .before .before .before .before .before .before .before .before .before
 
 abbrev start : tie.After-hold → tie.Start
 start h = search needs
@@ -71,7 +74,7 @@ returns-3 c =
     let h = held k in
     let s = start h in
     let a = s .args in
-    (line-whole (a .h) _ (rooms (now (a .caps)) (now (a .initial)) (now (a .pre)) (now (a .post)) (now (a .word))) (s .pre .0) (s .pre .1) _ _ (s .pre .2) (s .pre .3) (h .hold .result) (h .hold .ensures .0) (k .before .before .before .before .before .before .before .before .if1 .left) _ (k .end-line .ensures .0), k .end-line .ensures .1)
+    (line-whole (a .h) _ (rooms (now (a .caps)) (now (a .marks)) (now (a .initial)) (now (a .pre)) (now (a .post)) (now (a .word))) (s .pre .0) (s .pre .1) _ _ (s .pre .2) (s .pre .3) (h .hold .result) (h .hold .ensures .0) (k .before .before .before .before .before .before .before .before .before .if1 .left) _ (k .end-line .ensures .0), k .end-line .ensures .1)
 
 pub feed-line-spec : {M : Type 1} → statement M
 feed-line-spec =
@@ -89,4 +92,5 @@ feed-line-spec =
     same-length-3
     same-length-4
     same-length-5
+    same-length-6
     returns-3)

@@ -33,6 +33,9 @@ same-length-4 c = search needs
 same-length-5 : tie.Need-same-length-5
 same-length-5 c = search needs
 
+same-length-6 : tie.Need-same-length-6
+same-length-6 c = search needs
+
 -- the arguments, and the count of the bytes, before they are fed
 abbrev start : tie.After-count → tie.Start
 start c = search needs
@@ -61,4 +64,5 @@ take-read-spec =
     same-length-3
     same-length-4
     same-length-5
+    same-length-6
     returns)

@@ -1,13 +1,13 @@
 use native.Mathlib.Omega.{arith}
 use denote.Ref.{now}
 use Rattle.net.specs.Net.{Net, netOf}
-use Rattle.file_write.proofs.Answers.{found-writable, length-refused, length-told}
+use Rattle.file_write.proofs.Answers.{found-writable, found-noted, length-refused, length-told}
 use borrow.Author.Needs.{needs}
 use Rattle.file_write.proofs.case_length.Statement.{statement}
 use Rattle.file_write.proofs.case_length.Tie as tie
 
 abbrev net : tie.Start → Net
-net s = netOf (s .args .places) (s .args .transitions) (now (s .args .pre)) (now (s .args .post)) (now (s .args .caps))
+net s = netOf (s .args .places) (s .args .transitions) (now (s .args .pre)) (now (s .args .post)) (now (s .args .caps)) (now (s .args .marks))
 
 text-fault-requires : tie.Need-text-fault-requires
 text-fault-requires c κs = search needs
@@ -17,6 +17,12 @@ enum-known-found c = search needs
 
 enum-told : tie.Need-enum-told
 enum-told c = search needs
+
+mask-of-requires : tie.Need-mask-of-requires
+mask-of-requires c κs =
+    let s : tie.Start = search needs in
+    let f : tie.After-text-fault = search needs in
+    found-noted (net s) (now (s .args .initial)) (now (s .args .word)) _ (f .text-fault .ensures) (search needs)
 
 file-length-requires : tie.Need-file-length-requires
 file-length-requires c κs =
@@ -35,8 +41,9 @@ returns-2 : tie.Need-returns-2
 returns-2 c =
     let s : tie.Start = search needs in
     let f : tie.After-text-fault = search needs in
+    let m : tie.After-mask-of = search needs in
     let l : tie.After-file-length = search needs in
-    length-told (net s) (now (s .args .initial)) (now (s .args .word)) _ (f .text-fault .ensures) _ (search needs) (l .file-length .ensures)
+    length-told (net s) (now (s .args .initial)) (now (s .args .word)) _ (f .text-fault .ensures) _ _ (search needs) (m .mask-of .ensures) (l .file-length .ensures)
 
 pub case-length-spec : {M : Type 1} → statement M
 case-length-spec =
@@ -45,6 +52,7 @@ case-length-spec =
     text-fault-requires
     enum-known-found
     enum-told
+    mask-of-requires
     file-length-requires
     returns
     returns-2)

@@ -6,7 +6,7 @@ use Rattle.file_write.proofs.text_fault.Statement.{statement}
 use Rattle.file_write.proofs.text_fault.Tie as tie
 
 abbrev net : tie.Start → Net
-net s = netOf (s .args .places) (s .args .transitions) (now (s .args .pre)) (now (s .args .post)) (now (s .args .caps))
+net s = netOf (s .args .places) (s .args .transitions) (now (s .args .pre)) (now (s .args .post)) (now (s .args .caps)) (now (s .args .marks))
 
 marked-fault-requires : tie.Need-marked-fault-requires
 marked-fault-requires c κs = search needs

@@ -6,7 +6,7 @@ use Rattle.file_write.proofs.write_case.Statement.{statement}
 use Rattle.file_write.proofs.write_case.Tie as tie
 
 abbrev net : tie.Start → Net
-net s = netOf (s .args .places) (s .args .transitions) (now (s .args .pre)) (now (s .args .post)) (now (s .args .caps))
+net s = netOf (s .args .places) (s .args .transitions) (now (s .args .pre)) (now (s .args .post)) (now (s .args .caps)) (now (s .args .marks))
 
 write-fault-requires : tie.Need-write-fault-requires
 write-fault-requires c κs = search needs

@@ -26,14 +26,14 @@ fail-requires : tie.Need-fail-requires
 fail-requires c κs = search needs
 
 -- the arguments, before the reads
-abbrev start : tie.After-read-all → tie.Start
-start c = search needs
+abbrev held : tie.After-read-all → tie.After-cleared
+held c = c .before .before .before .before .before .before .before
 
 abbrev made : tie.After-read-all → tie.After-new
-made c = search needs
+made c = held c .before
 
-abbrev held : tie.After-read-all → tie.After-cleared
-held c = search needs
+abbrev start : tie.After-read-all → tie.Start
+start c = made c .before .before .before .before .before .before .before .before
 
 abbrev reads : tie.After-show → tie.After-read-all
 reads c = search needs
@@ -43,7 +43,7 @@ show-requires c κs =
     let k : tie.After-read-all = search needs in
     let s = start k in
     let m = k .read-all .kept in
-    (k .read-all .ensures .0, large _ _ (record { caps = m .1 .0; initial = m .1 .1 .0; pre = m .1 .1 .1 .0; post = m .1 .1 .1 .1 .0; word = m .1 .1 .1 .1 .1 .0 }) (s .pre .0), s .pre .1)
+    (k .read-all .ensures .0, large _ _ (record { caps = m .1 .0; marks = m .1 .1 .0; initial = m .1 .1 .1 .0; pre = m .1 .1 .1 .1 .0; post = m .1 .1 .1 .1 .1 .0; word = m .1 .1 .1 .1 .1 .1 .0 }) (s .pre .0), s .pre .1)
 
 same-length : tie.Need-same-length
 same-length c = search needs
@@ -60,15 +60,15 @@ same-length-4 c = search needs
 same-length-5 : tie.Need-same-length-5
 same-length-5 c = search needs
 
+same-length-6 : tie.Need-same-length-6
+same-length-6 c = search needs
+
 returns : tie.Need-returns
 returns c =
     let k : tie.After-read-all = search needs in
     let n = made k in
     let h = held k in
     made-nothing _ _ (from-first (n .new .result) (h .cleared .result) _ _ (n .new .ensures .0) (h .cleared .ensures .0) (k .read-all .ensures .1)) _ _ (c .before .before .enum-told .given .1) refl
-
-same-length-6 : tie.Need-same-length-6
-same-length-6 c = search needs
 
 same-length-7 : tie.Need-same-length-7
 same-length-7 c = search needs
@@ -85,13 +85,19 @@ same-length-10 c = search needs
 same-length-11 : tie.Need-same-length-11
 same-length-11 c = search needs
 
+same-length-12 : tie.Need-same-length-12
+same-length-12 c = search needs
+
+same-length-13 : tie.Need-same-length-13
+same-length-13 c = search needs
+
 returns-2 : tie.Need-returns-2
 returns-2 c =
     let w : tie.After-show = search needs in
     let k = reads w in
     let n = made k in
     let h = held k in
-    made-line _ _ (from-first (n .new .result) (h .cleared .result) _ _ (n .new .ensures .0) (h .cleared .ensures .0) (k .read-all .ensures .1)) _ _ (told-no-failure _ (w .before .before .before .before .before .before .before .match .keys2)) (w .show .ensures)
+    made-line _ _ (from-first (n .new .result) (h .cleared .result) _ _ (n .new .ensures .0) (h .cleared .ensures .0) (k .read-all .ensures .1)) _ _ (told-no-failure _ (w .before .before .before .before .before .before .before .before .match .keys2)) (w .show .ensures)
 
 pub answer-spec : {M : Type 1} → statement M
 answer-spec =
@@ -109,11 +115,13 @@ answer-spec =
     same-length-3
     same-length-4
     same-length-5
-    returns
     same-length-6
+    returns
     same-length-7
     same-length-8
     same-length-9
     same-length-10
     same-length-11
+    same-length-12
+    same-length-13
     returns-2)

@@ -15,7 +15,7 @@ slice-aggregate-write-all : tie.Need-slice-aggregate-write-all
 slice-aggregate-write-all c =
     let s : tie.Start = search needs in
     let a : tie.After-answer-line = search needs in
-    sym (length-take-le _ _ (omega (arith, a .answer-line .ensures .1, s .pre .2, a .answer-line .kept .1 .1 .1 .1 .1 .1 .0)))
+    sym (length-take-le _ _ (omega (arith, a .answer-line .ensures .1, s .pre .2, a .answer-line .kept .1 .1 .1 .1 .1 .1 .1 .0)))
 
 write-all-requires : tie.Need-write-all-requires
 write-all-requires c κs = search needs

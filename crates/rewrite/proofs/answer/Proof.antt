@@ -43,7 +43,7 @@ show-requires c κs =
     let k : tie.After-read-all = search needs in
     let s = start (made k) in
     let m = k .read-all .kept in
-    (k .read-all .ensures .0, large _ _ (record { caps = m .1 .0; initial = m .1 .1 .0; pre = m .1 .1 .1 .0; post = m .1 .1 .1 .1 .0; word = m .1 .1 .1 .1 .1 .0 }) (s .pre .0), s .pre .2)
+    (k .read-all .ensures .0, large _ _ (record { caps = m .1 .0; marks = m .1 .1 .0; initial = m .1 .1 .1 .0; pre = m .1 .1 .1 .1 .0; post = m .1 .1 .1 .1 .1 .0; word = m .1 .1 .1 .1 .1 .1 .0 }) (s .pre .0), s .pre .2)
 
 same-length : tie.Need-same-length
 same-length c = search needs
@@ -60,15 +60,15 @@ same-length-4 c = search needs
 same-length-5 : tie.Need-same-length-5
 same-length-5 c = search needs
 
+same-length-6 : tie.Need-same-length-6
+same-length-6 c = search needs
+
 returns : tie.Need-returns
 returns c =
     let k : tie.After-read-all = search needs in
     let n = made k in
     let h = held k in
     made-nothing _ _ (from-first (n .new .result) (h .cleared .result) _ _ (n .new .ensures .0) (h .cleared .ensures .0) (k .read-all .ensures .1)) _ _ _ _ (c .before .before .enum-told .given .1) refl refl
-
-same-length-6 : tie.Need-same-length-6
-same-length-6 c = search needs
 
 same-length-7 : tie.Need-same-length-7
 same-length-7 c = search needs
@@ -88,13 +88,19 @@ same-length-11 c = search needs
 same-length-12 : tie.Need-same-length-12
 same-length-12 c = search needs
 
+same-length-13 : tie.Need-same-length-13
+same-length-13 c = search needs
+
+same-length-14 : tie.Need-same-length-14
+same-length-14 c = search needs
+
 returns-2 : tie.Need-returns-2
 returns-2 c =
     let w : tie.After-show = search needs in
     let k = reads w in
     let n = made k in
     let h = held k in
-    made-again _ _ (from-first (n .new .result) (h .cleared .result) _ _ (n .new .ensures .0) (h .cleared .ensures .0) (k .read-all .ensures .1)) _ _ _ _ (told-no-failure _ (w .before .before .before .before .before .before .before .before .match .keys2)) (w .show .ensures)
+    made-again _ _ (from-first (n .new .result) (h .cleared .result) _ _ (n .new .ensures .0) (h .cleared .ensures .0) (k .read-all .ensures .1)) _ _ _ _ (told-no-failure _ (w .before .before .before .before .before .before .before .before .before .match .keys2)) (w .show .ensures)
 
 pub answer-spec : {M : Type 1} → statement M
 answer-spec =
@@ -112,12 +118,14 @@ answer-spec =
     same-length-3
     same-length-4
     same-length-5
-    returns
     same-length-6
+    returns
     same-length-7
     same-length-8
     same-length-9
     same-length-10
     same-length-11
     same-length-12
+    same-length-13
+    same-length-14
     returns-2)

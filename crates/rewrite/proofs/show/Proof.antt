@@ -15,7 +15,7 @@ enum-known-again c = search needs
 give-requires : tie.Need-give-requires
 give-requires c κs =
     let a : tie.After-rewrite-held = search needs in
-    omega (arith, written-fits _ _ _ (a .rewrite-held .result) _ (a .rewrite-held .ensures) _ (c .before .before .again .given .1), a .rewrite-held .kept .1 .1 .1 .1 .1 .1 .0)
+    omega (arith, written-fits _ _ _ (a .rewrite-held .result) _ (a .rewrite-held .ensures) _ (c .before .before .again .given .1), a .rewrite-held .kept .1 .1 .1 .1 .1 .1 .1 .0)
 
 enum-known-again-2 : tie.Need-enum-known-again-2
 enum-known-again-2 c = search needs

@@ -41,7 +41,7 @@ returns-2 c =
     let f : tie.After-finish-held = search needs in
     let w : tie.After-write-refused = search needs in
     let a = s .args in
-    (case-line (f .finish-held .result) _ (c .before .before .before .before .before .case2 .given .1) _ (rooms (now (a .caps)) (now (a .initial)) (now (a .pre)) (now (a .post)) (now (a .word))) _ _ _ (f .finish-held .ensures .0) (w .write-refused .ensures), refused-few _ _ _ _ _ (w .write-refused .ensures))
+    (case-line (f .finish-held .result) _ (c .before .before .before .before .before .case2 .given .1) _ (rooms (now (a .caps)) (now (a .marks)) (now (a .initial)) (now (a .pre)) (now (a .post)) (now (a .word))) _ _ _ (f .finish-held .ensures .0) (w .write-refused .ensures), refused-few _ _ _ _ _ (w .write-refused .ensures))
 
 pub answer-line-spec : {M : Type 1} → statement M
 answer-line-spec =

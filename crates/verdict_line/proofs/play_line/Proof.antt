@@ -26,15 +26,20 @@ slice-aggregate-replay-word-2 c =
 slice-aggregate-replay-word-3 : tie.Need-slice-aggregate-replay-word-3
 slice-aggregate-replay-word-3 c =
     let s : tie.Start = search needs in
-    front-long _ _ (omega (arith, s .pre .0 .places, s .pre .1 .caps, s .pre .1 .initial))
+    front-long _ _ (omega (arith, s .pre .0 .places, s .pre .1 .caps, s .pre .1 .marks, s .pre .1 .initial))
 
 slice-aggregate-replay-word-4 : tie.Need-slice-aggregate-replay-word-4
 slice-aggregate-replay-word-4 c =
     let s : tie.Start = search needs in
-    front-long _ _ (omega (arith, s .pre .0 .places, s .pre .1 .caps, s .pre .1 .initial))
+    front-long _ _ (omega (arith, s .pre .0 .places, s .pre .1 .caps, s .pre .1 .marks, s .pre .1 .initial))
 
 slice-aggregate-replay-word-5 : tie.Need-slice-aggregate-replay-word-5
 slice-aggregate-replay-word-5 c =
+    let s : tie.Start = search needs in
+    front-long _ _ (omega (arith, s .pre .0 .places, s .pre .1 .caps, s .pre .1 .marks, s .pre .1 .initial))
+
+slice-aggregate-replay-word-6 : tie.Need-slice-aggregate-replay-word-6
+slice-aggregate-replay-word-6 c =
     let s : tie.Start = search needs in
     front-long _ _ (omega (arith, s .pre .0 .letters, s .pre .1 .word))
 
@@ -59,7 +64,7 @@ returns c =
     let r : tie.After-replay-word = search needs in
     let w : tie.After-write-verdict = search needs in
     let a = s .args in
-    (played-line (a .s) (rooms (now (a .caps)) (now (a .initial)) (now (a .pre)) (now (a .post)) (now (a .word))) _ _ _ _ _ _ (s .pre .2) (r .replay-word .ensures) (w .write-verdict .ensures .0), w .write-verdict .ensures .1)
+    (played-line (a .s) (rooms (now (a .caps)) (now (a .marks)) (now (a .initial)) (now (a .pre)) (now (a .post)) (now (a .word))) _ _ _ _ _ _ (s .pre .2) (r .replay-word .ensures) (w .write-verdict .ensures .0), w .write-verdict .ensures .1)
 
 pub play-line-spec : {M : Type 1} → statement M
 play-line-spec =
@@ -71,6 +76,7 @@ play-line-spec =
     slice-aggregate-replay-word-3
     slice-aggregate-replay-word-4
     slice-aggregate-replay-word-5
+    slice-aggregate-replay-word-6
     replay-word-requires
     write-verdict-requires
     same-length
