@@ -29,6 +29,7 @@ SIDE(order_logs)
 static volatile size_t P, T, cells, letters, entries, file_size, wide, log_length[2];
 static uint8_t pre[4096], post[4096], word[65535], file[KAUNORPI_FILE_LIMIT], logs[2][KAUNORPI_MOST_LOG];
 static uint16_t caps[64], initial[64], list[4096 * 64];
+static uint8_t marks[64];
 static int16_t weights[64];
 static uint32_t need[2][64], climb[2][64];
 static int32_t change[2][64];
@@ -40,11 +41,11 @@ static struct written {
     uint32_t room[64], need[64], climb[64];
     int32_t change[64];
     uint16_t caps[64], initial[64];
-    uint8_t pre[4096], post[4096], word[65535], file[KAUNORPI_FILE_LIMIT], order[2 * KAUNORPI_MOST_LOG];
+    uint8_t marks[64], pre[4096], post[4096], word[65535], file[KAUNORPI_FILE_LIMIT], order[2 * KAUNORPI_MOST_LOG];
     uint8_t work[KAUNORPI_WORK_SPACE];
 } out[2];
 
-#define NET P, T, pre, cells, post, cells, caps, P
+#define NET P, T, pre, cells, post, cells, caps, P, marks, P
 #define ROOMS o->need, 64, o->climb, 64, o->change, 64
 
 /* Keeps an answer's numbers beside the rooms. */
@@ -98,14 +99,14 @@ static void ask_cover(int side) {
 static void ask_complement(int side) {
     struct written *o = &out[side];
     kaunorpi_answer a = side_complement_net[side](NET, initial, P, o->pre, T * wide, o->post, T * wide, o->caps, wide,
-                                                  o->initial, wide);
+                                                  o->marks, wide, o->initial, wide);
     keep(o, a.kind, a.number, a.position, 0);
 }
 
 static void ask_case(int side) {
     struct written *o = &out[side];
-    kaunorpi_case a =
-        side_read_case[side](file, file_size, o->caps, 64, o->initial, 64, o->pre, 4096, o->post, 4096, o->word, 65535);
+    kaunorpi_case a = side_read_case[side](file, file_size, o->caps, 64, o->marks, 64, o->initial, 64, o->pre, 4096, o->post,
+                                           4096, o->word, 65535);
     keep(o, a.kind, a.number, a.position, a.letters);
 }
 
@@ -155,6 +156,13 @@ static void make_word(void) {
         word[i] = (uint8_t)below(64);
 }
 
+/* The same with every other of the capped places a pocket: there is always room for what a letter puts before it takes. */
+static void make_pockets(void) {
+    make_word();
+    for (size_t p = 1; p < 64; p += 4)
+        marks[p] = 1;
+}
+
 /* A small net and a short word: what a clerk's case file says. */
 static void make_small(void) {
     make_ring(4);
@@ -200,7 +208,7 @@ static void make_logs(void) {
     }
     while (n[0] + n[1] < 200) {
         size_t t = below(4), which = below(2);
-        if (!may_fire(pre + t * 4, post + t * 4, caps, m, 4))
+        if (!may_fire(pre + t * 4, post + t * 4, caps, marks, m, 4))
             continue;
         fire(pre + t * 4, post + t * 4, m, 4);
         logs[which][n[which]++] = (uint8_t)t;
@@ -309,7 +317,7 @@ static void make_counters(size_t bits, enum order order) {
         shuffle();
 }
 
-/* The largest case file: 64 places, 64 transitions, 65,535 letters. */
+/* The largest case file but for a line of marks: 64 places, 64 transitions, 65,535 letters. */
 static void make_file(void) {
     make_word();
     file_size = same_write_case(NET, initial, P, word, letters, file, sizeof file).length;
@@ -325,6 +333,7 @@ struct row {
 
 static const struct row rows[] = {
     {"replay_word", "65,535 letters, 64 places", make_word, ask_replay, 60, 1},
+    {"replay_word", "the same, half of the capped places pockets", make_pockets, ask_replay, 60, 1},
     {"summary_word", "65,535 letters, 64 places", make_word, ask_summary, 12, 1},
     {"join_summaries", "64 places", make_halves, ask_join, 300, 200},
     {"place_weighting", "64 places, 64 transitions, invariant", make_word, ask_weighting, 300, 20},
@@ -348,6 +357,7 @@ static double now(void) {
 static void run(const struct row *row) {
     double best[2] = {1e18, 1e18};
     memset(out, 0, sizeof out);
+    memset(marks, 0, sizeof marks);
     row->make();
     for (size_t round = 0; round < row->rounds; round++) {
         for (int side = 0; side < 2; side++) {

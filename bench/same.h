@@ -27,10 +27,11 @@ struct fault {
 
 /* Refusals 1 and 2 for a net. */
 static inline struct fault counts_fault(KAUNORPI_NET, int fits) {
-    (void)pre, (void)post, (void)caps;
+    (void)pre, (void)post, (void)caps, (void)marks;
     if (places < 1 || places > 64 || transitions < 1 || transitions > 64)
         return (struct fault){1, 0};
-    if (pre_len != places * transitions || post_len != places * transitions || caps_len != places || !fits)
+    if (pre_len != places * transitions || post_len != places * transitions || caps_len != places ||
+        marks_len != places || !fits)
         return (struct fault){2, 0};
     return (struct fault){0, 0};
 }
@@ -63,7 +64,8 @@ static inline struct fault loose_fault(size_t places, size_t transitions, const 
 
 /* Refusals 1, 2 and 17 for a net. */
 static inline struct fault net_fault(KAUNORPI_NET, int fits) {
-    struct fault found = counts_fault(places, transitions, pre, pre_len, post, post_len, caps, caps_len, fits);
+    struct fault found =
+        counts_fault(places, transitions, pre, pre_len, post, post_len, caps, caps_len, marks, marks_len, fits);
     return found.number == 0 ? loose_fault(places, transitions, pre, post) : found;
 }
 
@@ -74,7 +76,7 @@ static inline int is_bad_token(uint16_t cap, uint16_t tokens) {
 
 /* Refusals 1, 2 and 3 for a net and its initial marking. */
 static inline struct fault start_fault(KAUNORPI_NET, const uint16_t *initial, size_t initial_len, int fits) {
-    struct fault found = counts_fault(places, transitions, pre, pre_len, post, post_len, caps, caps_len,
+    struct fault found = counts_fault(places, transitions, pre, pre_len, post, post_len, caps, caps_len, marks, marks_len,
                                       fits && initial_len == places);
     for (size_t p = 0; found.number == 0 && p < places; p++)
         if (is_bad_token(caps[p], initial[p]))
@@ -84,8 +86,8 @@ static inline struct fault start_fault(KAUNORPI_NET, const uint16_t *initial, si
 
 /* Refusals 1, 2, 3 and 17. */
 static inline struct fault marked_fault(KAUNORPI_NET, const uint16_t *initial, size_t initial_len, int fits) {
-    struct fault found = start_fault(places, transitions, pre, pre_len, post, post_len, caps, caps_len, initial,
-                                     initial_len, fits);
+    struct fault found = start_fault(places, transitions, pre, pre_len, post, post_len, caps, caps_len, marks, marks_len,
+                                     initial, initial_len, fits);
     return found.number == 0 ? loose_fault(places, transitions, pre, post) : found;
 }
 
@@ -99,17 +101,33 @@ static inline struct fault word_fault(size_t transitions, const uint8_t *word, s
     return (struct fault){0, 0};
 }
 
+/* Of what is taken from a place, what leaves before anything arrives: from a pocket nothing. */
+static inline uint8_t leaves(uint8_t mark, uint8_t takes) {
+    return mark == 0 ? takes : 0;
+}
+
+/* The mark that counts: a pocket without capacity is as a plain place. */
+static inline uint8_t mark_in_force(uint16_t cap, uint8_t mark) {
+    return cap < 65535 ? mark : 0;
+}
+
+/* How far a place rises above its tokens. */
+static inline uint8_t rise(uint8_t mark, uint8_t takes, uint8_t puts) {
+    uint8_t left = leaves(mark, takes);
+    return puts < left ? 0 : (uint8_t)(puts - left);
+}
+
 /* One place has a capacity and would hold more. */
-static inline int is_over(uint8_t takes, uint8_t puts, uint16_t cap, uint32_t tokens) {
-    return (cap < 65535) & ((uint32_t)cap + takes < tokens + puts);
+static inline int is_over(uint8_t takes, uint8_t puts, uint16_t cap, uint8_t mark, uint32_t tokens) {
+    return (cap < 65535) & ((uint32_t)cap + leaves(mark, takes) < tokens + puts);
 }
 
 /* Whether a letter passes: one plain pass over the places, with no way out on the way. */
-static inline int may_fire(const uint8_t *takes, const uint8_t *puts, const uint16_t *caps, const uint32_t *marking,
-                           size_t places) {
+static inline int may_fire(const uint8_t *takes, const uint8_t *puts, const uint16_t *caps, const uint8_t *marks,
+                           const uint32_t *marking, size_t places) {
     uint32_t stopped = 0;
     for (size_t p = 0; p < places; p++)
-        stopped += (marking[p] < takes[p]) | is_over(takes[p], puts[p], caps[p], marking[p]);
+        stopped += (marking[p] < takes[p]) | is_over(takes[p], puts[p], caps[p], marks[p], marking[p]);
     return stopped == 0;
 }
 

@@ -3,13 +3,13 @@
 #include "same.h"
 
 struct reading {
-    uint8_t phase;
+    uint8_t phase, marked;
     size_t places, transitions, next, letters, line;
 };
 
 struct rooms {
     uint16_t caps[64], initial[64];
-    uint8_t pre[4096], post[4096], word[65535];
+    uint8_t marks[64], pre[4096], post[4096], word[65535];
 };
 
 /* Whether a byte is one of 0-9 and A-F. */
@@ -40,6 +40,23 @@ static int rule(const uint8_t *d, size_t n) {
         if (!is_digit(d[i]))
             return 0;
     return 1;
+}
+
+/* Whether place p is a pocket by a 06: place 0 is the lowest bit of the last byte. */
+static inline uint8_t mark_of(const uint8_t *d, size_t p) {
+    return byte_at(d, 8 - p / 8) >> p % 8 & 1;
+}
+
+/* 06: right after 02, once, with a pocket, and with no bit at or past the place count. */
+static uint8_t marks_line(const struct reading *s, const uint8_t *d, size_t n) {
+    size_t pockets = 0, past = 0;
+    if (s->phase != 3 || s->marked || n != 18)
+        return 12;
+    for (size_t p = 0; p < s->places; p++)
+        pockets += mark_of(d, p);
+    for (size_t p = s->places; p < 64; p++)
+        past += mark_of(d, p);
+    return pockets == 0 || past > 0 ? 12 : 0;
 }
 
 /* 03: no token count is 65,535 or above its capacity. */
@@ -83,6 +100,8 @@ static uint8_t judge(const struct reading *s, const uint8_t *d, size_t n, const 
         return s->phase != 4 || n != 4 + 4 * s->places || byte_at(d, 1) != s->next ? 12 : 0;
     case 5:
         return letters_line(s, d, n);
+    case 6:
+        return marks_line(s, d, n);
     default:
         return 12;
     }
@@ -108,6 +127,10 @@ static void store(const struct reading *s, const uint8_t *d, size_t n, struct ro
     case 5:
         for (size_t i = 0; i < n / 2 - 1; i++)
             r->word[s->letters + i] = byte_at(d, 1 + i);
+        break;
+    case 6:
+        for (size_t p = 0; p < s->places; p++)
+            r->marks[p] = mark_of(d, p);
     }
 }
 
@@ -116,13 +139,16 @@ static struct reading advance(struct reading s, const uint8_t *d, size_t n) {
     s.line++;
     switch (byte_at(d, 0)) {
     case 1:
-        return (struct reading){2, byte_at(d, 1), byte_at(d, 2), 0, 0, s.line};
+        return (struct reading){2, 0, byte_at(d, 1), byte_at(d, 2), 0, 0, s.line};
     case 4:
         s.next++;
         s.phase = s.next == s.transitions ? 5 : 4;
         return s;
     case 5:
         s.letters += n / 2 - 1;
+        return s;
+    case 6:
+        s.marked = 1;
         return s;
     default:
         s.phase++;
@@ -159,19 +185,21 @@ static uint8_t read_lines(struct reading *s, const uint8_t *file, size_t file_le
 }
 
 /* Refusal 2, the file, then the copy. */
-kaunorpi_case same_read_case(const uint8_t *file, size_t file_len, uint16_t *caps, size_t caps_len, uint16_t *initial,
-                             size_t initial_len, uint8_t *pre, size_t pre_len, uint8_t *post, size_t post_len,
-                             uint8_t *word, size_t word_len) {
-    struct reading s = {1, 0, 0, 0, 0, 0};
-    struct rooms r = {{0}, {0}, {0}, {0}, {0}};
+kaunorpi_case same_read_case(const uint8_t *file, size_t file_len, uint16_t *caps, size_t caps_len, uint8_t *marks,
+                             size_t marks_len, uint16_t *initial, size_t initial_len, uint8_t *pre, size_t pre_len,
+                             uint8_t *post, size_t post_len, uint8_t *word, size_t word_len) {
+    struct reading s = {1, 0, 0, 0, 0, 0, 0};
+    struct rooms r = {{0}, {0}, {0}, {0}, {0}, {0}};
     uint8_t number;
-    if (caps_len != 64 || initial_len != 64 || pre_len != 4096 || post_len != 4096 || word_len != 65535)
+    if (caps_len != 64 || marks_len != 64 || initial_len != 64 || pre_len != 4096 || post_len != 4096 || word_len != 65535)
         return (kaunorpi_case){KAUNORPI_REFUSED, 2, 0, 0, 0, 0};
     number = read_lines(&s, file, file_len, &r);
     if (number != 0)
         return (kaunorpi_case){KAUNORPI_REFUSED, number, s.line + 1, 0, 0, 0};
     for (size_t p = 0; p < s.places; p++)
         caps[p] = r.caps[p];
+    for (size_t p = 0; p < s.places; p++)
+        marks[p] = r.marks[p];
     for (size_t p = 0; p < s.places; p++)
         initial[p] = r.initial[p];
     for (size_t i = 0; i < s.places * s.transitions; i++)

@@ -65,16 +65,16 @@ static void make_skips(size_t places, size_t transitions, const uint8_t *pre, co
 }
 
 /* One place within its capacity stops a transition. */
-static inline int is_stopped(uint8_t takes, uint8_t puts, uint16_t cap, uint16_t tokens) {
-    return tokens < takes || (cap < 65535 && cap < tokens + (puts < takes ? 0 : puts - takes));
+static inline int is_stopped(uint8_t takes, uint8_t puts, uint16_t cap, uint8_t mark, uint16_t tokens) {
+    return tokens < takes || (cap < 65535 && cap < tokens + rise(mark, takes, puts));
 }
 
 /* Whether a transition may fire at a listed marking, by its arcs. */
-static inline int may_fire_listed(const uint8_t *takes, const uint8_t *puts, const uint16_t *caps, const uint8_t *skips,
-                                  const uint16_t *listed, size_t places) {
+static inline int may_fire_listed(const uint8_t *takes, const uint8_t *puts, const uint16_t *caps, const uint8_t *marks,
+                                  const uint8_t *skips, const uint16_t *listed, size_t places) {
     for (size_t p = places; p > 0;) {
         p = p - 1 - skips[p - 1];
-        if (is_stopped(takes[p], puts[p], caps[p], listed[p]))
+        if (is_stopped(takes[p], puts[p], caps[p], marks[p], listed[p]))
             return 0;
     }
     return 1;
@@ -94,8 +94,8 @@ static inline void fire_listed(const uint8_t *takes, const uint8_t *puts, const 
 static inline int is_unlisted(KAUNORPI_NET, const uint16_t *list, const struct index *index, const uint8_t *skips,
                               size_t t, const uint16_t *listed, uint32_t *room) {
     size_t a = t * places;
-    (void)transitions, (void)pre_len, (void)post_len, (void)caps_len;
-    if (!may_fire_listed(pre + a, post + a, caps, skips + a, listed, places))
+    (void)transitions, (void)pre_len, (void)post_len, (void)caps_len, (void)marks_len;
+    if (!may_fire_listed(pre + a, post + a, caps, marks, skips + a, listed, places))
         return 0;
     fire_listed(pre + a, post + a, skips + a, listed, room, places);
     return !find(places, list, index, room);
@@ -113,9 +113,9 @@ static int is_listed(size_t places, size_t count, const uint16_t *list, const ui
 static inline int is_absent(KAUNORPI_NET, const uint16_t *list, size_t count, size_t k, size_t t) {
     const uint8_t *takes = pre + t * places, *puts = post + t * places;
     uint32_t room[64] = {0};
-    (void)transitions, (void)pre_len, (void)post_len, (void)caps_len;
+    (void)transitions, (void)pre_len, (void)post_len, (void)caps_len, (void)marks_len;
     load(list + k * places, room, places);
-    if (!may_fire(takes, puts, caps, room, places))
+    if (!may_fire(takes, puts, caps, marks, room, places))
         return 0;
     fire(takes, puts, room, places);
     return !is_listed(places, count, list, room);
@@ -124,8 +124,8 @@ static inline int is_absent(KAUNORPI_NET, const uint16_t *list, size_t count, si
 /* Refusals 1, 2, 3, 17 and 9; a cover list's own entries are free. */
 static struct fault list_fault(KAUNORPI_NET, const uint16_t *initial, size_t initial_len, const uint16_t *list,
                                size_t list_len, int cover) {
-    struct fault found = start_fault(places, transitions, pre, pre_len, post, post_len, caps, caps_len, initial,
-                                     initial_len, places > 0 && list_len % places == 0);
+    struct fault found = start_fault(places, transitions, pre, pre_len, post, post_len, caps, caps_len, marks, marks_len,
+                                     initial, initial_len, places > 0 && list_len % places == 0);
     if (found.number != 0)
         return found;
     for (size_t k = 0; !cover && k < list_len; k++)
@@ -143,7 +143,7 @@ static struct fault list_fault(KAUNORPI_NET, const uint16_t *initial, size_t ini
 static inline kaunorpi_list closed_start(KAUNORPI_NET, const uint16_t *initial, size_t initial_len,
                                          const uint16_t *list, size_t list_len) {
     uint32_t room[64] = {0};
-    struct fault found = list_fault(places, transitions, pre, pre_len, post, post_len, caps, caps_len, initial,
+    struct fault found = list_fault(places, transitions, pre, pre_len, post, post_len, caps, caps_len, marks, marks_len, initial,
                                     initial_len, list, list_len, 0);
     if (found.number != 0)
         return (kaunorpi_list){KAUNORPI_REFUSED, found.number, found.at, 0};
@@ -157,8 +157,8 @@ kaunorpi_list same_closed_list(KAUNORPI_NET, const uint16_t *initial, size_t ini
     uint32_t room[64] = {0};
     uint8_t skips[4096] = {0};
     struct index index = {{0}, {0}};
-    kaunorpi_list start = closed_start(places, transitions, pre, pre_len, post, post_len, caps, caps_len, initial,
-                                       initial_len, list, list_len);
+    kaunorpi_list start = closed_start(places, transitions, pre, pre_len, post, post_len, caps, caps_len, marks,
+                                       marks_len, initial, initial_len, list, list_len);
     size_t count;
     if (start.number != 0)
         return start;
@@ -167,8 +167,8 @@ kaunorpi_list same_closed_list(KAUNORPI_NET, const uint16_t *initial, size_t ini
     make_skips(places, transitions, pre, post, skips);
     for (size_t k = 0; k < count; k++)
         for (size_t t = 0; t < transitions; t++)
-            if (is_unlisted(places, transitions, pre, pre_len, post, post_len, caps, caps_len, list, &index, skips, t,
-                            list + k * places, room))
+            if (is_unlisted(places, transitions, pre, pre_len, post, post_len, caps, caps_len, marks, marks_len, list,
+                            &index, skips, t, list + k * places, room))
                 return (kaunorpi_list){KAUNORPI_ANSWERED, 2, k, t};
     return start;
 }
@@ -176,15 +176,16 @@ kaunorpi_list same_closed_list(KAUNORPI_NET, const uint16_t *initial, size_t ini
 /* Without either. */
 kaunorpi_list plain_closed_list(KAUNORPI_NET, const uint16_t *initial, size_t initial_len, const uint16_t *list,
                                 size_t list_len) {
-    kaunorpi_list start = closed_start(places, transitions, pre, pre_len, post, post_len, caps, caps_len, initial,
-                                       initial_len, list, list_len);
+    kaunorpi_list start = closed_start(places, transitions, pre, pre_len, post, post_len, caps, caps_len, marks,
+                                       marks_len, initial, initial_len, list, list_len);
     size_t count;
     if (start.number != 0)
         return start;
     count = list_len / places;
     for (size_t k = 0; k < count; k++)
         for (size_t t = 0; t < transitions; t++)
-            if (is_absent(places, transitions, pre, pre_len, post, post_len, caps, caps_len, list, count, k, t))
+            if (is_absent(places, transitions, pre, pre_len, post, post_len, caps, caps_len, marks, marks_len, list,
+                          count, k, t))
                 return (kaunorpi_list){KAUNORPI_ANSWERED, 2, k, t};
     return start;
 }
@@ -218,8 +219,8 @@ kaunorpi_list same_cover_list(KAUNORPI_NET, const uint16_t *initial, size_t init
                               size_t list_len) {
     uint32_t room[64] = {0};
     size_t count;
-    struct fault found = list_fault(places, transitions, pre, pre_len, post, post_len, caps, caps_len, initial,
-                                    initial_len, list, list_len, 1);
+    struct fault found = list_fault(places, transitions, pre, pre_len, post, post_len, caps, caps_len, marks, marks_len,
+                                    initial, initial_len, list, list_len, 1);
     if (found.number != 0)
         return (kaunorpi_list){KAUNORPI_REFUSED, found.number, found.at, 0};
     count = list_len / places;

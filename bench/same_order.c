@@ -11,6 +11,7 @@ struct search {
     size_t places, transitions;
     const uint8_t *pre, *post;
     const uint16_t *caps;
+    const uint8_t *marks;
     const uint8_t *first;
     size_t first_len;
     const uint8_t *second;
@@ -32,7 +33,7 @@ static int look(const struct search *s, size_t n, size_t k);
 static int take(const struct search *s, size_t which, size_t n, size_t k) {
     size_t t = letter_of(s, which, n, k);
     const uint8_t *takes = s->pre + t * s->places, *puts = s->post + t * s->places;
-    if (s->transitions <= t || !may_fire(takes, puts, s->caps, s->marking, s->places))
+    if (s->transitions <= t || !may_fire(takes, puts, s->caps, s->marks, s->marking, s->places))
         return 0;
     fire(takes, puts, s->marking, s->places);
     s->path[n + k] = (uint8_t)which;
@@ -80,11 +81,12 @@ kaunorpi_answer same_order_logs(KAUNORPI_NET, const uint16_t *initial, size_t in
                                 size_t room_len, uint8_t *work, size_t work_len) {
     uint32_t marking[64] = {0};
     uint8_t path[STEPS] = {0};
-    struct search s = {places,    transitions, pre,        post,    caps, first,
+    struct search s = {places,    transitions, pre,        post,    caps, marks, first,
                        first_len, second,      second_len, marking, path, work};
     int fits = room_len >= first_len && room_len - first_len == second_len && work_len == WORK, is_found;
     struct fault found =
-        marked_fault(places, transitions, pre, pre_len, post, post_len, caps, caps_len, initial, initial_len, fits);
+        marked_fault(places, transitions, pre, pre_len, post, post_len, caps, caps_len, marks, marks_len, initial, initial_len,
+                     fits);
     if (found.number == 0)
         found = logs_fault(transitions, first, first_len, second, second_len);
     if (found.number != 0)

@@ -15,13 +15,13 @@ static inline uint32_t larger(uint32_t x, uint32_t y, uint32_t l, uint32_t g) {
 }
 
 /* One place of a word's summary. */
-static struct slot slot_of(size_t places, const uint8_t *pre, const uint8_t *post, size_t p, const uint8_t *word,
-                           size_t word_len) {
+static struct slot slot_of(size_t places, const uint8_t *pre, const uint8_t *post, uint8_t mark, size_t p,
+                           const uint8_t *word, size_t word_len) {
     uint32_t gained = 0, lost = 0, need = 0, climb = 0;
     for (size_t i = 0; i < word_len; i++) {
-        uint32_t takes = pre[word[i] * places + p], puts = post[word[i] * places + p];
+        uint8_t takes = pre[word[i] * places + p], puts = post[word[i] * places + p];
         need = larger(need, takes, lost, gained);
-        climb = larger(climb, takes < puts ? puts - takes : 0, gained, lost);
+        climb = larger(climb, rise(mark, takes, puts), gained, lost);
         gained += puts;
         lost += takes;
     }
@@ -43,13 +43,14 @@ kaunorpi_summary same_summary_word(KAUNORPI_NET, const uint8_t *word, size_t wor
                                    uint32_t *climb, size_t climb_len, int32_t *change, size_t change_len) {
     struct slot slots[64] = {{0, 0, 0}};
     int fits = need_len == 64 && climb_len == 64 && change_len == 64;
-    struct fault found = net_fault(places, transitions, pre, pre_len, post, post_len, caps, caps_len, fits);
+    struct fault found =
+        net_fault(places, transitions, pre, pre_len, post, post_len, caps, caps_len, marks, marks_len, fits);
     if (found.number == 0)
         found = word_fault(transitions, word, word_len);
     if (found.number != 0)
         return (kaunorpi_summary){KAUNORPI_REFUSED, found.number, found.at, 0, 0};
     for (size_t p = 0; p < places; p++)
-        slots[p] = slot_of(places, pre, post, p, word, word_len);
+        slots[p] = slot_of(places, pre, post, mark_in_force(caps[p], marks[p]), p, word, word_len);
     lay_out(slots, need, climb, change);
     return (kaunorpi_summary){KAUNORPI_ANSWERED, 0, 0, places, (uint32_t)word_len};
 }

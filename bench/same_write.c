@@ -50,6 +50,29 @@ static inline size_t put_numbers(uint8_t *out, size_t at, uint8_t kind, const ui
     return put_feed(out, r);
 }
 
+/* Whether some place is a pocket. */
+static inline int has_pocket(const uint8_t *marks, size_t places) {
+    for (size_t p = 0; p < places; p++)
+        if (marks[p] != 0)
+            return 1;
+    return 0;
+}
+
+/* 06, if some place is a pocket: eight bytes, of which the last has the first eight places, the lowest bit the first. */
+static inline size_t put_marks(uint8_t *out, size_t at, const uint8_t *marks, size_t places) {
+    size_t r = at;
+    if (!has_pocket(marks, places))
+        return r;
+    r = put_byte(out, r, 6);
+    for (size_t k = 8; k > 0; k--) {
+        uint8_t bits = 0;
+        for (size_t p = 8 * k; p > 8 * (k - 1); p--)
+            bits = (uint8_t)(bits * 2 + (p <= places && marks[p - 1] != 0));
+        r = put_byte(out, r, bits);
+    }
+    return put_feed(out, r);
+}
+
 /* A 04 for each transition. */
 static inline size_t put_rows(size_t places, size_t transitions, const uint8_t *pre, const uint8_t *post, uint8_t *out,
                               size_t at) {
@@ -84,9 +107,10 @@ static inline size_t line_length(size_t bytes) {
 }
 
 /* How long the file is. */
-static inline size_t file_length(size_t places, size_t transitions, size_t letters) {
+static inline size_t file_length(size_t places, size_t transitions, const uint8_t *marks, size_t letters) {
     size_t word = 2 * letters + line_length(1) * letters_lines(letters);
-    return line_length(3) + 2 * line_length(1 + 2 * places) + transitions * line_length(2 + 2 * places) + word;
+    size_t mask = has_pocket(marks, places) ? line_length(9) : 0;
+    return line_length(3) + 2 * line_length(1 + 2 * places) + mask + transitions * line_length(2 + 2 * places) + word;
 }
 
 /* The refusals, then the file. */
@@ -94,15 +118,17 @@ kaunorpi_length same_write_case(KAUNORPI_NET, const uint16_t *initial, size_t in
                                 size_t word_len, uint8_t *room, size_t room_len) {
     size_t at;
     struct fault found =
-        marked_fault(places, transitions, pre, pre_len, post, post_len, caps, caps_len, initial, initial_len, 1);
+        marked_fault(places, transitions, pre, pre_len, post, post_len, caps, caps_len, marks, marks_len, initial, initial_len,
+                     1);
     if (found.number == 0)
         found = word_fault(transitions, word, word_len);
-    if (found.number == 0 && room_len < file_length(places, transitions, word_len))
+    if (found.number == 0 && room_len < file_length(places, transitions, marks, word_len))
         found = (struct fault){14, 0};
     if (found.number != 0)
         return (kaunorpi_length){KAUNORPI_REFUSED, found.number, found.at, 0};
     at = put_counts(room, 0, places, transitions);
     at = put_numbers(room, at, 2, caps, places);
+    at = put_marks(room, at, marks, places);
     at = put_numbers(room, at, 3, initial, places);
     at = put_rows(places, transitions, pre, post, room, at);
     return (kaunorpi_length){KAUNORPI_ANSWERED, 0, 0, put_word(room, at, word, word_len)};

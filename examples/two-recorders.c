@@ -11,6 +11,7 @@ static const char *const events[] = {"a log is taken into the saw", "the saw giv
 static const uint8_t pre[] = {1, 1, 0, 0, 0, 0, 1, 0, 0, 0, 0, 2};
 static const uint8_t post[] = {0, 0, 1, 0, 0, 1, 0, 3, 0, 0, 0, 0};
 static const uint16_t caps[] = {KAUNORPI_NONE, KAUNORPI_NONE, KAUNORPI_NONE, 6}, initial[] = {4, 1, 0, 0};
+static const uint8_t marks[] = {0, 0, 0, 0}; /* no place is a pocket */
 
 /* what each recorder wrote */
 static const uint8_t saw[] = {0, 1, 0, 1, 0, 1}, outfeed[] = {2, 2, 2, 2};
@@ -18,8 +19,8 @@ static const uint8_t saw[] = {0, 1, 0, 1, 0, 1}, outfeed[] = {2, 2, 2, 2};
 int main(void) {
     static uint8_t work[KAUNORPI_WORK_SPACE];
     uint8_t order[sizeof saw + sizeof outfeed];
-    kaunorpi_answer a = kaunorpi_order_logs(4, 3, pre, 12, post, 12, caps, 4, initial, 4, saw, sizeof saw, outfeed,
-                                            sizeof outfeed, order, sizeof order, work, sizeof work);
+    kaunorpi_answer a = kaunorpi_order_logs(4, 3, pre, 12, post, 12, caps, 4, marks, 4, initial, 4, saw, sizeof saw,
+                                            outfeed, sizeof outfeed, order, sizeof order, work, sizeof work);
     if (a.kind == KAUNORPI_REFUSED) {
         printf("the question is faulty: refusal %u, position %zu\n", a.number, a.position);
         return 2;

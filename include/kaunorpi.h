@@ -27,6 +27,11 @@
  *                         puts there, stands at t * places + p; 0 is no arc. Each place and each transition must have
  *                         an arc, else 17
  *   caps                  places capacities, 0 to 65,534; 65,535 is none
+ *   marks                 places marks of a byte each: 0 is a plain place, any other a pocket, all alike
+ * At a plain place what a transition takes leaves before anything comes: tokens - Pre + Post must keep to its capacity.
+ * At a pocket the new tokens come first: tokens + Post must. A pocket without a capacity is as a plain place. Replays,
+ * orders of two logs, summaries, closed lists, the complement net and case files go by the marks; weightings, sets of
+ * places and cover lists do not.
  * A marking is a list of places token counts, 0 to 65,534. A word is a list of transition numbers, its letters,
  * at most 65,535 of them; the first letter is number 0, and so are the first place and the first transition.
  *
@@ -53,7 +58,8 @@
  *    9  a list of no marking, or of more than 4,096
  *   10  a complement net of more than 64 places
  *   11  a line of a case file breaks the digit rules or lacks its line feed. position: the line, from 1
- *   12  a frame of unknown kind, in the wrong order, of wrong length or index, or missing. position: the line
+ *   12  a frame of unknown kind, in the wrong order, of wrong length or index, or missing; a frame 06 that makes no
+ *       place a pocket, or one that the net does not have. position: the line
  *   13  a place number that is not below the place count
  *   14  a room that is shorter than what is to be written there
  *   15  a log over 255 letters, after 4
@@ -78,7 +84,7 @@ extern "C" {
 #endif
 
 /* Another number with every change of a function, a struct, an answer or a refusal. */
-#define KAUNORPI_VERSION 4
+#define KAUNORPI_VERSION 5
 
 #define KAUNORPI_ANSWERED 0x81
 #define KAUNORPI_REFUSED 0x82
@@ -95,7 +101,7 @@ extern "C" {
 /* The net, the way each function is lent it. */
 #define KAUNORPI_NET \
     size_t places, size_t transitions, const uint8_t *pre, size_t pre_len, const uint8_t *post, size_t post_len, \
-    const uint16_t *caps, size_t caps_len
+    const uint16_t *caps, size_t caps_len, const uint8_t *marks, size_t marks_len
 
 typedef struct kaunorpi_answer {
     uint8_t kind;
@@ -167,8 +173,8 @@ typedef struct kaunorpi_rest {
 /* ---- Replay: can the letters of the word happen in this order? Refusals 1 2 3 17 4 5.
  * 0x81 0: all of them. position: how many. room: the tokens of each place afterwards.
  * 0x81 1: letter `position` cannot happen, since `place` has fewer tokens than it takes; no lower place has.
- * 0x81 2: letter `position` cannot happen: no place is short, but `place` would hold more than its capacity; no
- *         lower place would.
+ * 0x81 2: letter `position` cannot happen: no place is short, but `place` would hold more than its capacity, a pocket
+ *         before the letter's tokens leave it; no lower place would.
  * In the last two cases room holds the tokens after the letters before that one. room: places entries.
  * Contract: crates/c_replay/src/lib.rt. Theorems: fired-means, fires-fired, fired-longest, blocked-cause in
  * crates/replay/proofs/Meaning.antt. */
@@ -181,7 +187,9 @@ kaunorpi_replay kaunorpi_replay_word(KAUNORPI_NET, const uint16_t *initial, size
 kaunorpi_replay kaunorpi_replay_stretch(KAUNORPI_NET, const uint16_t *initial, size_t initial_len, const uint8_t *word,
                                         size_t word_len, size_t start, size_t end, uint32_t *room, size_t room_len);
 
-/* ---- Summaries: what a word needs, how far it climbs, and what it changes, at each place.
+/* ---- Summaries: what a word needs, how far it climbs, and what it changes, at each place. At a pocket that has a
+ * capacity the climb counts what a letter puts before what it takes: a summary is one of a net with its capacities and
+ * marks.
  * A summary is a place count, a number of letters and three lists of exactly 64 entries, need, climb and change, with
  * zeros past the place count. Another length of any of them is refusal 2.
  * 0x81 0: made. places, letters: the summary's own. need, climb, change: its lists, all 64 entries written. */
@@ -290,35 +298,40 @@ kaunorpi_list kaunorpi_cover_target(KAUNORPI_NET, const uint16_t *initial, size_
  * 0x81 0: places: how many places it has. Refusals 1 2 17 10.
  * Contract: crates/c_net/src/lib.rt. Theorems: told-places, told-rooms in crates/complement/proofs/Promise.antt. */
 kaunorpi_places kaunorpi_complement_places(KAUNORPI_NET);
-/* 0x81 0: the rooms hold it: transitions * n weights in pre2 and in post2, n capacities and n tokens, where n is what
- * kaunorpi_complement_places answers. The old places come first, with their arcs and tokens; then one place for each
- * place that has a capacity and that some transition changes (Pre and Post differ), in order of number: a transition
- * that adds k to the old place takes k from it, one that takes k away puts k there, and it starts with capacity minus
- * tokens. Every capacity is 65,535, none. Where n is over 64, rooms of another length than n says are 2, and rooms of
- * that length 10. Refusals 1 2 3 17 10.
+/* 0x81 0: the rooms hold it: transitions * n weights in pre2 and in post2, n capacities, n marks and n tokens, where n
+ * is what kaunorpi_complement_places answers. The old places come first, with their arcs and tokens; then one place for
+ * each place that has a capacity and is a pocket, or that has one and some transition changes (Pre and Post differ), in
+ * order of number. It starts with capacity minus tokens. Of a plain place: a transition that adds k to the old place
+ * takes k from the new one, one that takes k away puts k there. Of a pocket: a transition takes from the new place what
+ * it puts into the old one, and puts there what it takes from the old one. Every capacity is 65,535, none, and every
+ * mark 0, plain. Where n is over 64, rooms of another length than n says are 2, and rooms of that length 10.
+ * Refusals 1 2 3 17 10.
  * Contract: crates/c_net/src/lib.rt. Theorems: made-net, made-initial, made-fires-same, made-blocked-same, made-ready
  * in crates/complement/proofs/Promise.antt. */
 kaunorpi_answer kaunorpi_complement_net(KAUNORPI_NET, const uint16_t *initial, size_t initial_len, uint8_t *pre2,
                                         size_t pre2_len, uint8_t *post2, size_t post2_len, uint16_t *caps2,
-                                        size_t caps2_len, uint16_t *initial2, size_t initial2_len);
+                                        size_t caps2_len, uint8_t *marks2, size_t marks2_len, uint16_t *initial2,
+                                        size_t initial2_len);
 
 /* ---- A case file: its bytes, into a net, a marking and a word. Refusals 2 11 12 1 3 17 4 5; but for 2 position is the
  * line.
- * The rooms have the largest sizes, exactly: 64, 64, 4,096, 4,096 and 65,535 entries; another length is refusal 2.
- * 0x81 0: places, transitions, letters: the file's. Its capacities, tokens, weights and letters stand at the front of
- * the rooms; what lies behind them is as it was.
+ * The rooms have the largest sizes, exactly: 64, 64, 64, 4,096, 4,096 and 65,535 entries; another length is refusal 2.
+ * 0x81 0: places, transitions, letters: the file's. Its capacities, marks, tokens, weights and letters stand at the
+ * front of the rooms; what lies behind them is as it was. A pocket's mark is 1, a plain place's 0; where the file has
+ * no frame 06 they are all 0.
  * Contract: crates/c_net/src/lib.rt. Theorems: read-exactly, read-those in crates/file_entry/proofs/Accepted.antt;
  * refused-file in crates/file_entry/proofs/Meaning.antt. */
-kaunorpi_case kaunorpi_read_case(const uint8_t *file, size_t file_len, uint16_t *caps, size_t caps_len,
-                                 uint16_t *initial, size_t initial_len, uint8_t *pre, size_t pre_len, uint8_t *post,
-                                 size_t post_len, uint8_t *word, size_t word_len);
+kaunorpi_case kaunorpi_read_case(const uint8_t *file, size_t file_len, uint16_t *caps, size_t caps_len, uint8_t *marks,
+                                 size_t marks_len, uint16_t *initial, size_t initial_len, uint8_t *pre, size_t pre_len,
+                                 uint8_t *post, size_t post_len, uint8_t *word, size_t word_len);
 
 /* ---- A case file written back: a net, its initial marking and a word, into the bytes of a file. Each net, marking and
  * word has one file: kaunorpi_read_case reads from those bytes what was written, and of a file that it accepts the same
- * bytes are written again. Whether the word fires is not looked at. */
+ * bytes are written again. A mark that is not 0 is written as 1, and read as 1. Whether the word fires is not looked
+ * at. */
 
-/* the longest file there is: 64 places, 64 transitions and 65,535 letters, line feeds included */
-#define KAUNORPI_FILE_LIMIT 151371
+/* the longest file there is: 64 places, some of them pockets, 64 transitions and 65,535 letters, line feeds included */
+#define KAUNORPI_FILE_LIMIT 151390
 
 /* How many bytes the file has, so that a room of that length can be lent. Refusals 1 2 3 17 4 5.
  * 0x81 0: length.

@@ -6,7 +6,7 @@ count_words=(no one two three four five six seven eight nine ten eleven twelve)
 
 # in_words LINE CASE NAMES: the words of a verdict line about the file CASE. NAMES may be empty or not there.
 in_words() {
-    local LC_ALL=C line=$1 names=$3 frames=() rows=() place_names=() transition_names=() places=0 transitions=0
+    local LC_ALL=C line=$1 names=$3 frames=() rows=() place_names=() transition_names=() places=0 transitions=0 masks=0
     local kind=${1:0:4} number=0 at
     at=$((16#${line:4:8}))
     if [ "${line:0:2}" = 82 ]; then
@@ -17,6 +17,7 @@ in_words() {
     fi
     frames=("${rows[@]%$'\n'}")
     read_counts
+    [[ ${frames[2]-} != 06* ]] || [ $((number > 0 && at <= 3)) -eq 1 ] || masks=1
     case $kind in
         8100) read_names "$names"; say_fired "$at" "${line:12}" ;;
         8101 | 8102) read_names "$names"; say_blocked "$kind" "$at" $((16#${line:12:2})) ;;
@@ -30,13 +31,16 @@ read_counts() {
     places=$((16#${BASH_REMATCH[1]})) transitions=$((16#${BASH_REMATCH[2]}))
 }
 
+# Whether place $1 is a pocket: its bit in the line of kind 06, if the file has one. masks is how many stand before the tokens.
+is_pocket() { ((masks == 1 && ($(number_at 2 $((8 - $1 / 8)) 2) >> $1 % 8 & 1) == 1)); }
+
 count() { printf '%s' "${count_words[$1]-$1}"; }
 
 # The number of $3 digits at byte $2 of line $1; lines and bytes count from 0 here.
 number_at() { printf '%d' $((16#${frames[$1]:2 * $2:$3})); }
 
 # The transition of the event at position $1: 64 events stand on a line, after the line's kind.
-event_at() { number_at $((3 + transitions + $1 / 64)) $((1 + $1 % 64)) 2; }
+event_at() { number_at $((3 + masks + transitions + $1 / 64)) $((1 + $1 % 64)) 2; }
 
 # say_fired EVENTS TOKENS
 say_fired() {
@@ -55,13 +59,14 @@ say_fired() {
 
 # say_blocked KIND POSITION PLACE
 say_blocked() {
-    local t
+    local t pocket='' before=''
     t=$(event_at "$2")
     printf 'event %d (%s) cannot have happened: ' $(($2 + 1)) "${transition_names[t]}"
     if [ "$1" = 8101 ]; then
-        printf 'it takes %d from %s, which holds fewer. ' "$(number_at $((3 + t)) $((2 + $3)) 2)" "${place_names[$3]}"
+        printf 'it takes %d from %s, which holds fewer. ' "$(number_at $((3 + masks + t)) $((2 + $3)) 2)" "${place_names[$3]}"
     else
-        printf '%s would hold more than its capacity of %d. ' "${place_names[$3]}" "$(number_at 1 $((1 + 2 * $3)) 4)"
+        is_pocket "$3" && pocket=', a pocket,' before=' before anything leaves it'
+        printf '%s%s would hold more than its capacity of %d%s. ' "${place_names[$3]}" "$pocket" "$(number_at 1 $((1 + 2 * $3)) 4)" "$before"
     fi
     case $2 in
         0) printf 'No event stands before it.\n' ;;
@@ -93,7 +98,7 @@ cause_of_counts() { printf 'the line says %d places and %d transitions' "$places
 cause_of_tokens() {
     local p tokens capacity
     for ((p = 0; p < places; p++)); do
-        tokens=$(number_at 2 $((1 + 2 * p)) 4) capacity=$(number_at 1 $((1 + 2 * p)) 4)
+        tokens=$(number_at $((2 + masks)) $((1 + 2 * p)) 4) capacity=$(number_at 1 $((1 + 2 * p)) 4)
         if ((tokens == 65535)); then
             printf '%s is to start with FFFF, which stands for no number of tokens' "${place_names[p]}"
             return
@@ -109,14 +114,14 @@ cause_of_loose() {
     local p t row
     for ((p = 0; p < places; p++)); do
         for ((t = 0; t < transitions; t++)); do
-            row=${frames[3 + t]}
+            row=${frames[3 + masks + t]}
             [ "${row:4 + 2 * p:2}${row:4 + 2 * (places + p):2}" = 0000 ] || continue 2
         done
         printf 'no transition takes from %s or puts there' "${place_names[p]}"
         return
     done
     for ((t = 0; t < transitions; t++)); do
-        [[ ${frames[3 + t]:4} =~ ^0*$ ]] || continue
+        [[ ${frames[3 + masks + t]:4} =~ ^0*$ ]] || continue
         printf '%s takes nothing and puts nothing' "${transition_names[t]}"
         return
     done
@@ -128,7 +133,7 @@ cause_of_event() {
     for ((k = 0; k < events; k++)); do
         t=$(number_at $(($1 - 1)) $((1 + k)) 2)
         ((t >= transitions)) || continue
-        printf 'event %d is transition %d, and the model has transitions 0 to %d' $((($1 - 4 - transitions) * 64 + k + 1)) "$t" $((transitions - 1))
+        printf 'event %d is transition %d, and the model has transitions 0 to %d' $((($1 - 4 - masks - transitions) * 64 + k + 1)) "$t" $((transitions - 1))
         return
     done
 }
@@ -176,12 +181,14 @@ join_causes() {
     [ $# -eq 0 ] || printf '; also: %s' "$@"
 }
 
-# What belongs on line $1, by the lines before it, sets wanted (the kind) and size (its bytes; for events the most).
+# What belongs on line $1, by the lines before it, sets wanted (the kind) and size (its bytes; for events the most). Where a
+# line of kind 06 may stand, 03 is wanted.
 belongs() {
-    if [ "$1" -le 3 ]; then
-        wanted=0$1 size=$((1 + 2 * places))
-        [ "$1" -ne 1 ] || size=3
-    elif [ "$1" -le $((3 + transitions)) ]; then
+    local rank=$(($1 - masks))
+    if [ $rank -le 3 ]; then
+        wanted=0$rank size=$((1 + 2 * places))
+        [ $rank -ne 1 ] || size=3
+    elif [ $rank -le $((3 + transitions)) ]; then
         wanted=04 size=$((2 + 2 * places))
     else
         wanted=05 size=65
@@ -196,8 +203,10 @@ cause_of_frame() {
     if [ "$1" -gt ${#frames[@]} ]; then
         [ ${#frames[@]} -gt 0 ] && printf 'the file ends after line %d' ${#frames[@]} || printf 'the file is empty'
         printf ', and a line of kind %s has to follow' "$wanted"
-    elif [[ ${text:0:2} != 0[1-5] ]]; then
-        printf 'the kind of the line, %s, is none of 01 to 05' "${text:0:2}"
+    elif [[ ${text:0:2} != 0[1-6] ]]; then
+        printf 'the kind of the line, %s, is none of 01 to 06' "${text:0:2}"
+    elif [ "${text:0:2}" = 06 ]; then
+        cause_of_mask "$1" "$bytes"
     elif [ "${text:0:2}" != "$wanted" ]; then
         printf 'the kind of the line is %s, and a line of kind %s belongs there' "${text:0:2}" "$wanted"
     elif [ "$wanted" = 05 ]; then
@@ -205,7 +214,24 @@ cause_of_frame() {
     elif [ $bytes -ne "$size" ]; then
         printf 'the line has %d bytes, and %d belong there' $bytes "$size"
     else
-        printf 'the line is for transition %d, and transition %d belongs there' $((16#${text:2:2})) $(($1 - 4))
+        printf 'the line is for transition %d, and transition %d belongs there' $((16#${text:2:2})) $(($1 - masks - 4))
+    fi
+}
+
+# Why line $1, of kind 06 and $2 bytes, cannot stand where it does, or say what it says.
+cause_of_mask() {
+    local p
+    if [ "$1" -eq 4 ] && [ "$masks" -eq 1 ]; then
+        printf 'a line of kind 06 stands before it already'
+    elif [ "$1" -ne 3 ]; then
+        printf 'a line of kind 06 can only stand right after that of kind 02'
+    elif [ "$2" -ne 9 ]; then
+        printf 'the line has %d bytes, and 9 belong there' "$2"
+    elif [[ ${frames[2]:2} =~ ^0*$ ]]; then
+        printf 'the line makes no place a pocket, and is to be left out then'
+    else
+        for ((p = places; p < 63 && ($(number_at 2 $((8 - p / 8)) 2) >> p % 8 & 1) == 0; p++)); do :; done
+        printf 'the line makes place %d a pocket, and the model has places 0 to %d' $p $((places - 1))
     fi
 }
 

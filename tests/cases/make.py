@@ -1,5 +1,5 @@
 #!/usr/bin/env python3
-"""Case files and the line that each must answer, from document 01's "Case file lines", 02's E4 and DECISIONS 48 and 98.
+"""Case files and the line that each must answer, from document 01's "Case file lines", 02's E4 and E5 and DECISIONS 48 and 98.
 
   tests/cases/make.py          writes NAME.case and NAME.line beside itself
   tests/cases/make.py --check  says nothing where the files are those that it would write
@@ -38,6 +38,9 @@ def frame(want, net, piece, line):
         raise Refused(11, line)
     body = bytes.fromhex(piece.decode("ascii"))
     kind, rest = "%02X" % body[0], body[1:]
+    if kind == "06" and want == "03" and "marks" not in net:
+        net["marks"] = marks_of(rest, net["P"], line)
+        return "03"
     if kind != want:
         raise Refused(12, line)
     if kind == "01":
@@ -58,6 +61,7 @@ def frame(want, net, piece, line):
         if any(n == 65535 or n > c for n, c in zip(numbers, net["caps"])):
             raise Refused(3, line)
         net["initial"] = numbers
+        net.setdefault("marks", [0] * places)
         return "04"
     if kind == "04":
         if len(rest) != 1 + 2 * places or rest[0] != len(net["pre"]):
@@ -79,6 +83,15 @@ def frame(want, net, piece, line):
     return "05"
 
 
+def marks_of(rest, places, line):
+    """Document 02, E5: "A frame 06, eight bytes, place 0 the lowest bit of the last byte"; "A bit at or past P, or an all-zero
+    mask, is refusal 12"; "the file reader gives 1"."""
+    mask = int.from_bytes(rest, "big")
+    if len(rest) != 8 or mask == 0 or mask >> places:
+        raise Refused(12, line)
+    return [mask >> p & 1 for p in range(places)]
+
+
 def is_loose(net):
     """Document 02, E4: "some place or transition has no arc"; "in a file, on the line of the last transition"."""
     rows = [[a + b for a, b in zip(pre, post)] for pre, post in zip(net["pre"], net["post"])]
@@ -94,7 +107,8 @@ def replayed(net):
         if short:
             return "8101%08X%02X\n" % (at, short[0])
         after = [m - a + b for m, a, b in zip(marking, pre, post)]
-        over = [p for p in range(net["P"]) if net["caps"][p] != NONE and after[p] > net["caps"][p]]
+        level = [marking[p] + post[p] if net["marks"][p] else after[p] for p in range(net["P"])]  # E5: a pocket's "tokens plus Post"
+        over = [p for p in range(net["P"]) if net["caps"][p] != NONE and level[p] > net["caps"][p]]
         if over:
             return "8102%08X%02X\n" % (at, over[0])
         marking = after
@@ -111,8 +125,11 @@ def answer(data):
     return replayed(net)
 
 
-def lines_of(places, transitions, caps, initial, pre, post, word):
-    out = ["01%02X%02X" % (places, transitions), "02" + "".join("%04X" % c for c in caps), "03" + "".join("%04X" % m for m in initial)]
+def lines_of(places, transitions, caps, initial, pre, post, word, marks=()):
+    out = ["01%02X%02X" % (places, transitions), "02" + "".join("%04X" % c for c in caps)]
+    if any(marks):  # E5: "written only if some place is a pocket"
+        out.append("06%016X" % sum(1 << p for p, mark in enumerate(marks) if mark))
+    out.append("03" + "".join("%04X" % m for m in initial))
     for t in range(transitions):
         out.append("04%02X" % t + "".join("%02X" % b for b in list(pre[t]) + list(post[t])))
     for k in range(0, len(word), 64):
@@ -131,7 +148,7 @@ def word_case(word):
     return text(WHOLE[:6] + ["05" + "".join("%02X" % b for b in word[k:k + 64]) for k in range(0, len(word), 64)])
 
 
-def big(places, transitions, letters, rng):
+def big(places, transitions, letters, rng, marks=()):
     pre = [[0] * places for _ in range(transitions)]
     post = [[0] * places for _ in range(transitions)]
     for t in range(transitions):
@@ -139,7 +156,7 @@ def big(places, transitions, letters, rng):
     for p in range(transitions + 1, places):  # what no transition has reached yet
         post[0][p] = 1
     word = [t % transitions for t in range(letters)]
-    return text(lines_of(places, transitions, [NONE] * places, [1] + [0] * (places - 1), pre, post, word))
+    return text(lines_of(places, transitions, [NONE] * places, [1] + [0] * (places - 1), pre, post, word, marks))
 
 
 def wire(held):
@@ -201,6 +218,60 @@ def loose_cases():
     yield "wired-64", text(lines_of(64, 64, [NONE] * 64, [1] * 64, [[int(p == t) for p in range(64)] for t in range(64)], nothing, [0]))
 
 
+def mask_cases():
+    """Frame 06: where it may stand, what it may hold, and what it does."""
+    with_mask = lambda mask, tail=WHOLE[2:]: text(WHOLE[:2] + [mask] + tail)
+    good = "060000000000000004"
+    yield "mask-2", with_mask(good)
+    yield "mask-all", with_mask("060000000000000007")
+    yield "mask-uncapped", with_mask("060000000000000001")
+    for name, mask in (
+        ("zero", "060000000000000000"), ("past", "060000000000000008"), ("past-and-good", "06000000000000000C"), ("past-63", "068000000000000000"),
+        ("first-byte", "060400000000000000"), ("bare", "06"), ("short", "0600000000000004"), ("long", "06000000000000000400"),
+        ("long-in-front", "06000000000000000004"), ("longest", "06" + "00" * 128 + "04"), ("lower", "06000000000000000a"), ("odd", "06000000000000004"),
+    ):
+        yield "mask-" + name, with_mask(mask)
+    for k in range(8):
+        if k != 2:
+            yield "mask-before-line-%d" % (k + 1), text(WHOLE[:k] + [good] + WHOLE[k:])
+    yield "mask-twice", text(WHOLE[:2] + [good, good] + WHOLE[2:])
+    yield "mask-twice-another", text(WHOLE[:2] + [good, "060000000000000001"] + WHOLE[2:])
+    yield "mask-again-after-03", text(WHOLE[:2] + [good, WHOLE[2], good] + WHOLE[3:])
+    yield "mask-ends-the-file", text(WHOLE[:2] + [good])
+    yield "mask-no-feed", text(WHOLE[:2] + [good])[:-1]
+    yield "mask-zero-no-feed", text(WHOLE[:2] + ["060000000000000000"])[:-1]
+    # the lines after it have the next numbers
+    yield "mask-then-tokens", with_mask(good, ["03000100000006"] + WHOLE[3:])
+    yield "mask-then-index", with_mask(good, WHOLE[2:4] + ["0402000100010002"] + WHOLE[5:])
+    yield "mask-then-loose", with_mask(good, WHOLE[2:5] + ["0402000000000000"] + WHOLE[6:])
+    yield "mask-then-missing", with_mask(good, WHOLE[2:5])
+    yield "mask-then-letter", with_mask(good, WHOLE[2:6] + ["050003"])
+    yield "mask-then-no-word", with_mask(good, WHOLE[2:6])
+    # tokens of four places where a 06 may stand: eight bytes
+    four = lambda third: text(lines_of(4, 1, [9] * 4, [1] * 4, [[1] * 4], [[1] * 4], [0])).replace(b"\n03", b"\n" + third)
+    yield "mask-for-tokens", four(b"06")
+    yield "mask-then-tokens-4", four(b"06000000000000000F\n03")
+    yield "mask-64-place-63", big(64, 64, 70, None, [0] * 63 + [1])
+    yield "mask-64-place-56", big(64, 64, 70, None, [0] * 56 + [1] + [0] * 7)
+    yield "mask-64-place-7", big(64, 64, 70, None, [0] * 7 + [1] + [0] * 56)
+    yield "mask-64-all", big(64, 64, 65535, None, [1] * 64)
+    yield "mask-1", big(1, 1, 3, None, [1])
+    # what a pocket does: of one place, capacity, tokens, Pre, Post; and its mark
+    one = lambda cap, tokens, pre, post, mark, word: text(lines_of(1, len(pre), [cap], [tokens], [[a] for a in pre], [[b] for b in post], word, [mark]))
+    for name, cap, tokens, pre, post, word in (
+        ("full-loop", 1, 1, [1], [1], [0]), ("room-for-one", 2, 1, [1], [1], [0] * 3), ("fits", 5, 2, [2], [3], [0]), ("one-over", 4, 2, [2], [3], [0]),
+        ("post-alone-fits", 3, 2, [2], [3], [0]), ("short-first", 3, 1, [2], [3], [0]), ("only-takes", 1, 1, [1], [0], [0]), ("no-capacity", NONE, 65534, [255], [255], [0] * 3),
+        ("capacity-0", 0, 0, [0, 1], [1, 0], [0]), ("loop-0", 0, 0, [1], [1], [0]), ("takes-first", 2, 2, [1, 1], [0, 1], [1, 0, 1]), ("takes-then", 2, 2, [1, 1], [0, 1], [0, 1, 1]),
+        ("most", 65534, 65279, [255], [255], [0] * 2), ("most-over", 65534, 65280, [255], [255], [0] * 2),
+    ):
+        yield "pocket-" + name, one(cap, tokens, pre, post, 1, word)
+        yield "plain-" + name, one(cap, tokens, pre, post, 0, word)
+    # two places over, of which the higher is a pocket, the lower, both
+    for mask in range(1, 4):
+        yield "pocket-two-%d" % mask, text(lines_of(2, 1, [1, 1], [1, 1], [[1, 1]], [[1, 1]], [0], [mask & 1, mask >> 1]))
+    yield "pocket-then-short", text(lines_of(2, 1, [1, 9], [1, 0], [[1, 1]], [[1, 0]], [0], [1, 0]))
+
+
 def cases():
     yield "whole", text(WHOLE)
     # files that end too early: DECISIONS 98
@@ -217,7 +288,7 @@ def cases():
     for k in range(7):
         line = WHOLE[k]
         for name, new in (("lower", line[:-2] + "0a"), ("return", line + "\r"), ("blank", line + "  "), ("odd", line + "0"), ("empty", ""),
-                          ("nul", line[:-2] + "\0\0"), ("long", line + "00"), ("short", line[:-2]), ("kind", "06" + line[2:]), ("zero", "00" + line[2:]), ("colon", line[:-1] + ":"), ("at", line[:-1] + "@"), ("g", line[:-1] + "G"), ("slash", line[:-1] + "/")):
+                          ("nul", line[:-2] + "\0\0"), ("long", line + "00"), ("short", line[:-2]), ("kind", "07" + line[2:]), ("six", "06" + line[2:]), ("zero", "00" + line[2:]), ("colon", line[:-1] + ":"), ("at", line[:-1] + "@"), ("g", line[:-1] + "G"), ("slash", line[:-1] + "/")):
             yield "line%d-%s" % (k + 1, name), text(WHOLE[:k] + [new] + WHOLE[k + 1:])
         yield "line%d-twice" % (k + 1), text(WHOLE[:k] + [line, line] + WHOLE[k + 1:])
         yield "line%d-missing" % (k + 1), text(WHOLE[:k] + WHOLE[k + 1:])
@@ -271,6 +342,7 @@ def cases():
     yield "feeds", b"\n" * 5
     yield "high-bytes", b"\xff\xfe\n"
     yield from loose_cases()
+    yield from mask_cases()
     # blocks short and over on believable nets, by chance
     for k in range(30):
         p, t = rng.randint(1, 9), rng.randint(1, 6)
@@ -279,12 +351,24 @@ def cases():
         pre = [[rng.choice([0, 0, 1, 2]) for _ in range(p)] for _ in range(t)]
         post = [[rng.choice([0, 0, 1, 2, rng.choice([0, 255])]) for _ in range(p)] for _ in range(t)]
         word = [rng.randrange(t) for _ in range(rng.choice([0, 1, 5, 64, 100, 300]))]
-        wire({"P": p, "T": t, "caps": caps, "initial": initial, "pre": pre, "post": post, "word": word})
+        wire({"P": p, "T": t, "caps": caps, "marks": [0] * p, "initial": initial, "pre": pre, "post": post, "word": word})
         data = text(lines_of(p, t, caps, initial, pre, post, word))
         yield "chance-%02d" % k, data
         if k % 3 == 0:
             at = rng.randrange(len(data))
             yield "damaged-%02d" % k, data[:at] + bytes([rng.randrange(256)]) + data[at + 1:]
+    # the same with pockets, and with loops
+    for k in range(20):
+        p, t = rng.randint(1, 5), rng.randint(1, 4)
+        caps = [rng.choice([NONE, rng.randint(2, 6), rng.randint(4, 9)]) for _ in range(p)]
+        marks = [rng.choice([0, 1]) for _ in range(p)]
+        initial = [rng.randint(2, min(c, 6)) for c in caps]
+        pre = post = [[0]]
+        while is_loose({"pre": pre, "post": post}):
+            pre = [[rng.choice([0, 0, 1, 2]) for _ in range(p)] for _ in range(t)]
+            post = [[rng.choice([0, a, a, a + 1]) for a in row] for row in pre]
+        word = [rng.randrange(t) for _ in range(rng.choice([1, 5, 20]))]
+        yield "chance-pockets-%02d" % k, text(lines_of(p, t, caps, initial, pre, post, word, marks))
 
 
 def main():

@@ -32,7 +32,7 @@ SIDE(unread_rest)
 
 /* A lent piece as a pointer and a length; the net; the three lists of a summary. */
 #define LENT(piece) on_side(side, &in.piece), in.piece.count
-#define NET in.places, in.transitions, LENT(pre), LENT(post), LENT(caps)
+#define NET in.places, in.transitions, LENT(pre), LENT(post), LENT(caps), LENT(marks)
 #define SUMMARY(which) LENT(need[which]), LENT(climb[which]), LENT(change[which])
 
 /* A question whose answer has only kind, number and position. */
@@ -46,7 +46,7 @@ PLAIN(place_weighting, LENT(weights))
 PLAIN(transition_weighting, LENT(weights))
 PLAIN(siphon_set, LENT(set))
 PLAIN(trap_set, LENT(set))
-PLAIN(complement_net, LENT(initial), LENT(pre2), LENT(post2), LENT(caps2), LENT(initial2))
+PLAIN(complement_net, LENT(initial), LENT(pre2), LENT(post2), LENT(caps2), LENT(marks2), LENT(initial2))
 PLAIN(order_logs, LENT(initial), LENT(log[0]), LENT(log[1]), LENT(room), LENT(work))
 
 /* A question of replay. */
@@ -97,7 +97,7 @@ static struct given ask_complement_places(int side) {
 /* The case file. */
 static struct given ask_read_case(int side) {
     kaunorpi_case a =
-        side_read_case[side](LENT(file), LENT(caps2), LENT(initial2), LENT(pre2), LENT(post2), LENT(room));
+        side_read_case[side](LENT(file), LENT(caps2), LENT(marks2), LENT(initial2), LENT(pre2), LENT(post2), LENT(room));
     return (struct given){a.kind, a.number, {a.position, a.places, a.transitions, a.letters}, a.number};
 }
 
@@ -126,7 +126,8 @@ static struct given ask_unread_rest(int side) {
 /* The faults of what is lent. */
 #define F(fault) ((fault_set)1 << (fault))
 #define OF_LOOSE (F(LOOSE_PLACE) | F(LOOSE_TRANSITION))
-#define OF_NET (F(BAD_PLACES) | F(BAD_TRANSITIONS) | F(PRE_LENGTH) | F(POST_LENGTH) | F(CAPS_LENGTH) | OF_LOOSE)
+#define OF_NET \
+    (F(BAD_PLACES) | F(BAD_TRANSITIONS) | F(PRE_LENGTH) | F(POST_LENGTH) | F(CAPS_LENGTH) | F(MARKS_LENGTH) | OF_LOOSE)
 #define OF_MARKING (F(INITIAL_LENGTH) | F(INITIAL_FULL) | F(INITIAL_OVER))
 #define OF_WORD (F(LONG_WORD) | F(BAD_LETTER))
 #define OF_STRETCH (OF_WORD | F(BAD_START) | F(BAD_END))
@@ -142,10 +143,11 @@ static struct given ask_unread_rest(int side) {
 #define OF_COVER (F(LIST_LENGTH) | F(NO_MARKING) | F(MANY_MARKINGS))
 #define OF_CLOSED (OF_COVER | F(LIST_FULL) | F(LIST_OVER))
 #define OF_TARGET (F(TARGET_LENGTH) | F(TARGET_FULL))
-#define OF_NET_ROOMS (F(PRE2_LENGTH) | F(POST2_LENGTH) | F(CAPS2_LENGTH) | F(INITIAL2_LENGTH))
+#define OF_NET_ROOMS (F(PRE2_LENGTH) | F(POST2_LENGTH) | F(CAPS2_LENGTH) | F(MARKS2_LENGTH) | F(INITIAL2_LENGTH))
 #define OF_LINES (F(LINE_FEED) | F(LINE_EMPTY) | F(LINE_ODD) | F(LINE_LONG) | F(LINE_DIGIT))
 #define OF_FRAMES \
-    (F(FRAME_KIND) | F(FRAME_ORDER) | F(FRAME_LENGTH) | F(FRAME_INDEX) | F(FRAME_SHORT) | F(FRAME_MISSING))
+    (F(FRAME_KIND) | F(FRAME_ORDER) | F(FRAME_LENGTH) | F(FRAME_INDEX) | F(FRAME_SHORT) | F(FRAME_MISSING) | F(MASK_EMPTY) | \
+     F(MASK_PAST) | F(MASK_AGAIN) | F(MASK_ELSEWHERE))
 #define OF_FILE_NUMBERS \
     (F(FILE_PLACES) | F(FILE_TRANSITIONS) | F(FILE_FULL) | F(FILE_OVER) | F(FILE_LOOSE_PLACE) | F(FILE_LOOSE_TRANSITION) | \
      F(LONG_FILE) | F(FILE_LETTER))

@@ -30,9 +30,9 @@ struct lent {
  * the second one lent, 2 is a summary's room. A whole word is the stretch from 0 to its end. */
 struct input {
     size_t places, transitions;
-    struct lent pre, post, caps, initial, word, room, weights, set, list, target;
+    struct lent pre, post, caps, marks, initial, word, room, weights, set, list, target;
     struct lent need[3], climb[3], change[3];
-    struct lent pre2, post2, caps2, initial2, file, log[2], order, work;
+    struct lent pre2, post2, caps2, marks2, initial2, file, log[2], order, work;
     size_t summary_places[2], start, end, place, step;
     uint32_t letters[2];
 };
@@ -59,10 +59,10 @@ enum fault {
     /* 1 */
     BAD_PLACES, BAD_TRANSITIONS, BAD_FIRST_COUNT, BAD_SECOND_COUNT, FILE_PLACES, FILE_TRANSITIONS,
     /* 2 */
-    PRE_LENGTH, POST_LENGTH, CAPS_LENGTH, INITIAL_LENGTH, ROOM_LENGTH, WEIGHTS_LENGTH, SET_LENGTH, LIST_LENGTH,
-    TARGET_LENGTH, NEED_LENGTH, NEED_LENGTH_1, NEED_LENGTH_2, CLIMB_LENGTH, CLIMB_LENGTH_1, CLIMB_LENGTH_2,
-    CHANGE_LENGTH, CHANGE_LENGTH_1, CHANGE_LENGTH_2, PRE2_LENGTH, POST2_LENGTH, CAPS2_LENGTH, INITIAL2_LENGTH,
-    WORK_LENGTH, BAD_START, BAD_END, NOT_THE_NETS, NOT_THE_OTHERS,
+    PRE_LENGTH, POST_LENGTH, CAPS_LENGTH, MARKS_LENGTH, INITIAL_LENGTH, ROOM_LENGTH, WEIGHTS_LENGTH, SET_LENGTH,
+    LIST_LENGTH, TARGET_LENGTH, NEED_LENGTH, NEED_LENGTH_1, NEED_LENGTH_2, CLIMB_LENGTH, CLIMB_LENGTH_1, CLIMB_LENGTH_2,
+    CHANGE_LENGTH, CHANGE_LENGTH_1, CHANGE_LENGTH_2, PRE2_LENGTH, POST2_LENGTH, CAPS2_LENGTH, MARKS2_LENGTH,
+    INITIAL2_LENGTH, WORK_LENGTH, BAD_START, BAD_END, NOT_THE_NETS, NOT_THE_OTHERS,
     /* 3 */
     INITIAL_FULL, INITIAL_OVER, LIST_FULL, LIST_OVER, TARGET_FULL, FILE_FULL, FILE_OVER,
     /* 4 to 10, 13 and 14 */
@@ -71,7 +71,8 @@ enum fault {
     /* 11 */
     LINE_FEED, LINE_EMPTY, LINE_ODD, LINE_LONG, LINE_DIGIT,
     /* 12 */
-    FRAME_KIND, FRAME_ORDER, FRAME_LENGTH, FRAME_INDEX, FRAME_SHORT, FRAME_MISSING,
+    FRAME_KIND, FRAME_ORDER, FRAME_LENGTH, FRAME_INDEX, FRAME_SHORT, FRAME_MISSING, MASK_EMPTY, MASK_PAST, MASK_AGAIN,
+    MASK_ELSEWHERE,
     /* 15 */
     OVER_LOG, OVER_LOG_1,
     /* 16 */
@@ -105,6 +106,7 @@ int is_well_formed(size_t places, uint32_t letters, const uint32_t *need, const 
 void look_at_line(size_t line);
 int line_feed(void), line_empty(void), line_odd(void), line_long(void), line_digit(void);
 int frame_kind(void), frame_order(void), frame_length(void), frame_index(void), frame_short(void), frame_missing(void);
+int mask_empty(void), mask_past(void), mask_again(void), mask_elsewhere(void);
 int file_places(void), file_transitions(void), file_full(void), file_over(void);
 int file_loose_place(void), file_loose_transition(void);
 
@@ -136,9 +138,11 @@ int enabled_now(const int64_t *m, size_t t);
 void fire_now(int64_t *m, size_t t);
 int64_t change_now(size_t p, size_t t);
 uint16_t within(size_t p, uint16_t tokens);
+uint8_t draw_mark(size_t style);
+int is_pocket(size_t p);
 
 /* ---- complement.c */
-int has_capped_loop(void);
+int has_capped_loop(void), has_pocket_loop(void);
 
 /* ---- word.c */
 void draw_word(uint8_t *word, size_t length, size_t from);
@@ -150,13 +154,14 @@ size_t file_bytes(void);
 /* ---- file.c, damage.c */
 enum { MOST_LINES = 1200, MOST_FRAME = 140, MOST_BYTES = 1 << 18 };
 
-/* The frames of a case file before they become text, and the text. */
+/* The frames of a case file before they become text, and the text; `masks` is how many frames 06 it has. */
 struct case_file {
     uint8_t frames[MOST_LINES][MOST_FRAME], text[MOST_BYTES];
-    size_t sizes[MOST_LINES], lines, bytes, transitions;
+    size_t sizes[MOST_LINES], lines, bytes, places, transitions, masks;
 };
 extern struct case_file drawn_file;
 void add_frame(const uint8_t *bytes, size_t size);
+void draw_mask(uint8_t *frame);
 void damage_frames(void);
 void damage_text(void);
 

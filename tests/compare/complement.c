@@ -34,29 +34,34 @@ static void let_stay(size_t p) {
         pre[at] = post[at] = pre[at] > post[at] ? pre[at] : post[at];
 }
 
-/* Has the place a capacity, and does a transition change it? */
+/* Has the place a capacity, and is it a pocket, or does a transition change it? */
 static int has_complement(size_t p) {
     const uint16_t *caps = own(&in.caps);
-    return caps[p] != 65535 && (!lists_fit() || is_changed(p));
+    return caps[p] != 65535 && (is_pocket(p) || !lists_fit() || is_changed(p));
 }
 
-/* Is there a place with a capacity that only loops touch? */
-int has_capped_loop(void) {
+/* Is there a plain place, or a pocket, with a capacity, that only loops touch? */
+static int has_loop(int in_pocket) {
     const uint16_t *caps = own(&in.caps);
     for (size_t p = 0; p < in.places && p < in.caps.count; p++)
-        if (caps[p] != 65535 && !has_complement(p))
+        if (caps[p] != 65535 && is_pocket(p) == in_pocket && lists_fit() && !is_changed(p))
             return 1;
     return 0;
 }
 
+int has_capped_loop(void) { return has_loop(0); }
+int has_pocket_loop(void) { return has_loop(1); }
+
 /* A net that has 64 places together with those of its complement, or one or two fewer; more where that is planned. Now and then
- * further places have a capacity, and only loops. */
+ * further places have a capacity, are plain, and have only loops; and pockets have only loops too. */
 static void draw_net_at_limit(void) {
     size_t places = breaks(BAD_PLACES) ? faulty_count() : 33 + below(32), capped;
     int with_loops = chance(2);
     uint16_t *caps;
+    uint8_t *marks;
     draw_net_of(places, breaks(BAD_TRANSITIONS) ? faulty_count() : draw_count());
     caps = own(&in.caps);
+    marks = own(&in.marks);
     places = places < 64 ? places : 64;
     capped = 64 - places - (places < 63 ? below(3) : 0);
     if (breaks(MANY_PLACES) && places > 32)
@@ -66,9 +71,11 @@ static void draw_net_at_limit(void) {
         int only_loops = p < places && !has_capacity && with_loops && chance(2);
         caps[p] = has_capacity || only_loops ? (uint16_t)(chance(2) ? below(9) : below(65535)) : 65535;
         capped -= has_capacity ? 1 : 0;
-        if (has_capacity && lists_fit())
+        if (only_loops && is_pocket(p))
+            marks[p] = 0;
+        if (has_capacity && lists_fit() && !(is_pocket(p) && with_loops && chance(2)))
             let_change(p);
-        if (only_loops && lists_fit())
+        else if ((has_capacity || only_loops) && lists_fit())
             let_stay(p);
     }
 }
@@ -114,6 +121,7 @@ void make_complement(void) {
     lend_room(&in.pre2, 1, transitions * places);
     lend_room(&in.post2, 1, transitions * places);
     lend_room(&in.caps2, 2, places);
+    lend_room(&in.marks2, 1, places);
     lend_room(&in.initial2, 2, places);
     break_marking();
 }

@@ -28,6 +28,25 @@ static void strike_frame(size_t k) {
     f->lines--;
 }
 
+/* Puts a frame in before line k. */
+static void put_frame(size_t k, const uint8_t *bytes, size_t size) {
+    memmove(f->frames[k + 1], f->frames[k], (f->lines - k) * sizeof f->frames[0]);
+    memmove(f->sizes + k + 1, f->sizes + k, (f->lines - k) * sizeof f->sizes[0]);
+    memcpy(f->frames[k], bytes, size);
+    f->sizes[k] = size;
+    f->lines++;
+}
+
+/* Puts a frame 06 in where none may stand: right after another one, or elsewhere: often right after 03. */
+static void break_masks(void) {
+    uint8_t frame[9];
+    draw_mask(frame);
+    if (breaks(MASK_AGAIN) && f->masks > 0)
+        put_frame(3, chance(2) ? f->frames[2] : frame, 9);
+    if (breaks(MASK_ELSEWHERE))
+        put_frame(chance(3) ? below(2) : chance(2) ? 3 + f->masks : 3 + f->masks + below(f->lines - 2 - f->masks), frame, 9);
+}
+
 /* Is the last frame one of fewer letters than 64? */
 static int ends_short(void) {
     return f->frames[f->lines - 1][0] == 5 && f->sizes[f->lines - 1] < 65;
@@ -69,12 +88,15 @@ static void damage_any_frame(void) {
     }
 }
 
-/* A frame of a known kind where another is due: renamed, exchanged, or one more at the end. */
+/* A frame of a known kind but 06 where another is due: renamed, exchanged, or one more at the end. Where 06 stands, 03 could
+ * stand as well. */
 static void break_order(size_t k) {
     size_t other = below(f->lines);
     if (chance(3))
-        add_frame(f->frames[below(3)], f->sizes[0]);
-    else if (chance(2) && f->frames[k][0] != f->frames[other][0])
+        add_frame(f->frames[below(2)], f->sizes[0]);
+    else if (f->frames[k][0] == 6)
+        f->frames[k][0] = (uint8_t)(1 + (3 + below(4)) % 5);
+    else if (chance(2) && f->frames[k][0] != f->frames[other][0] && f->frames[other][0] != 6)
         swap_frames(k, other);
     else
         f->frames[k][0] = (uint8_t)(1 + (f->frames[k][0] + below(4)) % 5);
@@ -93,9 +115,9 @@ static void break_size(size_t k) {
 
 /* Breaks frames as planned: each of these alone is one fault of refusal 12. */
 void damage_frames(void) {
-    size_t k = any_line(), row = 3 + below(f->transitions);
+    size_t k = any_line(), row = 3 + f->masks + below(f->transitions);
     if (breaks(FRAME_KIND))
-        f->frames[k][0] = (uint8_t)(chance(3) ? 0 : chance(2) ? 6 : 6 + below(250));
+        f->frames[k][0] = (uint8_t)(chance(3) ? 0 : chance(2) ? 7 : 7 + below(249));
     if (breaks(FRAME_ORDER))
         break_order(k);
     if (breaks(FRAME_LENGTH))
@@ -107,12 +129,13 @@ void damage_frames(void) {
             add_letters(1 + below(63));
         add_letters(1 + below(64));
     }
+    break_masks();
     for (size_t times = wants(12) && !is_alone() && chance(2) ? 1 + below(2) : 0; times > 0 && f->lines > 1; times--)
         damage_any_frame();
     if (breaks(LINE_LONG))
         f->sizes[any_line()] = 131 + below(MOST_FRAME - 131);
     if (breaks(FRAME_MISSING))
-        f->lines = below(3 + f->transitions);
+        f->lines = below(3 + f->masks + f->transitions);
 }
 
 /* Puts a byte in. */

@@ -123,6 +123,73 @@ static int loose_before_letter(const struct given *g) { return refused(g, 17) &&
 static int capped_loop(const struct given *g) { return answered(g, 0) && has_capped_loop(); }
 static int capped_loop_full(const struct given *g) { return full_complement(g) && has_capped_loop(); }
 
+static int pocket_loop(const struct given *g) { return answered(g, 0) && has_pocket_loop(); }
+
+/* Has the net a pocket with, or without, a capacity? */
+static int has_pocket(int capped) {
+    const uint16_t *caps = own(&in.caps);
+    for (size_t p = 0; p < in.places && p < in.caps.count; p++)
+        if (is_pocket(p) && (caps[p] != 65535) == capped)
+            return 1;
+    return 0;
+}
+
+/* Is the last letter over at a pocket that would hold no more than its capacity once the letter's tokens have left it? */
+static int jams(const struct given *g) {
+    const uint32_t *room = on_side(REFERENCE, &in.room);
+    const uint16_t *caps = own(&in.caps);
+    const uint8_t *word = own(&in.word);
+    return answered(g, 2) && room[g->field[1]] + change_now(g->field[1], word[in.start + g->field[0]]) <= caps[g->field[1]];
+}
+
+/* Does a letter fire that takes from a pocket, and fills it exactly before it does? */
+static int just_fits(const struct given *g) {
+    const uint16_t *initial = own(&in.initial), *caps = own(&in.caps);
+    const uint8_t *pre = own(&in.pre), *post = own(&in.post), *word = own(&in.word);
+    int64_t m[64];
+    if (!answered(g, 0) || g->field[0] > 1000)
+        return 0;
+    for (size_t p = 0; p < in.places; p++)
+        m[p] = initial[p];
+    for (size_t i = in.start; i < in.end; i++) {
+        for (size_t p = 0, at = word[i] * in.places; p < in.places; p++, at++)
+            if (is_pocket(p) && caps[p] != 65535 && pre[at] > 0 && m[p] + post[at] == caps[p])
+                return 1;
+        fire_now(m, word[i]);
+    }
+    return 0;
+}
+
+/* The net as lent, but with all places plain. */
+#define OWN(piece) own(&in.piece), in.piece.count
+#define PLAIN_NET in.places, in.transitions, OWN(pre), OWN(post), OWN(caps), plain, in.places
+static const uint8_t plain[64];
+
+/* Would the list be answered otherwise if all places were plain? */
+static int marks_decide_list(const struct given *g) {
+    kaunorpi_list other;
+    if (g->kind == KAUNORPI_REFUSED || !has_pocket(1))
+        return 0;
+    other = reference_closed_list(PLAIN_NET, OWN(initial), OWN(list));
+    return other.number != g->number || other.position != g->field[0];
+}
+
+/* Would an order of the two logs fire if all places were plain, where none does? */
+static int marks_decide_order(const struct given *g) {
+    static uint8_t order[1024];
+    if (!answered(g, 1) || !has_pocket(1))
+        return 0;
+    return reference_table_order(PLAIN_NET, own(&in.initial), OWN(log[0]), OWN(log[1]), order);
+}
+
+/* Is place 63 a pocket, in what is lent, or in the file that is read? */
+static int last_pocket(const struct given *g) { return answered(g, 0) && in.places == 64 && is_pocket(63); }
+static int last_read(const struct given *g) {
+    return answered(g, 0) && g->field[1] == 64 && ((uint8_t *)on_side(REFERENCE, &in.marks2))[63] == 1;
+}
+static int pocket_uncapped(const struct given *g) { return answered(g, 0) && !has_pocket(1) && has_pocket(0); }
+static int full_pockets(const struct given *g) { return full_complement(g) && has_pocket_loop(); }
+
 /* The edges of loose nodes, for a question that is lent a net. */
 #define LOOSE(question) \
     {question, "the last place loose", last_loose, 0}, {question, "a place between loose", between_loose, 0}, \
@@ -203,6 +270,18 @@ static struct edge {
     {"complement_places", "the same with 64 places in all", capped_loop_full, 0},
     {"complement_net", "a capped place that only loops touch", capped_loop, 0},
     {"read_case", "a wrong letter after a loose net", loose_before_letter, 0},
+    {"replay_word", "a pocket over that a plain place would not be", jams, 0},
+    {"replay_stretch", "a pocket over that a plain place would not be", jams, 0},
+    {"replay_word", "a pocket exactly full before a letter's tokens leave it", just_fits, 0},
+    {"summary_word", "pockets, none with a capacity", pocket_uncapped, 0},
+    {"closed_list", "a list that is answered otherwise where all places are plain", marks_decide_list, 0},
+    {"order_logs", "no order where all places plain would have one", marks_decide_order, 0},
+    {"complement_places", "a capped pocket that only loops touch", pocket_loop, 0},
+    {"complement_places", "the same with 64 places in all", full_pockets, 0},
+    {"complement_net", "a capped pocket that only loops touch", pocket_loop, 0},
+    {"read_case", "place 63 a pocket", last_read, 0},
+    {"write_case", "place 63 a pocket", last_pocket, 0},
+    {"write_case", "pockets, none with a capacity", pocket_uncapped, 0},
     LOOSE("replay_word"),
     LOOSE("replay_stretch"),
     LOOSE("summary_word"),

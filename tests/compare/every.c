@@ -12,15 +12,20 @@ static const struct small_net {
     size_t places, transitions;
     uint8_t pre[12], post[12];
     uint16_t caps[4], initial[4];
+    uint8_t marks[4];
 } nets[] = {
     /* document 01's case */
-    {3, 3, {1, 0, 0, 0, 1, 0, 0, 0, 3}, {0, 1, 0, 1, 0, 2, 0, 0, 0}, {65535, 65535, 5}, {1, 0, 0}},
+    {3, 3, {1, 0, 0, 0, 1, 0, 0, 0, 3}, {0, 1, 0, 1, 0, 2, 0, 0, 0}, {65535, 65535, 5}, {1, 0, 0}, {0}},
     /* a buffer of two that one machine fills, another empties, and a third one looks at while it is full */
-    {1, 3, {0, 1, 2}, {1, 0, 2}, {2}, {1}},
+    {1, 3, {0, 1, 2}, {1, 0, 2}, {2}, {1}, {0}},
+    /* the same as a pocket of four, which can be looked at only while it holds two */
+    {1, 3, {0, 1, 2}, {1, 0, 2}, {4}, {1}, {255}},
     /* a tool that is taken, given back and used where it lies; parts are made with it in hand, up to three */
-    {3, 3, {1, 0, 0, 0, 1, 0, 1, 0, 0}, {0, 1, 0, 1, 0, 1, 1, 0, 0}, {65535, 1, 3}, {1, 0, 1}},
+    {3, 3, {1, 0, 0, 0, 1, 0, 1, 0, 0}, {0, 1, 0, 1, 0, 1, 1, 0, 0}, {65535, 1, 3}, {1, 0, 1}, {0}},
     /* two counters that each move against the other: every order ends in its own dead end */
-    {2, 3, {2, 0, 0, 1, 1, 1}, {0, 1, 1, 0, 1, 2}, {3, 2}, {2, 1}},
+    {2, 3, {2, 0, 0, 1, 1, 1}, {0, 1, 1, 0, 1, 2}, {3, 2}, {2, 1}, {0}},
+    /* the same, the second counter a pocket, and with more room */
+    {2, 3, {2, 0, 0, 1, 1, 1}, {0, 1, 1, 0, 1, 2}, {3, 3}, {2, 1}, {0, 2}},
 };
 
 /* Lends net, marking, logs, room and work space, the letters read off a number digit by digit. */
@@ -32,6 +37,7 @@ static void lend_all(const struct small_net *net, size_t first, size_t second, s
     memcpy(lend(&in.pre, 1, net->places * net->transitions), net->pre, net->places * net->transitions);
     memcpy(lend(&in.post, 1, net->places * net->transitions), net->post, net->places * net->transitions);
     memcpy(lend(&in.caps, 2, net->places), net->caps, 2 * net->places);
+    memcpy(lend(&in.marks, 1, net->places), net->marks, net->places);
     memcpy(lend(&in.initial, 2, net->places), net->initial, 2 * net->places);
     to[0] = lend(&in.log[0], 1, first);
     to[1] = lend(&in.log[1], 1, second);
@@ -43,7 +49,7 @@ static void lend_all(const struct small_net *net, size_t first, size_t second, s
 }
 
 #define LENT(piece) own(&in.piece), in.piece.count
-#define NET in.places, in.transitions, LENT(pre), LENT(post), LENT(caps)
+#define NET in.places, in.transitions, LENT(pre), LENT(post), LENT(caps), LENT(marks)
 
 /* Do the reference's two ways agree? */
 static int same_ways(void) {

@@ -23,7 +23,32 @@ static uint8_t faulty_byte(void) {
     return (uint8_t)(chance(3) ? 0 : chance(2) ? 65 : 65 + below(191));
 }
 
-/* Frames 01, 02, 03, with faulty counts and tokens where that is planned. */
+/* A frame 06 with some pockets, or with one: the first place, the last, or any. */
+void draw_mask(uint8_t *frame) {
+    size_t one = chance(3) ? 0 : chance(2) ? f->places - 1 : below(f->places), style = below(4);
+    memset(frame, 0, 9);
+    frame[0] = 6;
+    for (size_t p = 0; p < f->places; p++)
+        if (p == one || (style < 2 && chance(2 + style)))
+            frame[8 - p / 8] |= (uint8_t)(1u << p % 8);
+}
+
+/* Frame 06 in some of the files, and where something of it is to be wrong. */
+static void add_mask(void) {
+    uint8_t frame[9];
+    size_t past = f->places + (chance(3) ? 0 : below(64 - f->places + (f->places == 64)));
+    if (!chance(3) && !breaks(MASK_EMPTY) && !breaks(MASK_PAST) && !breaks(MASK_AGAIN))
+        return;
+    draw_mask(frame);
+    if (breaks(MASK_EMPTY))
+        memset(frame + 1, 0, 8);
+    if (breaks(MASK_PAST) && past < 64)
+        frame[8 - past / 8] |= (uint8_t)(1u << past % 8);
+    add_frame(frame, 9);
+    f->masks = 1;
+}
+
+/* Frames 01, 02, 03, with faulty counts and tokens where that is planned; 06 now and then. */
 static void add_head(size_t places, size_t transitions) {
     uint8_t counts[3] = {1, (uint8_t)places, (uint8_t)transitions}, caps[129] = {2}, tokens[129] = {3};
     size_t full = breaks(FILE_FULL) ? below(places) : places, over = breaks(FILE_OVER) ? below(places) : places;
@@ -46,6 +71,7 @@ static void add_head(size_t places, size_t transitions) {
         counts[2] = faulty_byte();
     add_frame(counts, 3);
     add_frame(caps, 1 + 2 * places);
+    add_mask();
     add_frame(tokens, 1 + 2 * places);
 }
 
@@ -116,9 +142,11 @@ static size_t draw_letter_count(void) {
 static void draw_text(void) {
     size_t places = draw_count();
     f->transitions = draw_count();
+    places -= breaks(MASK_PAST) && places == 64;
     places += is_alone() && breaks(FILE_LOOSE_PLACE) && places == 1;
     f->transitions += is_alone() && breaks(FILE_LOOSE_TRANSITION) && f->transitions == 1;
-    f->lines = 0;
+    f->lines = f->masks = 0;
+    f->places = places;
     add_head(places, f->transitions);
     add_rows(places, f->transitions);
     add_all_letters(f->transitions, draw_letter_count());
@@ -131,7 +159,7 @@ static void draw_text(void) {
     }
 }
 
-/* The file and the five rooms. */
+/* The file and the six rooms. */
 void make_case(void) {
     uint8_t *file;
     draw_text();
@@ -139,6 +167,7 @@ void make_case(void) {
     fill_random(file, in.file.count);
     memcpy(file, f->text, in.file.count < f->bytes ? in.file.count : f->bytes);
     lend_room(&in.caps2, 2, 64);
+    lend_room(&in.marks2, 1, 64);
     lend_room(&in.initial2, 2, 64);
     lend_room(&in.pre2, 1, 4096);
     lend_room(&in.post2, 1, 4096);

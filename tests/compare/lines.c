@@ -49,10 +49,23 @@ static size_t number_of(const struct line *line, size_t p) {
     return byte_of(line, 1 + 2 * p) * 256 + byte_of(line, 2 + 2 * p);
 }
 
+/* Is there a frame 06 before the line? The lines before it are right, so it is line 3. */
+static size_t is_masked(void) {
+    struct line third = line_of(3);
+    return number > 3 && byte_of(&third, 0) == 6;
+}
+
+/* The number that the line would have without a frame 06. */
+static size_t rank(void) { return number - is_masked(); }
+
 /* The kind that the line must have. */
 static size_t due(void) {
-    return number <= 3 ? number : number - 3 <= count_of(2) ? 4 : 5;
+    return rank() <= 3 ? rank() : rank() - 3 <= count_of(2) ? 4 : 5;
 }
+
+/* Is it a frame 06? And does it stand right after 02, as the first? */
+static int is_mask(void) { return here.at != NULL && byte_of(&here, 0) == 6; }
+static int is_mask_due(void) { return is_mask() && number == 3; }
 
 /* Takes the line that was refused. */
 void look_at_line(size_t line) {
@@ -73,16 +86,18 @@ int line_digit(void) {
     return 0;
 }
 
-/* Is the frame's kind none of the five? */
+/* Is the frame's kind none of the six? */
 int frame_kind(void) {
-    return here.at != NULL && (byte_of(&here, 0) < 1 || byte_of(&here, 0) > 5);
+    return here.at != NULL && (byte_of(&here, 0) < 1 || byte_of(&here, 0) > 6);
 }
 
-int frame_order(void) { return here.at != NULL && !frame_kind() && byte_of(&here, 0) != due(); }
+int frame_order(void) { return here.at != NULL && !frame_kind() && !is_mask() && byte_of(&here, 0) != due(); }
 
 /* Is the frame of the kind that is due, but of another length? */
 int frame_length(void) {
     size_t size = here.size / 2, places = number > 1 ? count_of(1) : 0, kind = due();
+    if (is_mask_due())
+        return size != 9;
     if (here.at == NULL || byte_of(&here, 0) != kind)
         return 0;
     if (kind == 5)
@@ -92,7 +107,7 @@ int frame_length(void) {
 
 /* Has the row of a transition another number than is due? One that is too short to have a number has none. */
 int frame_index(void) {
-    return here.size >= 4 && due() == 4 && byte_of(&here, 0) == 4 && byte_of(&here, 1) != number - 4;
+    return here.size >= 4 && due() == 4 && byte_of(&here, 0) == 4 && byte_of(&here, 1) != rank() - 4;
 }
 
 /* Do letters follow a frame that is not full? */
@@ -103,6 +118,20 @@ int frame_short(void) {
 
 int frame_missing(void) { return here.at == NULL; }
 
+int mask_again(void) { return is_mask() && is_masked() && number == 4; }
+int mask_elsewhere(void) { return is_mask() && !is_mask_due() && !mask_again(); }
+
+/* How many bits of a frame 06 stand for places from this one up to that one; place 0 is the lowest of the last byte. */
+static size_t bits_between(size_t from, size_t to) {
+    size_t count = 0;
+    for (size_t p = from; p < to; p++)
+        count += byte_of(&here, 8 - p / 8) >> p % 8 & 1;
+    return count;
+}
+
+int mask_empty(void) { return is_mask_due() && here.size == 18 && bits_between(0, 64) == 0; }
+int mask_past(void) { return is_mask_due() && here.size == 18 && bits_between(count_of(1), 64) > 0; }
+
 int file_places(void) { return byte_of(&here, 1) < 1 || byte_of(&here, 1) > 64; }
 int file_transitions(void) { return byte_of(&here, 2) < 1 || byte_of(&here, 2) > 64; }
 
@@ -111,7 +140,7 @@ static size_t loose_in_file(int transitions) {
     static uint8_t pre[4096], post[4096];
     struct weights net = {count_of(1), count_of(2), pre, post};
     for (size_t t = 0; t < net.transitions; t++) {
-        struct line row = line_of(4 + t);
+        struct line row = line_of(4 + is_masked() + t);
         for (size_t p = 0; p < net.places; p++) {
             pre[t * net.places + p] = (uint8_t)byte_of(&row, 2 + p);
             post[t * net.places + p] = (uint8_t)byte_of(&row, 2 + net.places + p);

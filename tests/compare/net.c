@@ -51,11 +51,25 @@ static uint16_t draw_cap(size_t style) {
     return style == 1 ? (uint16_t)below(8) : edges[below(7)];
 }
 
+/* A mark in the style drawn for the net: plain, or a pocket now and then, often, always; all marks but 0 are alike. */
+uint8_t draw_mark(size_t style) {
+    static const uint8_t pockets[] = {1, 1, 2, 128, 255};
+    if (style < 3 || (style == 3 && !chance(3)) || (style == 4 && chance(2)))
+        return 0;
+    return pockets[below(sizeof pockets)];
+}
+
+/* Is the place a pocket? */
+int is_pocket(size_t p) {
+    const uint8_t *marks = own(&in.marks);
+    return p < in.marks.count && marks[p] != 0;
+}
+
 /* A wired net of these counts; its lists fit them unless another length is planned. Where one kind of nodes alone is to be
  * loose, it has two of them: else the others would be loose too. */
 void draw_net_of(size_t places, size_t transitions) {
-    size_t p, t, style = below(7), cap_style = below(4);
-    uint8_t *pre, *post;
+    size_t p, t, style = below(7), cap_style = below(4), mark_style = below(6);
+    uint8_t *pre, *post, *marks;
     uint16_t *caps;
     in.places = places + (is_alone() && breaks(LOOSE_PLACE) && places == 1);
     in.transitions = transitions + (is_alone() && breaks(LOOSE_TRANSITION) && transitions == 1);
@@ -64,6 +78,7 @@ void draw_net_of(size_t places, size_t transitions) {
     pre = lend(&in.pre, 1, p * t);
     post = lend(&in.post, 1, p * t);
     caps = lend(&in.caps, 2, p);
+    marks = lend(&in.marks, 1, p);
     for (size_t i = 0; i < in.pre.count || i < in.post.count; i++) {
         uint8_t takes, puts;
         draw_arc(style, &takes, &puts);
@@ -75,6 +90,8 @@ void draw_net_of(size_t places, size_t transitions) {
     wire_net(0);
     for (size_t i = 0; i < in.caps.count; i++)
         caps[i] = draw_cap(cap_style);
+    for (size_t i = 0; i < in.marks.count; i++)
+        marks[i] = draw_mark(mark_style);
 }
 
 /* A net with counts by chance. */
@@ -158,11 +175,13 @@ int64_t change_now(size_t p, size_t t) {
 
 /* Is t enabled at m in the net as drawn? */
 int enabled_now(const int64_t *m, size_t t) {
-    const uint8_t *pre = own(&in.pre);
+    const uint8_t *pre = own(&in.pre), *post = own(&in.post);
     const uint16_t *caps = own(&in.caps);
-    for (size_t p = 0; p < in.places; p++)
-        if (pre[t * in.places + p] > m[p] || (caps[p] != 65535 && m[p] + change_now(p, t) > caps[p]))
+    for (size_t p = 0; p < in.places; p++) {
+        int64_t more = is_pocket(p) ? post[t * in.places + p] : change_now(p, t);
+        if (pre[t * in.places + p] > m[p] || (caps[p] != 65535 && m[p] + more > caps[p]))
             return 0;
+    }
     return 1;
 }
 
@@ -176,5 +195,5 @@ void fire_now(int64_t *m, size_t t) {
 int is_whole(void) {
     return in.places >= 1 && in.places <= 64 && in.transitions >= 1 && in.transitions <= 64 &&
            in.pre.count == in.places * in.transitions && in.post.count == in.pre.count && in.caps.count == in.places &&
-           in.initial.count == in.places;
+           in.marks.count == in.places && in.initial.count == in.places;
 }

@@ -11,20 +11,22 @@ struct drawn {
 
 /* The summary of a word of a small net of its own. */
 static void draw_from_word(struct drawn *s, size_t places) {
-    uint8_t pre[64 * 3], post[64 * 3], word[40];
+    uint8_t pre[64 * 3], post[64 * 3], word[40], marks[64];
     uint16_t caps[64] = {0};
     struct weights net = {places, 3, pre, post};
-    size_t length = below(41), most = chance(3) ? 256 : 4;
+    size_t length = below(41), most = chance(3) ? 256 : 4, mark_style = below(6);
     for (size_t i = 0; i < places * 3; i++) {
         pre[i] = (uint8_t)below(most);
         post[i] = (uint8_t)below(most);
     }
     wire(&net, 0);
+    for (size_t p = 0; p < places; p++)
+        marks[p] = draw_mark(mark_style);
     for (size_t i = 0; i < length; i++)
         word[i] = (uint8_t)below(3);
     s->letters = (uint32_t)length;
-    reference_summary_word(places, 3, pre, places * 3, post, places * 3, caps, places, word, length, s->need, 64,
-                           s->climb, 64, s->change, 64);
+    reference_summary_word(places, 3, pre, places * 3, post, places * 3, caps, places, marks, places, word, length, s->need,
+                           64, s->climb, 64, s->change, 64);
 }
 
 /* A number from 0 to most, often one of the two. */
@@ -143,7 +145,8 @@ static void draw_from_net(struct drawn *s) {
     kaunorpi_summary made;
     draw_word(word, length, 0);
     made = reference_summary_word(in.places, in.transitions, own(&in.pre), in.pre.count, own(&in.post), in.post.count,
-                                  own(&in.caps), in.caps.count, word, length, s->need, 64, s->climb, 64, s->change, 64);
+                                  own(&in.caps), in.caps.count, own(&in.marks), in.marks.count, word, length, s->need, 64,
+                                  s->climb, 64, s->change, 64);
     s->letters = made.letters;
 }
 

@@ -1,11 +1,14 @@
 /* The inputs of writing a case file: net, marking and word, and rooms about as long as the file. */
 #include "compare.h"
 
-/* How many bytes the file of what is lent has: the lines 01, 02 and 03, a line for each transition, and the letters. */
+/* How many bytes the file of what is lent has: the lines 01, 02 and 03, 06 if a place is a pocket, a line for each transition,
+ * and the letters. */
 size_t file_bytes(void) {
     size_t p = in.places < 80 ? in.places : 80, t = in.transitions < 80 ? in.transitions : 80;
-    size_t letters = in.word.count, lines = letters / 64 + (letters % 64 > 0);
-    return 7 + 2 * (4 * p + 3) + t * (4 * p + 5) + 2 * letters + 3 * lines;
+    size_t letters = in.word.count, lines = letters / 64 + (letters % 64 > 0), pockets = 0;
+    for (size_t k = 0; k < p; k++)
+        pockets += (size_t)is_pocket(k);
+    return 7 + 2 * (4 * p + 3) + (pockets > 0 ? 19 : 0) + t * (4 * p + 5) + 2 * letters + 3 * lines;
 }
 
 /* How many letters: few, or about as many as fill a line, two or three; now and then about the limit, and over it where that

@@ -12,11 +12,11 @@ import sys
 from pathlib import Path
 
 sys.path.insert(0, str(Path(__file__).resolve().parents[1] / "cases"))
-from make import WHOLE, Refused, big, judge, loose_cases, text
+from make import WHOLE, Refused, big, judge, loose_cases, mask_cases, text
 
 from shared.calls import call, group, heading, quoted
 
-SIZES = {"caps": 64, "initial": 64, "pre": 4096, "post": 4096, "word": 65535}
+SIZES = {"caps": 64, "marks": 64, "initial": 64, "pre": 4096, "post": 4096, "word": 65535}
 
 
 def flat(rows):
@@ -56,7 +56,7 @@ def rooms():
         read(11 + 3 * k, f"{name} one too short", text(WHOLE), {name: size - 1})
         read(12 + 3 * k, f"{name} one too long", text(WHOLE), {name: size + 1})
         read(13 + 3 * k, f"no room for {name}", text(WHOLE), {name: 0})
-    read(26, "a room too short, and an empty file", b"", {"caps": 63})
+    read(29, "a room too short, and an empty file", b"", {"caps": 63})
 
 
 def digits():
@@ -91,7 +91,7 @@ def faults():
     read(61, "tokens exactly at capacity", text(WHOLE[:2] + ["03000100000005"] + WHOLE[3:]))
     read(62, "tokens above capacity", text(WHOLE[:2] + ["03000100000006"] + WHOLE[3:]))
     read(63, "the index of a transition", text(WHOLE[:4] + ["0402000100010002"] + WHOLE[5:]))
-    read(64, "an unknown kind", text(WHOLE[:6] + ["060001000102"]))
+    read(64, "an unknown kind", text(WHOLE[:6] + ["070001000102"]))
     read(65, "a lower-case digit", text([WHOLE[0], "02ffffFFFF0005"] + WHOLE[2:]))
 
 
@@ -102,6 +102,14 @@ def loose_nodes():
     read(141, "17 and rooms of another length: 2", dict(loose_cases())["loose-all"], {"pre": 4095})
 
 
+def masks():
+    group("frame 06, the marks: 1 and 0 in their room, zeros where there is no such frame; the files of tests/cases of that name")
+    for k, (name, data) in enumerate(mask_cases()):
+        if name.startswith("mask-"):
+            read(201 + k, name, data)
+    read(291, "a file that is refused, and a room for marks too short", dict(mask_cases())["mask-zero"], {"marks": 63})
+
+
 whole()
 rooms()
 digits()
@@ -109,3 +117,4 @@ counts()
 words()
 faults()
 loose_nodes()
+masks()

@@ -3,7 +3,7 @@
 
     python3 tests/edges/closed.py > tests/edges/closed.calls
 
-Written from document 01 alone, without the library's code: markings are tuples of unbounded numbers, a list is a set of them
+Written from document 01 and 02's E4 and E5 alone, without the library's code: markings are tuples of unbounded numbers, a list is a set of them
 with its order beside it, and every rule is spelled out as 01 words it (refusals and the search in shared/lists.py). Answers:
 129 0 (accepted, never reached, never stalls), 129 1 (initial missing), 129 2 marking transition, 129 3 (not shown), or 130
 refusal position.
@@ -18,7 +18,8 @@ def fired(net, m, t):
     takes, puts = net.arcs(t)
     after = tuple(m[p] + puts[p] - takes[p] for p in range(net.P))
     for p in range(net.P):
-        if takes[p] > m[p] or (net.caps[p] != NONE and after[p] > net.caps[p]):
+        level = m[p] + puts[p] if net.marks[p] else after[p]  # of a pocket "tokens plus Post must keep to the capacity"
+        if takes[p] > m[p] or (net.caps[p] != NONE and level > net.caps[p]):
             return None
     return after
 
@@ -42,8 +43,8 @@ def line(case, net, initial, flat, target=None, stall=False):
 ALL = [x for a, b in ((1, 0), (0, 1)) for c in range(6) for x in (a, b, c)]
 
 
-def one(case, takes, puts, cap, tokens, flat, stall=False):
-    line(case, one_place(takes, puts, cap), [tokens], flat, stall=stall)
+def one(case, takes, puts, cap, tokens, flat, stall=False, mark=0):
+    line(case, one_place(takes, puts, cap, mark), [tokens], flat, stall=stall)
 
 
 def counted(case, P, T, arcs, flat):
@@ -157,6 +158,38 @@ def long_lists():
     one(76, 0, 1, 4095, 0, counting[:4097])
 
 
+def pockets():
+    group("pockets: of each case .1 is plain, the others are pockets, all alike")
+    for k, (edge, takes, puts, cap, tokens, flat, stall) in enumerate([
+        ("a result that a pocket keeps out need not be listed", 1, 2, 2, 1, [1], False),
+        ("tokens plus Post exactly at capacity: it must be", 1, 2, 3, 1, [1], False),
+        ("and its own result need not", 1, 2, 3, 1, [1, 2], False),
+        ("without a capacity it must", 1, 2, NONE, 1, [1], False),
+        ("a loop at a full pocket is not enabled: not shown", 1, 1, 2, 2, [2], True),
+        ("with room for one more it is", 1, 1, 3, 2, [2], True),
+        ("with no capacity it is", 1, 1, NONE, 2, [2], True),
+    ]):
+        heading(edge)
+        for n, mark in enumerate([0, 1, 2, 255], 1):
+            one(f"{301 + k}.{n}", takes, puts, cap, tokens, flat, stall, mark)
+    group("01's case with a transition that looks at place 2: lists of all twelve markings, with (1,0,5) and (0,1,5) struck out")
+    looks = lambda marks: Net(3, 4, SAMPLE.pre + [0, 0, 4], SAMPLE.post + [0, 0, 4], SAMPLE.caps, marks)
+    for k, marks in enumerate([[0, 0, 0], [0, 0, 1], [1, 1, 0], [255, 2, 1]]):
+        heading(f"marks {marks}")
+        line(f"{321 + k}.1", looks(marks), START, ALL)
+        line(f"{321 + k}.2", looks(marks), START, ALL, [0, 1, 5])
+        line(f"{321 + k}.3", looks(marks), START, ALL, stall=True)
+        line(f"{321 + k}.4", looks(marks), START, ALL[:33])
+    group("marks of another length: 2, after 1 and before 3")
+    for k, marks in enumerate([[], [0, 0], [0] * 4]):
+        net = Net(3, 3, SAMPLE.pre, SAMPLE.post, SAMPLE.caps, marks)
+        line(f"{331 + k}.1", net, START, ALL)
+        line(f"{331 + k}.2", net, START, ALL, [0, 1, 5])
+        line(f"{331 + k}.3", net, START, ALL, stall=True)
+        line(f"{331 + k}.4", net, [1, 0, 6], ALL)
+        line(f"{331 + k}.5", Net(3, 65, [1] * 195, [1] * 195, SAMPLE.caps, marks), START, ALL)
+
+
 def loose_nodes():
     group("nodes without an arc: refusal 17; then nets that hang together by one arc")
     for k, (edge, P, T, pre, post) in enumerate(LOOSE + WIRED):
@@ -196,3 +229,4 @@ stalls()
 results()
 long_lists()
 loose_nodes()
+pockets()

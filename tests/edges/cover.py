@@ -131,6 +131,22 @@ def long_lists():
     one(54, 1, 0, 5, 9, [9] * 4097)
 
 
+def pockets():
+    group("pockets change nothing: of each case .1 is plain, .2 and .3 are pockets")
+    for n, mark in enumerate([0, 1, 255], 1):
+        line(f"301.{n}", one_place(1, 2, 2, mark), [1], [1])
+        line(f"302.{n}", one_place(1, 2, 2, mark), [1], [65535])
+        line(f"303.{n}", one_place(1, 1, 2, mark), [2], [2])
+        line(f"304.{n}", one_place(1, 1, 2, mark), [2], [2], [3])
+        line(f"305.{n}", Net(3, 3, SAMPLE.pre, SAMPLE.post, SAMPLE.caps, [mark] * 3), START, COVER, [1, 1, 0])
+    group("marks of another length: 2, before 3")
+    for k, marks in enumerate([[], [0, 0], [0] * 4]):
+        net = Net(3, 3, SAMPLE.pre, SAMPLE.post, SAMPLE.caps, marks)
+        line(f"{331 + k}.1", net, START, COVER)
+        line(f"{331 + k}.2", net, START, COVER, [1, 1, 0])
+        line(f"{331 + k}.3", net, [1, 0, 6], COVER)
+
+
 def loose_nodes():
     group("nodes without an arc: refusal 17; then nets that hang together by one arc")
     for k, (edge, P, T, pre, post) in enumerate(LOOSE + WIRED):
@@ -163,3 +179,4 @@ refusals()
 results()
 long_lists()
 loose_nodes()
+pockets()

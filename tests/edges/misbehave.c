@@ -6,7 +6,7 @@ kaunorpi_replay kaunorpi_replay_word(KAUNORPI_NET, const uint16_t *initial, size
                                      size_t word_len, uint32_t *room, size_t room_len) {
     kaunorpi_replay answer = {KAUNORPI_ANSWERED, 0, 0, 0};
     uint8_t *front = (uint8_t *)room, *behind = (uint8_t *)(room + room_len);
-    (void)transitions, (void)post, (void)post_len, (void)initial, (void)initial_len, (void)caps_len;
+    (void)transitions, (void)post, (void)post_len, (void)initial, (void)initial_len, (void)caps_len, (void)marks, (void)marks_len;
     switch (places) {
     case 1: /* writes before a room */
         front[-1] ^= 1;

@@ -12,22 +12,23 @@ rest_fault 129 0, 130 refusal 0; unread_rest 129 0 0 log start length, 130 refus
 from functools import cache
 from itertools import product
 
-from shared.calls import HUGE, LOOSE, NONE, WIRED, call, group, heading, loose, net as lent_net
+from shared.calls import HUGE, LOOSE, NONE, WIRED, all_plain, call, group, heading, loose, net as lent_net
 
 WORK = 65536
 
 
-def fired(P, pre, post, caps, m, t):
+def fired(P, pre, post, caps, marks, m, t):
     """The marking after t, or None where it is not enabled."""
     takes, puts = pre[t * P : (t + 1) * P], post[t * P : (t + 1) * P]
     after = tuple(m[p] + puts[p] - takes[p] for p in range(P))
-    over = any(caps[p] != NONE and after[p] > caps[p] for p in range(P))
+    level = [m[p] + puts[p] if marks[p] else after[p] for p in range(P)]  # of a pocket "tokens plus Post" (E5)
+    over = any(caps[p] != NONE and level[p] > caps[p] for p in range(P))
     return None if over or any(takes[p] > m[p] for p in range(P)) else after
 
 
-def order_of(P, T, pre, post, caps, initial, first, second):
+def order_of(P, T, pre, post, caps, initial, marks, first, second):
     """The order to be given, or None."""
-    fire = cache(lambda m, t: fired(P, pre, post, caps, m, t))
+    fire = cache(lambda m, t: fired(P, pre, post, caps, marks, m, t))
     led = {(0, 0): (b"", tuple(initial))}
     for _ in range(len(first) + len(second)):
         further = {}
@@ -45,10 +46,10 @@ def long_refusal(first, second):
     return (4, 0) if longest > 65535 else (15, 0) if longest > 255 else None
 
 
-def refusal(P, T, pre, post, caps, initial, first, second, room, work):
+def refusal(P, T, pre, post, caps, initial, marks, first, second, room, work):
     if P not in range(1, 65) or T not in range(1, 65):
         return 1, 0
-    if [len(pre), len(post), len(caps), len(initial)] != [P * T, P * T, P, P]:
+    if [len(pre), len(post), len(caps), len(marks), len(initial)] != [P * T, P * T, P, P, P]:
         return 2, 0
     if len(room) != len(first) + len(second) or len(work) != WORK:
         return 2, 0
@@ -61,15 +62,16 @@ def refusal(P, T, pre, post, caps, initial, first, second, room, work):
     return long_refusal(first, second) or ((5, wrong[0]) if wrong else None)
 
 
-def ask(case, edge, net, first, second, room=None, work=None):
-    """The order of two logs, with a room of this length, and a work space that holds this."""
+def ask(case, edge, net, first, second, room=None, work=None, marks=None):
+    """The order of two logs, with a room of this length, a work space that holds this, and these marks."""
     if edge:
         heading(edge)
     room = [7] * (len(first) + len(second) if room is None else room)
     work = [9] * WORK if work is None else work
-    lent = {**lent_net(*net[:5]), "initial": net[5], "first": first, "second": second, "room": room, "work": work}
-    refused = refusal(*net, first, second, room, work)
-    order = None if refused else order_of(*net, first, second)
+    marks = all_plain(net[0]) if marks is None else marks
+    lent = {**lent_net(*net[:5], marks), "initial": net[5], "first": first, "second": second, "room": room, "work": work}
+    refused = refusal(*net, marks, first, second, room, work)
+    order = None if refused else order_of(*net, marks, first, second)
     answer = [130, *refused] if refused else [129, 1 if order is None else 0]
     left = {"room": room if order is None else order, "work": work if refused else [0] * WORK}
     call(case, "order_logs", lent, answer, left)
@@ -241,6 +243,32 @@ def two_refusals():
     refuse(387, "15 and 5: letter 255 of the second log", 15, TOKEN, [FREE], [FREE] * 255 + [5])
 
 
+def pockets():
+    group("pockets: of each case .1 is plain, the others are pockets, all alike")
+    belt = 1, 2, [1, 1], [1, 0], [1], [1]  # 0: a board comes while one leaves; 1: a board leaves
+    room = 1, 3, [1, 1, 0], [1, 0, 1], [2], [2]  # and 2: a board comes
+    for n, mark in enumerate([0, 1, 2, 255], 1):
+        passes = mark == 0
+        ask(f"551.{n}", "a loop at a full place: none at a pocket" if n == 1 else "", belt, [0], [], marks=[mark])
+        ask(f"552.{n}", "a board has to leave first" if n == 1 else "", room, [0, 0], [1], marks=[mark])
+        ask(f"553.{n}", "and comes back: the order that is given has to wait" if n == 1 else "", room, [0, 2], [1], marks=[mark])
+        ask(f"554.{n}", "without a capacity a pocket is plain" if n == 1 else "", (*belt[:4], [NONE], [1]), [0], [1], marks=[mark])
+        ask(f"555.{n}", "every order jams" if n == 1 else "", (*belt[:5], [1]), [0], [0, 1], marks=[mark])
+        assert (ask(f"556.{n}", "255 letters each" if n == 1 else "", room, [0] * 255, [0] * 255, marks=[mark]) is not None) == passes
+    group("a pocket beside a plain place")
+    for k, marks in enumerate([[0, 0], [1, 0], [0, 1], [1, 1]]):
+        pair = 2, 3, [1, 1, 1, 0, 0, 1], [1, 1, 0, 0, 0, 0], [1, 1], [1, 1]
+        ask(f"{561 + k}", f"marks {marks}", pair, [0, 1], [2], marks=marks)
+        ask(f"{561 + k}.1", "", (*pair[:4], [2, 2], [2, 2]), [0, 1], [2, 0], marks=marks)
+    group("marks of another length: 2, after 1, before 3, 17 and 4")
+    for k, marks in enumerate([[], [0], [0] * 3]):
+        refuse(571 + k, f"{len(marks)} marks of two places", 2, TOKEN, [FREE], [FREE], marks=marks)
+    refuse(574, "2 and 3", 2, (*TOKEN[:5], [2, 0]), [FREE], [FREE], marks=[0])
+    refuse(575, "2 and 17", 2, (1, 1, [0], [0], [4], [0]), [0], [0], marks=[])
+    refuse(576, "2 and 4", 2, TOKEN, [FREE] * 65536, [], marks=[0] * 3)
+    refuse(577, "1 and 2", 1, (0, *TOKEN[1:]), [FREE], [FREE], marks=[0])
+
+
 def loose_nodes():
     group("nodes without an arc: refusal 17; then nets that hang together by one arc")
     for k, (edge, P, T, pre, post) in enumerate(LOOSE):
@@ -329,3 +357,4 @@ two_refusals()
 rests()
 rest_refusals()
 loose_nodes()
+pockets()

@@ -3,21 +3,21 @@
 
     python3 tests/edges/replay.py > tests/edges/replay.calls
 
-Written from document 01 alone, without the library's code: the nets are dictionaries from (place, transition) to a
-weight, the numbers are unbounded, and every rule is spelled out as 01 words it. Answers: 129 0 letters fired; 129 1
+Written from document 01 and 02's E4 and E5 alone, without the library's code: the nets are dictionaries from (place,
+transition) to a weight, the numbers are unbounded, and every rule is spelled out as they word it. Answers: 129 0 letters fired; 129 1
 position place, short; 129 2 position place, over; 130 refusal position. The room holds 7s at entry.
 """
 
-from shared.calls import HUGE, LOOSE, NONE, WIRED, call, group, heading, loose, net
+from shared.calls import HUGE, LOOSE, NONE, WIRED, all_plain, call, group, heading, loose, net
 
 
-def refusal(P, T, pre, post, caps, initial, word, stretch, room):
+def refusal(P, T, pre, post, caps, marks, initial, word, stretch, room):
     """The first refusal in order, 17 after 3, as (number, position), or None. `stretch` is None for a whole word."""
     # 1: a place or transition count outside 1..64
     if not (1 <= P <= 64 and 1 <= T <= 64):
         return 1, 0
     # 2: a lent list's or room's length disagrees with the counts, or a stretch ends before its start or past its word
-    if [len(pre), len(post), len(caps), len(initial), len(room)] != [P * T, P * T, P, P, P]:
+    if [len(pre), len(post), len(caps), len(marks), len(initial), len(room)] != [P * T, P * T, P, P, P, P]:
         return 2, 0
     if stretch is not None:
         start, end = stretch
@@ -40,9 +40,9 @@ def refusal(P, T, pre, post, caps, initial, word, stretch, room):
     return None
 
 
-def replay(P, T, pre, post, caps, initial, word, stretch, room):
+def replay(P, T, pre, post, caps, marks, initial, word, stretch, room):
     """The answer's numbers, and the room afterwards."""
-    refused = refusal(P, T, pre, post, caps, initial, word, stretch, room)
+    refused = refusal(P, T, pre, post, caps, marks, initial, word, stretch, room)
     if refused is not None:
         return [130, *refused], room  # "A refusal leaves lent memory as found."
     if stretch is not None:
@@ -53,8 +53,9 @@ def replay(P, T, pre, post, caps, initial, word, stretch, room):
     m = dict(enumerate(initial))
     for position, t in enumerate(word):
         after = {p: m[p] + Post[p, t] - Pre[p, t] for p in m}
+        level = {p: m[p] + Post[p, t] if marks[p] else after[p] for p in m}  # of a pocket "tokens plus Post must keep to the capacity"
         short = {p for p in m if not Pre[p, t] <= m[p]}
-        over = {p for p in capacity if not after[p] <= capacity[p]}
+        over = {p for p in capacity if not level[p] <= capacity[p]}
         if short:  # "If any place is short, the lowest short place is named; else the lowest place over."
             return [129, 1, position, min(short)], list(m.values())
         if over:
@@ -63,12 +64,14 @@ def replay(P, T, pre, post, caps, initial, word, stretch, room):
     return [129, 0, len(word)], list(m.values())
 
 
-def say(case, edge, P, T, pre, post, caps, initial, word, stretch=None, room=None):
+def say(case, edge, P, T, pre, post, caps, initial, word, stretch=None, room=None, marks=None):
     """A case's line, and above it which edge it is."""
-    heading(edge)
+    if edge:
+        heading(edge)
     found = [7] * (P if room is None else room)
-    numbers, left = replay(P, T, pre, post, caps, initial, word, stretch, found)
-    lent = {**net(P, T, pre, post, caps), "initial": initial, "word": word}
+    marks = all_plain(P) if marks is None else marks
+    numbers, left = replay(P, T, pre, post, caps, marks, initial, word, stretch, found)
+    lent = {**net(P, T, pre, post, caps, marks), "initial": initial, "word": word}
     if stretch is not None:
         lent["start"], lent["end"] = stretch
     question = "replay_word" if stretch is None else "replay_stretch"
@@ -233,6 +236,47 @@ def lengths():
         say(case, edge, 2, 2, [1] * pre, [2] * post, [9] * caps, [4] * initial, [0, 1], room=room)
 
 
+def pockets():
+    group("pockets: of each case .1 is plain, the others are pockets, all alike")
+    for k, (edge, takes, puts, cap, tokens, word) in enumerate([
+        ("a loop on a full place", 1, 1, 1, 1, [0]),
+        ("a loop with room for one more", 1, 1, 2, 1, [0, 0, 0]),
+        ("tokens plus Post exactly at capacity", 2, 3, 5, 2, [0]),
+        ("one above", 2, 3, 4, 2, [0]),
+        ("Post alone would keep to it", 2, 3, 3, 2, [0]),
+        ("the second letter is over", 1, 2, 4, 1, [0, 0, 0]),
+        ("short and over: short", 2, 3, 3, 1, [0]),
+        ("only taken from", 2, 0, 3, 3, [0]),
+        ("only put into, exactly at capacity", 0, 2, 5, 3, [0]),
+        ("only put into, one above", 0, 2, 4, 3, [0]),
+        ("capacity 0, a loop", 1, 1, 0, 0, [0]),
+        ("the largest capacity and weights, exactly", 255, 255, 65534, 65279, [0, 0]),
+        ("one above", 255, 255, 65534, 65280, [0, 0]),
+        ("no capacity: as a plain place", 255, 255, NONE, 65534, [0, 0]),
+        ("no capacity, past 65,535", 1, 255, NONE, 65534, [0, 0]),
+    ]):
+        for n, mark in enumerate([0, 1, 2, 128, 255], 1):
+            say(f"{301 + k}.{n}", edge if n == 1 else "", 1, 1, [takes], [puts], [cap], [tokens], word, marks=[mark])
+    group("pockets beside plain places: which is named, and that all the others are looked at as what they are")
+    full = 3, 1, [1, 1, 1], [1, 1, 1], [2, 2, 2], [2, 2, 2], [0]
+    for k, marks in enumerate([[0, 0, 0], [1, 0, 0], [0, 255, 0], [0, 0, 2], [0, 1, 1], [1, 1, 1]]):
+        say(321 + k, f"full places, marks {marks}", *full, marks=marks)
+        say(f"{321 + k}.1", "", *full, (0, 1), marks=marks)
+    say(331, "short at the last place, though a pocket is over", 2, 1, [1, 1], [1, 0], [1, 9], [1, 0], [0], marks=[1, 0])
+    say(332, "a plain place over, and a pocket with a higher number", 2, 1, [0, 1], [1, 1], [1, 1], [1, 1], [0], marks=[0, 1])
+    say(333, "the capped pocket is over, the uncapped one is not", 2, 1, [1, 1], [1, 1], [NONE, 4], [65534, 4], [0], marks=[1, 1])
+    say(334, "64 places, the last a full pocket", 64, 1, [1] * 64, [1] * 64, [9] * 64, [9] * 64, [0], marks=[0] * 63 + [1])
+    say(335, "a pocket that is freed first", 1, 2, [1, 1], [0, 1], [2], [2], [0, 1, 1], marks=[1])
+    say(336, "and one that is not", 1, 2, [1, 1], [0, 1], [2], [2], [1, 0, 1], marks=[1])
+    say(337, "tokens above the capacity of a pocket: 3", *full[:5], [2, 2, 3], [0], marks=[0, 0, 1])
+    group("marks of another length: 2, before 3 and after 1")
+    for k, marks in enumerate([[], [0], [1], [0] * 3, [0] * 4]):
+        say(341 + k, f"{len(marks)} marks of two places", 2, 2, [1] * 4, [2] * 4, [9, 9], [4, 4], [0, 1], marks=marks)
+    say(346, "2 and 3", 1, 1, [1], [1], [4], [5], [0], marks=[])
+    say(347, "1 and 2", 1, 65, [1] * 65, [1] * 65, [4], [0], [0], marks=[0, 0])
+    say(348, "2 for a stretch", 1, 1, [1], [1], [4], [0], [0], (0, 1), marks=[0, 0])
+
+
 LONG = [0] * 65537 + [9]  # 65,538 letters, the last of which is wrong on every net below
 
 
@@ -323,3 +367,4 @@ if __name__ == "__main__":
     pairs()
     long_words()
     loose_nodes()
+    pockets()

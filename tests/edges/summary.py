@@ -3,15 +3,15 @@
 
     python3 tests/edges/summary.py > tests/edges/summary.calls
 
-Written from document 01 alone, without the library's code: the numbers are unbounded, need and climb are the largest over
-all letters and prefixes, each taken anew from 01's words. Answers: 129 0 made or yes, a summary with its places and letters;
+Written from document 01 and 02's E4 and E5 alone, without the library's code: the numbers are unbounded, need and climb are the
+largest over all letters and prefixes, each taken anew from their words. Answers: 129 0 made or yes, a summary with its places and letters;
 129 1 no; 130 refusal position. Rooms hold 7s at entry. Where a case joins or asks what other calls made, those stand before
 it, as .1 and .2 of its number.
 """
 
 from itertools import accumulate
 
-from shared.calls import HUGE, LOOSE, NONE, WIRED, call, group, heading, loose, net
+from shared.calls import HUGE, LOOSE, NONE, WIRED, all_plain, call, group, heading, loose, net
 
 
 class Summary:
@@ -26,11 +26,12 @@ def bad_count(n):
     return not 1 <= n <= 64
 
 
-def summarise(P, T, pre, post, caps, word, stretch=None):
+def summarise(P, T, pre, post, caps, word, stretch=None, marks=None):
     """(refusal or None, summary)"""
+    marks = all_plain(P) if marks is None else marks
     if bad_count(P) or bad_count(T):
         return (1, 0), NOTHING
-    if [len(pre), len(post), len(caps)] != [P * T, P * T, P]:
+    if [len(pre), len(post), len(caps), len(marks)] != [P * T, P * T, P, P]:
         return (2, 0), NOTHING
     if stretch is not None:
         start, end = stretch
@@ -50,7 +51,10 @@ def summarise(P, T, pre, post, caps, word, stretch=None):
         Change = [post[t * P + p] - pre[t * P + p] for t in word]
         changes = list(accumulate(Change, initial=0))  # change of each prefix, the empty one first
         need = max([0] + [a - u for a, u in zip(Pre, changes)])
-        slots.append((need, max(changes), changes[-1]))
+        climb = max(changes)
+        if marks[p] and caps[p] != NONE:  # "the largest of 0 and, for each letter, the change before it plus its Post"
+            climb = max([0] + [u + post[t * P + p] for t, u in zip(word, changes)])
+        slots.append((need, climb, changes[-1]))
     return None, Summary(P, len(word), slots)
 
 
@@ -88,11 +92,11 @@ def join(a, b):
     return None, Summary(a.places, a.letters + b.letters, slots)
 
 
-def ask(P, T, pre, post, caps, marking, s, room):
+def ask(P, T, pre, post, caps, marks, marking, s, room):
     """(answer numbers, room)"""
     if bad_count(P) or bad_count(T) or bad_count(s.places):
         return [130, 1, 0], room
-    if [len(pre), len(post), len(caps), len(marking), len(room), s.places] != [P * T, P * T, P, P, P, P]:
+    if [len(pre), len(post), len(caps), len(marks), len(marking), len(room), s.places] != [P * T, P * T, P, P, P, P, P]:
         return [130, 2, 0], room
     for p in range(P):
         if marking[p] == 65535 or marking[p] > caps[p]:
@@ -136,9 +140,14 @@ def made_empty(case, P):
     return made(case, "empty_summary", {"places": P}, empty(P))
 
 
-def made_word(case, P, T, pre, post, caps, word):
-    lent = {**net(P, T, pre, post, caps), "word": word}
-    return made(case, "summary_word", lent, summarise(P, T, pre, post, caps, word))
+def made_word(case, P, T, pre, post, caps, word, marks=None):
+    lent = {**net(P, T, pre, post, caps, marks), "word": word}
+    return made(case, "summary_word", lent, summarise(P, T, pre, post, caps, word, None, marks))
+
+
+def made_stretch(case, P, T, pre, post, caps, word, start, end, marks=None):
+    lent = {**net(P, T, pre, post, caps, marks), "word": word, "start": start, "end": end}
+    return made(case, "summary_stretch", lent, summarise(P, T, pre, post, caps, word, (start, end), marks))
 
 
 SAMPLE = 3, 3, [1, 0, 0, 0, 1, 0, 0, 0, 3], [0, 1, 0, 1, 0, 2, 0, 0, 0], [NONE, NONE, 5]
@@ -149,18 +158,17 @@ def sample(case, word):
 
 
 def sample_stretch(case, word, start, end):
-    lent = {**net(*SAMPLE), "word": word, "start": start, "end": end}
-    return made(case, "summary_stretch", lent, summarise(*SAMPLE, word, (start, end)))
+    return made_stretch(case, *SAMPLE, word, start, end)
 
 
 def joined(case, a, b):
     return made(case, "join_summaries", {**whole(a, "first_"), **whole(b, "second_")}, join(a, b))
 
 
-def asked(case, s, P, T, pre, post, caps, marking, space):
+def asked(case, s, P, T, pre, post, caps, marking, space, marks=None):
     room = [7] * space
-    answer, left = ask(P, T, pre, post, caps, marking, s, room)
-    lent = {**net(P, T, pre, post, caps), "marking": marking, "summary_places": s.places, "summary_letters": s.letters}
+    answer, left = ask(P, T, pre, post, caps, all_plain(P) if marks is None else marks, marking, s, room)
+    lent = {**net(P, T, pre, post, caps, marks), "marking": marking, "summary_places": s.places, "summary_letters": s.letters}
     lent = {**lent, **lists(s), "room": room}
     call(case, "ask_summary", lent, answer, {"room": left})
 
@@ -318,6 +326,50 @@ def rooms():
         asked(case, odd(1, 1, 0, 1, 2, 2), P, T, [1], [3], [4], [tokens], space)
 
 
+def pockets():
+    group("pockets: of each case .1 is plain, the others are pockets, all alike; then asked where it just fires, and where it jams")
+    for k, (edge, takes, puts, cap, word) in enumerate([
+        ("a loop climbs by its Post, and by nothing as a plain place", 1, 1, 4, [0]),
+        ("three loops climb no further", 2, 2, 4, [0] * 3),
+        ("more put than taken", 2, 5, 99, [0] * 3),
+        ("more taken than put", 5, 2, 99, [0] * 3),
+        ("only taken from", 5, 0, 99, [0] * 3),
+        ("no letter", 1, 1, 4, []),
+        ("the most that a word climbs", 255, 255, 65534, [0] * 65535),
+        ("capacity 0", 1, 1, 0, [0]),
+        ("no capacity: as a plain place", 2, 5, NONE, [0] * 3),
+        ("no capacity, a loop: no climb", 1, 1, NONE, [0]),
+    ]):
+        heading(edge)
+        for n, mark in enumerate([0, 1, 2, 255], 1):
+            s = made_word(f"{301 + k}.{n}", 1, 1, [takes], [puts], [cap], word, [mark])
+            need, climb, _ = s.slots[0]
+            for more in range(2):
+                if cap != NONE and 0 <= cap - climb + more <= cap:
+                    asked(f"{301 + k}.{10 * n + more}", s, 1, 1, [takes], [puts], [cap], [cap - climb + more], 1, [mark])
+    group("pockets beside plain places, with and without a capacity")
+    mixed = 4, 2, [1, 1, 1, 1, 2, 2, 0, 0], [1, 1, 1, 1, 0, 0, 3, 3], [9, 9, 9, NONE]
+    for k, marks in enumerate([[0, 0, 0, 0], [1, 0, 1, 1], [0, 1, 0, 255], [2, 2, 2, 2]]):
+        heading(f"marks {marks}")
+        first = made_word(f"{321 + k}.1", *mixed, [0, 1], marks)
+        second = made_stretch(f"{321 + k}.2", *mixed, [1, 1, 0, 0, 1], 1, 4, marks)
+        joined(f"{321 + k}.3", first, second)
+        whole_word = made_word(f"{321 + k}.4", *mixed, [0, 1, 1, 0, 0], marks)
+        assert whole_word.slots == join(first, second)[1].slots, "a word's summary is that of its parts joined"
+        for n, marking in enumerate([[5, 5, 3, 7], [8, 5, 3, 7], [9, 5, 3, 7], [5, 9, 3, 7], [5, 5, 2, 7], [5, 5, 3, 65534]]):
+            asked(f"{321 + k}.{n + 5}", whole_word, *mixed, marking, 4, marks)
+    group("marks of another length: 2, after 1, before 17 and 3")
+    for k, marks in enumerate([[], [0], [0] * 3]):
+        heading(f"{len(marks)} marks of two places")
+        two = 2, 1, [1, 1], [1, 1], [9, 9]
+        made_word(f"{331 + k}.1", *two, [0], marks)
+        made_stretch(f"{331 + k}.2", *two, [0], 0, 1, marks)
+        asked(f"{331 + k}.3", odd(2, 1, 0, 1, 0, 0), *two, [1, 1], 2, marks)
+        asked(f"{331 + k}.4", odd(2, 1, 0, 1, 0, 0), *two, [10, 1], 2, marks)
+        made_word(f"{331 + k}.5", 2, 1, [1, 0], [1, 0], [9, 9], [0], marks)
+        made_word(f"{331 + k}.6", 2, 65, [1] * 130, [1] * 130, [9, 9], [0], marks)
+
+
 def loose_nodes():
     group("nodes without an arc: refusal 17; then nets that hang together by one arc")
     for k, (edge, P, T, pre, post) in enumerate(LOOSE + WIRED):
@@ -399,3 +451,4 @@ rooms()
 list_lengths()
 long_words()
 loose_nodes()
+pockets()

@@ -17,7 +17,7 @@ class Refused(Exception):
 
 
 def check_net(P, T, pre, post, caps, *lengths):
-    """Refusals 1 and 2; `lengths` pairs each further list with the length it should have."""
+    """Refusals 1 and 2 but for marks; `lengths` pairs each further list with the length it should have."""
     if not (1 <= P <= 64 and 1 <= T <= 64):
         raise Refused(1, 0)
     for lent, n in [(pre, P * T), (post, P * T), (caps, P), *lengths]:
@@ -122,12 +122,14 @@ LENT = {
 }
 
 
-def case(number, ask, P, T, pre, post, caps, *lent):
+def case(number, ask, P, T, pre, post, caps, *lent, marks=None):
     try:
         answer = ask(P, T, pre, post, caps, *lent)
     except Refused as refused:
         answer = [130, *refused.args]
-    call(number, ask.__name__, {**net(P, T, pre, post, caps), **dict(zip(LENT[ask], lent))}, answer)
+    if marks is not None and len(marks) != P and answer[:2] != [130, 1]:
+        answer = [130, 2]  # marks are looked at for their length alone
+    call(number, ask.__name__, {**net(P, T, pre, post, caps, marks), **dict(zip(LENT[ask], lent))}, answer)
 
 
 # the net of 01's case
@@ -309,14 +311,30 @@ def refusals():
     faulty_set(146, 1, 2, [1, 0], [1, 1], [7])
 
 
-def loose_nodes():
-    def all_questions(number, P, T, pre, post, caps, initial, y, x, lent, place):
-        case(f"{number}.1", place_weighting, P, T, pre, post, caps, y)
-        case(f"{number}.2", transition_weighting, P, T, pre, post, caps, x)
-        case(f"{number}.3", place_bound, P, T, pre, post, caps, initial, y, place)
-        case(f"{number}.4", siphon_set, P, T, pre, post, caps, lent)
-        case(f"{number}.5", trap_set, P, T, pre, post, caps, lent)
+def all_questions(number, P, T, pre, post, caps, initial, y, x, lent, place, marks=None):
+    case(f"{number}.1", place_weighting, P, T, pre, post, caps, y, marks=marks)
+    case(f"{number}.2", transition_weighting, P, T, pre, post, caps, x, marks=marks)
+    case(f"{number}.3", place_bound, P, T, pre, post, caps, initial, y, place, marks=marks)
+    case(f"{number}.4", siphon_set, P, T, pre, post, caps, lent, marks=marks)
+    case(f"{number}.5", trap_set, P, T, pre, post, caps, lent, marks=marks)
 
+
+def pockets():
+    group("pockets change nothing")
+    loop = 2, 2, [1, 1, 1, 0], [1, 1, 0, 1], [3, 3], [3, 3], [1, 1], [1, 0], [1, 0], 0
+    for k, marks in enumerate([[0, 0], [1, 0], [0, 255], [2, 2]]):
+        heading(f"marks {marks}")
+        all_questions(301 + k, *loop, marks=marks)
+    group("marks of another length: 2, after 1, before 3, 17 and 8")
+    for k, marks in enumerate([[], [0], [0] * 3]):
+        heading(f"{len(marks)} marks of two places")
+        all_questions(311 + k, *loop, marks=marks)
+        all_questions(321 + k, *loop[:5], [4, 4], [0, 0], [0, 0], [0, 0], 2, marks=marks)
+        all_questions(331 + k, 2, 2, [0] * 4, [0] * 4, *loop[4:], marks=marks)
+        all_questions(341 + k, 2, 65, *loop[2:], marks=marks)
+
+
+def loose_nodes():
     group("nodes without an arc: refusal 17; then nets that hang together by one arc")
     for k, (edge, P, T, pre, post) in enumerate(LOOSE + WIRED):
         heading(edge)
@@ -342,3 +360,4 @@ bounds()
 extremes()
 refusals()
 loose_nodes()
+pockets()

@@ -14,13 +14,15 @@ from pathlib import Path
 sys.path.insert(0, str(Path(__file__).resolve().parents[1] / "cases"))
 from make import lines_of, text
 
-from shared.calls import HUGE, LOOSE, NONE, WIRED, call, group, heading, loose, net as lent_net, quoted
+from shared.calls import HUGE, LOOSE, NONE, WIRED, all_plain, call, group, heading, loose, net as lent_net, quoted
+
+LIMIT = 151390  # the longest file
 
 
-def refusal(P, T, pre, post, caps, initial, word):
+def refusal(P, T, pre, post, caps, initial, word, marks):
     if P not in range(1, 65) or T not in range(1, 65):
         return 1, 0
-    if len(pre) != P * T or len(post) != P * T or len(caps) != P or len(initial) != P:
+    if len(pre) != P * T or len(post) != P * T or len(caps) != P or len(marks) != P or len(initial) != P:
         return 2, 0
     bad = [p for p in range(P) if initial[p] == 65535 or (caps[p] != NONE and initial[p] > caps[p])]
     if bad:
@@ -33,9 +35,9 @@ def refusal(P, T, pre, post, caps, initial, word):
     return (5, min(wrong)) if wrong else None
 
 
-def file_of(P, T, pre, post, caps, initial, word):
+def file_of(P, T, pre, post, caps, initial, word, marks=()):
     rows = lambda flat: [flat[t * P : (t + 1) * P] for t in range(T)]
-    return text(lines_of(P, T, caps, initial, rows(pre), rows(post), word))
+    return text(lines_of(P, T, caps, initial, rows(pre), rows(post), word, marks))
 
 
 def left(file, room):
@@ -43,11 +45,11 @@ def left(file, room):
     return quoted(file) + (f",7*{room - len(file)}" if room > len(file) else "")
 
 
-def ask(case, edge, P, T, pre, post, caps, initial, word, rooms):
+def ask(case, edge, P, T, pre, post, caps, initial, word, rooms, marks=None):
     """How long the file is, and the file into rooms of these lengths."""
     heading(edge)
-    asked = P, T, pre, post, caps, initial, word
-    lent = {**lent_net(P, T, pre, post, caps), "initial": initial, "word": word}
+    asked = P, T, pre, post, caps, initial, word, all_plain(P) if marks is None else marks
+    lent = {**lent_net(P, T, pre, post, caps, marks), "initial": initial, "word": word}
     refused = refusal(*asked)
     file = b"" if refused else file_of(*asked)
     call(f"{case}.1", "case_length", lent, [130, *refused] if refused else [129, 0, 0, len(file)])
@@ -58,16 +60,17 @@ def ask(case, edge, P, T, pre, post, caps, initial, word, rooms):
         call(f"{case}.{k}", "write_case", {**lent, "room": found}, answer, {"room": found if short else left(file, room)})
 
 
-def write(case, edge, *asked):
-    """A file, into rooms exactly long enough, one longer, one short, and empty."""
-    exact = len(file_of(*asked))
-    ask(case, edge, *asked, [exact, exact + 1, exact - 1, 0])
+def write(case, edge, *asked, marks=()):
+    """A file, into rooms exactly long enough, one longer, one short, and empty; its length."""
+    exact = len(file_of(*asked, marks))
+    ask(case, edge, *asked, [exact, exact + 1, exact - 1, 0], marks=marks or None)
+    return exact
 
 
-def refuse(case, edge, *asked, room=200):
+def refuse(case, edge, *asked, room=200, marks=None):
     """A refusal, with a room that would do, and with one that would not."""
-    assert refusal(*asked), edge
-    ask(case, edge, *asked, [room, 0])
+    assert refusal(*asked, all_plain(asked[0]) if marks is None else marks), edge
+    ask(case, edge, *asked, [room, 0], marks=marks)
 
 
 # 01's case without its word
@@ -78,7 +81,7 @@ ONE = 1, 1, [0], [1], [NONE], [0]
 def words():
     group("01's whole case; then words of the lengths at which lines begin and end")
     write(1, "the whole case", *SAMPLE, [0, 1, 0, 1, 2])
-    ask(2, "a room far longer, and one for the longest file", *SAMPLE, [0, 1, 0, 1, 2], [300, 151371])
+    ask(2, "a room far longer, and one for the longest file", *SAMPLE, [0, 1, 0, 1, 2], [300, LIMIT])
     write(3, "the empty word: no line of letters", *SAMPLE, [])
     for case, n in [(4, 1), (5, 63), (6, 64), (7, 65), (8, 127), (9, 128), (10, 129)]:
         write(case, f"letters: {n}", *SAMPLE, ([2, 0, 1, 0, 1] * 26)[:n])
@@ -91,7 +94,9 @@ def counts():
     write(21, "one place, one transition, no letter: the shortest file", *ONE, [])
     write(22, "64 places: rows of 260 digits", 64, 1, [0] * 63 + [9], [8] + [1] * 63, [NONE] * 64, [3] * 64, [0])
     write(23, "64 transitions", 1, 64, [0] * 63 + [9], [8] + [1] * 63, [NONE], [3], [63, 0, 62])
-    write(24, "the longest file: 64 places, 64 transitions, 65,535 letters", 64, 64, [1] * 4096, [255] * 4096, [NONE] * 64, [65534] * 64, [63] * 65535)
+    most = 64, 64, [1] * 4096, [255] * 4096, [NONE] * 64, [65534] * 64, [63] * 65535
+    write(24, "the longest file without a pocket: 64 places, 64 transitions, 65,535 letters", *most)
+    assert write(25, "the longest file: with one", *most, marks=[0] * 63 + [1]) == LIMIT
 
 
 def numbers():
@@ -116,10 +121,10 @@ def one_refusal():
         refuse(52 + 2 * k, f"2: {name} one too long", *lent, [0])
     for k, (edge, tokens) in enumerate([("65,535 tokens", [65535, 0, 0]), ("above capacity", [1, 0, 6]), ("both, the lower place", [1, 65535, 6])]):
         refuse(61 + k, f"3: {edge}", *SAMPLE[:5], tokens, [0])
-    refuse(64, "4: 65,536 letters", *ONE, [0] * 65536, room=151371)
+    refuse(64, "4: 65,536 letters", *ONE, [0] * 65536, room=LIMIT)
     for k, (edge, word) in enumerate([("the first letter", [3, 0]), ("the last letter", [0, 1, 255]), ("two of them", [0, 3, 4])]):
         refuse(65 + k, f"5: {edge}", *SAMPLE, word)
-    refuse(68, "5: letter 65,534", *ONE, [0] * 65534 + [1], room=151371)
+    refuse(68, "5: letter 65,534", *ONE, [0] * 65534 + [1], room=LIMIT)
 
 
 def two_refusals():
@@ -128,9 +133,26 @@ def two_refusals():
     refuse(72, "1 and 5", 3, 65, *SAMPLE[2:], [70])
     refuse(73, "2 and 3", *SAMPLE[:5], [65535, 0, 0, 0], [0])
     refuse(74, "2 and 5", *SAMPLE[:2], SAMPLE[2][1:], *SAMPLE[3:], [3])
-    refuse(75, "3 and 4", *ONE[:5], [65535], [0] * 65536, room=151371)
+    refuse(75, "3 and 4", *ONE[:5], [65535], [0] * 65536, room=LIMIT)
     refuse(76, "3 and 5", *SAMPLE[:5], [1, 0, 6], [0, 3])
-    refuse(77, "4 and 5", *ONE, [0] * 65535 + [1], room=151371)
+    refuse(77, "4 and 5", *ONE, [0] * 65535 + [1], room=LIMIT)
+
+
+def pockets():
+    group("marks: a line 06 where some place is a pocket, with a capacity or not; any mark but 0 is written as 1")
+    for k, marks in enumerate([[0, 0, 0], [1, 0, 0], [0, 2, 0], [0, 0, 255], [128, 0, 3], [1, 1, 1]]):
+        write(301 + k, f"marks {marks}", *SAMPLE, [0, 1], marks=marks)
+    rows = lambda P: (P, 1, [1] * P, [1] * P, [9] * P, [1] * P, [0])
+    for k, (P, pockets) in enumerate([(8, [7]), (9, [8]), (16, [15]), (17, [0, 16]), (33, [32]), (64, [0]), (64, [56]), (64, [63]), (64, range(64)), (64, [7, 8, 55, 62])]):
+        write(311 + k, f"{P} places, of which pockets: {list(pockets)}", *rows(P), marks=[int(p in pockets) for p in range(P)])
+    write(321, "one place, a pocket, no letter", *ONE, [], marks=[77])
+    group("marks of another length: 2, after 1, before 3, 17 and 4")
+    for k, marks in enumerate([[], [0], [1] * 4, [0] * 4]):
+        refuse(331 + k, f"{len(marks)} marks of three places", *SAMPLE, [0], marks=marks)
+    refuse(335, "2 and 3", *SAMPLE[:5], [1, 0, 6], [0], marks=[0, 0])
+    refuse(336, "2 and 17", 1, 1, [0], [0], [4], [0], [0], marks=[])
+    refuse(337, "2 and 4", *ONE, [0] * 65536, room=LIMIT, marks=[0, 0])
+    refuse(338, "1 and 2", 0, 3, *SAMPLE[2:], [0], marks=[0])
 
 
 def loose_nodes():
@@ -144,9 +166,9 @@ def loose_nodes():
     refuse(231, "1 and 17", 1, 65, [0] * 65, [0] * 65, [4], [0], [0])
     refuse(232, "2 and 17", 1, 1, [0, 0], [0], [4], [0], [0])
     refuse(233, "3 and 17", *bare, [5], [0])
-    refuse(234, "17 and 4", *bare, [0], [0] * 65536, room=151371)
+    refuse(234, "17 and 4", *bare, [0], [0] * 65536, room=LIMIT)
     refuse(235, "17 and 5", *bare, [0], [1])
-    refuse(236, "17, 4 and 5", *bare, [0], [0] * 65535 + [1], room=151371)
+    refuse(236, "17, 4 and 5", *bare, [0], [0] * 65535 + [1], room=LIMIT)
 
 
 words()
@@ -155,3 +177,4 @@ numbers()
 one_refusal()
 two_refusals()
 loose_nodes()
+pockets()

@@ -1,11 +1,12 @@
 /* A case file, line by line. */
 #include "reference.h"
 
-/* What has been read so far; `line` counts the lines taken, `last` the letters of the last frame 05 (64 before any). */
+/* What has been read so far; `line` counts the lines taken, `heads` the frames 01 to 03, `masks` the frames 06, `last` the
+ * letters of the last frame 05 (64 before any). */
 struct reading {
-    size_t line, places, transitions, next, letters, last;
+    size_t line, heads, masks, places, transitions, next, letters, last;
     uint16_t caps[64], tokens[64];
-    uint8_t pre[4096], post[4096], word[65535];
+    uint8_t marks[64], pre[4096], post[4096], word[65535];
 };
 
 /* A digit 0-9 or A-F as its number; 16 for anything else. */
@@ -40,6 +41,7 @@ static int read_counts(struct reading *r, const uint8_t *frame, size_t size) {
         return 12;
     r->places = frame[1];
     r->transitions = frame[2];
+    r->heads++;
     if (r->places < 1 || r->places > 64 || r->transitions < 1 || r->transitions > 64)
         return 1;
     return 0;
@@ -50,6 +52,7 @@ static int read_numbers(struct reading *r, const uint8_t *frame, size_t size) {
     uint16_t *to = frame[0] == 2 ? r->caps : r->tokens;
     if (size != 1 + 2 * r->places)
         return 12;
+    r->heads++;
     for (size_t p = 0; p < r->places; p++)
         to[p] = two(frame + 1 + 2 * p);
     for (size_t p = 0; frame[0] == 3 && p < r->places; p++)
@@ -58,10 +61,27 @@ static int read_numbers(struct reading *r, const uint8_t *frame, size_t size) {
     return 0;
 }
 
+/* 06, eight bytes, a bit for each place: "place 0 the lowest bit of the last byte". "A bit at or past P, or an all-zero mask,
+ * is refusal 12"; "the file reader gives 1". */
+static int read_marks(struct reading *r, const uint8_t *frame, size_t size) {
+    size_t pockets = 0;
+    if (RULE(113, size != 9, size < 9))
+        return 12;
+    r->masks++;
+    for (size_t p = 0; p < 64; p++) {
+        int is_set = frame[RULE(108, 8 - p / 8, 1 + p / 8)] >> p % 8 & 1;
+        if (is_set && p >= r->places && RULE(111, 1, 0))
+            return 12;
+        pockets += (size_t)is_set;
+        r->marks[p] = is_set ? RULE(114, 1, 255) : 0;
+    }
+    return pockets > 0 || RULE(110, 0, 1) ? 0 : 12;
+}
+
 /* Is the net loose that was read? */
 static int is_loose(const struct reading *r) {
     struct net net = {r->places, r->transitions, r->pre, r->places * r->transitions, r->post, r->places * r->transitions,
-                      r->caps, r->places};
+                      r->caps, r->places, r->marks, r->places};
     return reference_loose_fault(&net) != NOWHERE;
 }
 
@@ -99,13 +119,22 @@ static int read_letters(struct reading *r, const uint8_t *frame, size_t size) {
 
 /* The kind that this line must have: 01, 02, 03, then 04 for each transition, then 05. */
 static int due(const struct reading *r) {
-    if (r->line <= 3)
-        return (int)r->line;
+    if (r->heads < 3)
+        return (int)r->heads + 1;
     return r->next < r->transitions ? 4 : 5;
+}
+
+/* May a frame 06 stand here? It "may follow 02", once. */
+static int may_mark(const struct reading *r) {
+    if (RULE(109, 0, 1) && r->heads == 3 && r->next == 0)
+        return 1;
+    return r->heads == 2 && RULE(112, r->masks == 0, 1);
 }
 
 /* One frame: unknown kind and wrong order are 12, and the rest is up to the kind. */
 static int read_frame(struct reading *r, const uint8_t *frame, size_t size) {
+    if (frame[0] == 6 && may_mark(r))
+        return read_marks(r, frame, size);
     if (frame[0] != due(r))
         return 12;
     switch (frame[0]) {
@@ -141,18 +170,18 @@ static int read_lines(struct reading *r, const uint8_t *file, size_t file_len) {
         at = end + 1;
     }
     r->line++;
-    if (r->line <= 4 || r->next < r->transitions)
+    if (r->heads < 3 || r->next < r->transitions)
         return 12;
     return RULE(95, 0, is_loose(r)) ? 17 : 0;
 }
 
 /* Refusal 2 for the rooms, then the file; the rooms are written once the whole file is found right. */
-kaunorpi_case reference_read_case(const uint8_t *file, size_t file_len, uint16_t *caps, size_t caps_len,
-                                  uint16_t *initial, size_t initial_len, uint8_t *pre, size_t pre_len, uint8_t *post,
-                                  size_t post_len, uint8_t *word, size_t word_len) {
+kaunorpi_case reference_read_case(const uint8_t *file, size_t file_len, uint16_t *caps, size_t caps_len, uint8_t *marks,
+                                  size_t marks_len, uint16_t *initial, size_t initial_len, uint8_t *pre, size_t pre_len,
+                                  uint8_t *post, size_t post_len, uint8_t *word, size_t word_len) {
     struct reading r = {.last = 64};
     int number;
-    if (caps_len != 64 || initial_len != 64 || pre_len != 4096 || post_len != 4096 || word_len != 65535)
+    if (caps_len != 64 || marks_len != 64 || initial_len != 64 || pre_len != 4096 || post_len != 4096 || word_len != 65535)
         return (kaunorpi_case){KAUNORPI_REFUSED, 2, 0, 0, 0, 0};
     number = read_lines(&r, file, file_len);
     if (number != 0)
@@ -160,6 +189,8 @@ kaunorpi_case reference_read_case(const uint8_t *file, size_t file_len, uint16_t
     for (size_t p = 0; p < r.places; p++) {
         caps[p] = r.caps[p];
         initial[p] = r.tokens[p];
+        if (RULE(115, 1, r.masks > 0))
+            marks[p] = r.marks[p];
     }
     for (size_t i = 0; i < r.places * r.transitions; i++) {
         pre[i] = r.pre[i];

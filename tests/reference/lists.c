@@ -118,6 +118,9 @@ static int cover_lacks(const struct net *net, const struct lists *q, size_t k, s
             return 0;
         if (RULE(7, 0, 1) && !any[p] && reference_capped(net, p) && m[p] + reference_change(net, p, t) > net->caps[p])
             return 0;
+        if (RULE(103, 0, reference_pocket(net, p)) && !any[p] && reference_capped(net, p) &&
+            m[p] + reference_post(net, p, t) > net->caps[p])
+            return 0;
     }
     reference_fire(net, m, t);
     return !covers(net, q, m, any);

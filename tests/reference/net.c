@@ -25,6 +25,11 @@ int reference_capped(const struct net *net, size_t p) {
     return net->caps[p] != 65535;
 }
 
+/* Is place p a pocket? "0 plain, any other pocket, all alike" (request E5 of document 02). */
+int reference_pocket(const struct net *net, size_t p) {
+    return RULE(99, net->marks[p] != 0, net->marks[p] == 1);
+}
+
 /* The lowest place short of tokens for t: not Pre(p,t) <= m(p). */
 size_t reference_short(const struct net *net, const int64_t *m, size_t t) {
     for (size_t p = 0; p < net->places; p++)
@@ -33,13 +38,19 @@ size_t reference_short(const struct net *net, const int64_t *m, size_t t) {
     return NOWHERE;
 }
 
-/* The lowest place over: not m(p) + Change(p,t) <= capacity, where there is one. */
+/* What t would bring place p to: at a plain place m(p) + Change(p,t), at a pocket "tokens plus Post". */
+static int64_t level(const struct net *net, const int64_t *m, size_t p, size_t t) {
+    int is_pocket = RULE(97, reference_pocket(net, p), 0);
+    if (is_pocket)
+        return RULE(98, m[p], 0) + reference_post(net, p, t);
+    return m[p] + RULE(1, reference_change(net, p, t), reference_post(net, p, t));
+}
+
+/* The lowest place over: that level must keep to the capacity, where there is one. */
 size_t reference_over(const struct net *net, const int64_t *m, size_t t) {
-    for (size_t p = 0; p < net->places; p++) {
-        int64_t more = RULE(1, reference_change(net, p, t), reference_post(net, p, t));
-        if (reference_capped(net, p) && !(m[p] + more <= net->caps[p]))
+    for (size_t p = 0; p < net->places; p++)
+        if (reference_capped(net, p) && !(level(net, m, p, t) <= net->caps[p]))
             return p;
-    }
     return NOWHERE;
 }
 
@@ -57,7 +68,7 @@ int reference_counts_fault(const struct net *net) {
 /* Refusal 2 for the net's own lists; the counts are right. */
 int reference_lengths_fault(const struct net *net) {
     return net->pre_len != net->places * net->transitions || net->post_len != net->places * net->transitions ||
-           net->caps_len != net->places;
+           net->caps_len != net->places || RULE(100, net->marks_len != net->places, net->marks_len < net->places);
 }
 
 /* Refusal 3 for a marking: the lowest place with 65,535 tokens or tokens above capacity. */

@@ -165,8 +165,8 @@ kaunorpi_answer reference_order_logs(KAUNORPI_NET, const uint16_t *initial, size
         return fault;
     }
     found = (steps <= TRIED ? reference_try_orders : reference_table_order)(
-        places, transitions, pre, pre_len, post, post_len, caps, caps_len, initial, first, first_len, second, second_len,
-        order);
+        places, transitions, pre, pre_len, post, post_len, caps, caps_len, marks, marks_len, initial, first, first_len, second,
+        second_len, order);
     if (RULE(69, 1, found) && work_len > 0)
         memset(work, 0, work_len);
     if (RULE(57, 0, work_len > 0))

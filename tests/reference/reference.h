@@ -54,9 +54,11 @@ struct net {
     size_t post_len;
     const uint16_t *caps;
     size_t caps_len;
+    const uint8_t *marks;
+    size_t marks_len;
 };
 #define LENT_NET \
-    { places, transitions, pre, pre_len, post, post_len, caps, caps_len }
+    { places, transitions, pre, pre_len, post, post_len, caps, caps_len, marks, marks_len }
 
 /* "nowhere": no place, letter or transition is meant. */
 #define NOWHERE ((size_t)-1)
@@ -65,6 +67,7 @@ int64_t reference_pre(const struct net *net, size_t p, size_t t);
 int64_t reference_post(const struct net *net, size_t p, size_t t);
 int64_t reference_change(const struct net *net, size_t p, size_t t);
 int reference_capped(const struct net *net, size_t p);
+int reference_pocket(const struct net *net, size_t p);
 size_t reference_short(const struct net *net, const int64_t *m, size_t t);
 size_t reference_over(const struct net *net, const int64_t *m, size_t t);
 void reference_fire(const struct net *net, int64_t *m, size_t t);

@@ -61,6 +61,6 @@ kaunorpi_replay reference_replay_stretch(KAUNORPI_NET, const uint16_t *initial, 
 /* The whole word is the stretch from its first letter to its end. */
 kaunorpi_replay reference_replay_word(KAUNORPI_NET, const uint16_t *initial, size_t initial_len, const uint8_t *word,
                                       size_t word_len, uint32_t *room, size_t room_len) {
-    return reference_replay_stretch(places, transitions, pre, pre_len, post, post_len, caps, caps_len, initial,
-                                    initial_len, word, word_len, 0, word_len, room, room_len);
+    return reference_replay_stretch(places, transitions, pre, pre_len, post, post_len, caps, caps_len, marks, marks_len,
+                                    initial, initial_len, word, word_len, 0, word_len, room, room_len);
 }

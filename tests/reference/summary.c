@@ -23,17 +23,26 @@ kaunorpi_summary reference_empty_summary(size_t places, uint32_t *need, size_t n
     return (kaunorpi_summary){KAUNORPI_ANSWERED, 0, 0, places, 0};
 }
 
+/* Does the climb at place p follow 002? "A pocket without capacity behaves as plain, its climb too." */
+static int climbs_first(const struct net *net, size_t p) {
+    return RULE(102, reference_pocket(net, p), 0) && RULE(101, reference_capped(net, p), 1);
+}
+
 /* Need, climb and change of one place over the letters from start to end, by the definitions:
  * need is the largest of 0 and, for each letter t with u before it, Pre(p,t) - change(u); climb is the largest
- * change over all prefixes, the empty one (0) included. */
+ * change over all prefixes, the empty one (0) included, but at a capped pocket "the largest of 0 and, for each letter, the
+ * change before it plus its Post". */
 static void one_place(const struct net *net, size_t p, const uint8_t *word, size_t start, size_t end, uint32_t *need,
                       uint32_t *climb, int32_t *change) {
     int64_t most_need = 0, most_climb = 0, so_far = 0;
     for (size_t i = start; i < end; i++) {
         int64_t takes = RULE(4, reference_pre(net, p, word[i]), -reference_change(net, p, word[i]));
         most_need = larger(most_need, takes - so_far);
+        if (climbs_first(net, p))
+            most_climb = larger(most_climb, so_far + reference_post(net, p, word[i]));
         so_far = so_far + reference_change(net, p, word[i]);
-        most_climb = larger(most_climb, so_far);
+        if (!climbs_first(net, p))
+            most_climb = larger(most_climb, so_far);
     }
     *need = (uint32_t)most_need;
     *climb = (uint32_t)most_climb;
@@ -79,8 +88,8 @@ kaunorpi_summary reference_summary_stretch(KAUNORPI_NET, const uint8_t *word, si
 kaunorpi_summary reference_summary_word(KAUNORPI_NET, const uint8_t *word, size_t word_len, uint32_t *need,
                                         size_t need_len, uint32_t *climb, size_t climb_len, int32_t *change,
                                         size_t change_len) {
-    return reference_summary_stretch(places, transitions, pre, pre_len, post, post_len, caps, caps_len, word, word_len,
-                                     0, word_len, need, need_len, climb, climb_len, change, change_len);
+    return reference_summary_stretch(places, transitions, pre, pre_len, post, post_len, caps, caps_len, marks, marks_len,
+                                     word, word_len, 0, word_len, need, need_len, climb, climb_len, change, change_len);
 }
 
 /* Refusal 6: "well formed if n <= 65,535 and at each place 0 <= need <= 255n, 0 <= climb <= 255n, -need <= change <=

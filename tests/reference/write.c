@@ -4,7 +4,7 @@
 
 /* The file so far. */
 struct writing {
-    uint8_t text[151371];
+    uint8_t text[151390];
     size_t length, lines;
 };
 
@@ -31,6 +31,26 @@ static void write_numbers(struct writing *w, int kind, const uint16_t *numbers, 
     write_byte(w, (size_t)kind);
     for (size_t p = 0; p < places; p++)
         write_number(w, numbers[p]);
+    end_line(w);
+}
+
+/* Must there be a frame 06? "it is written only if some place is a pocket" */
+static int has_pocket(const struct net *net) {
+    for (size_t p = 0; p < net->places; p++)
+        if (reference_pocket(net, p) && RULE(118, 1, reference_capped(net, p)))
+            return 1;
+    return 0;
+}
+
+/* "A frame 06, eight bytes, place 0 the lowest bit of the last byte" */
+static void write_marks(struct writing *w, const struct net *net) {
+    size_t mask[8] = {0};
+    for (size_t p = 0; p < net->places; p++)
+        if (reference_pocket(net, p))
+            mask[RULE(116, 7 - p / 8, p / 8)] |= (size_t)1 << p % 8;
+    write_byte(w, 6);
+    for (size_t i = 0; i < 8; i++)
+        write_byte(w, mask[i]);
     end_line(w);
 }
 
@@ -70,6 +90,8 @@ static void write_file(struct writing *w, const struct net *net, const uint16_t 
     write_byte(w, net->transitions);
     end_line(w);
     write_numbers(w, 2, net->caps, net->places);
+    if (has_pocket(net) || RULE(117, 0, 1))
+        write_marks(w, net);
     write_numbers(w, 3, initial, net->places);
     for (size_t t = 0; t < net->transitions; t++)
         write_transition(w, net, t);

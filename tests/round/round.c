@@ -1,7 +1,8 @@
 /* round FILE..: each case file that kaunorpi_read_case accepts is written back from what was read, by kaunorpi_write_case, into
  * rooms exactly long enough, one longer, one short, empty, and for the longest file: the same bytes must stand at the front, the
  * rest and all of a room too short must be as found, and kaunorpi_case_length must tell the file's length. Prints what is not so,
- * then how many files were written back, and the length of the longest. Ends with 0, or 1 where a file cannot be held. */
+ * then how many files were written back, and the length of the longest. A mark that is not 0 is written as 1, so each is written
+ * with all pockets' marks 1, and once more with 2 and 255. Ends with 0, or 1 where a file cannot be held. */
 #include <stdio.h>
 #include <string.h>
 
@@ -12,13 +13,15 @@ enum { GUARD = 64, MOST = 1 << 21 };
 /* The file, and what was read of it. */
 static uint8_t file[MOST], pre[KAUNORPI_MOST_CELLS], post[KAUNORPI_MOST_CELLS], word[KAUNORPI_MOST_LETTERS];
 static uint16_t caps[KAUNORPI_MOST_PLACES], initial[KAUNORPI_MOST_PLACES];
+static uint8_t marks[KAUNORPI_MOST_PLACES];
 static size_t size, written_back, longest;
 static kaunorpi_case read;
 static const char *name;
 
 #define CELLS (read.places * read.transitions)
 #define LENT \
-    read.places, read.transitions, pre, CELLS, post, CELLS, caps, read.places, initial, read.places, word, read.letters
+    read.places, read.transitions, pre, CELLS, post, CELLS, caps, read.places, marks, read.places, initial, read.places, \
+        word, read.letters
 
 /* A room between guard bytes, and what must stand there after the call. */
 static uint8_t memory[KAUNORPI_FILE_LIMIT + 1 + 2 * GUARD], wanted[sizeof memory];
@@ -43,11 +46,21 @@ static void write_into(size_t room) {
     expect(memcmp(memory, wanted, sizeof memory) == 0, "other bytes than the file's and those found", room);
 }
 
+/* Gives each pocket another mark. */
+static void mark_otherwise(void) {
+    for (size_t p = 0; p < read.places; p++) {
+        expect(marks[p] < 2, "a mark that is neither 0 nor 1", 0);
+        marks[p] = marks[p] == 0 ? 0 : p % 2 == 0 ? 2 : 255;
+    }
+}
+
 /* Reads the file, and writes it back if it is accepted. */
 static void go_round(void) {
     kaunorpi_length told;
-    read = kaunorpi_read_case(file, size, caps, KAUNORPI_MOST_PLACES, initial, KAUNORPI_MOST_PLACES, pre,
-                              KAUNORPI_MOST_CELLS, post, KAUNORPI_MOST_CELLS, word, KAUNORPI_MOST_LETTERS);
+    memset(marks, 7, sizeof marks);
+    read = kaunorpi_read_case(file, size, caps, KAUNORPI_MOST_PLACES, marks, KAUNORPI_MOST_PLACES, initial,
+                              KAUNORPI_MOST_PLACES, pre, KAUNORPI_MOST_CELLS, post, KAUNORPI_MOST_CELLS, word,
+                              KAUNORPI_MOST_LETTERS);
     if (read.kind != KAUNORPI_ANSWERED)
         return;
     told = kaunorpi_case_length(LENT);
@@ -57,6 +70,8 @@ static void go_round(void) {
     write_into(size - 1);
     write_into(0);
     write_into(KAUNORPI_FILE_LIMIT);
+    mark_otherwise();
+    write_into(size);
     written_back++;
     longest = size > longest ? size : longest;
 }

@@ -1,6 +1,6 @@
 /* The library from C, with kaunorpi.h alone: a case file is read, written back and replayed, a word is summed up, two
- * summaries are joined and one is asked, a list of markings is judged, two logs are put into one order. What is expected is
- * document 01's case and its samples, worked out by hand there, and of two logs by hand here. Prints nothing and ends with 0
+ * summaries are joined and one is asked, a list of markings is judged, two logs are put into one order, a pocket jams. What is
+ * expected is document 01's case and its samples, worked out by hand there, and of two logs and of pockets by hand here. Prints nothing and ends with 0
  * where every answer is right, else prints the lines that are not. */
 #include <stdio.h>
 #include <string.h>
@@ -14,8 +14,8 @@ static const char case_file[] = "010303\n02FFFFFFFF0005\n03000100000000\n0400010
 
 /* The rooms of the largest sizes that a case file is read into; the net is then their front. */
 static uint16_t caps[KAUNORPI_MOST_PLACES], initial[KAUNORPI_MOST_PLACES];
-static uint8_t pre[KAUNORPI_MOST_CELLS], post[KAUNORPI_MOST_CELLS], word[KAUNORPI_MOST_LETTERS];
-#define NET 3, 3, pre, 9, post, 9, caps, 3
+static uint8_t marks[KAUNORPI_MOST_PLACES], pre[KAUNORPI_MOST_CELLS], post[KAUNORPI_MOST_CELLS], word[KAUNORPI_MOST_LETTERS];
+#define NET 3, 3, pre, 9, post, 9, caps, 3, marks, 3
 
 /* A summary as C holds one. */
 typedef struct {
@@ -45,14 +45,19 @@ static void read_the_case(void) {
     const uint8_t *file = (const uint8_t *)case_file;
     size_t bytes = sizeof case_file - 1;
     word[5] = 7;
-    kaunorpi_case r = kaunorpi_read_case(file, bytes - 1, caps, 64, initial, 64, pre, 4096, post, 4096, word, 65535);
+    memset(marks, 7, sizeof marks);
+    kaunorpi_case r = kaunorpi_read_case(file, bytes - 1, caps, 64, marks, 64, initial, 64, pre, 4096, post, 4096, word, 65535);
     EXPECT(r.kind == KAUNORPI_REFUSED && r.number == 11 && r.position == 7 && r.places == 0 && caps[0] == 0);
-    r = kaunorpi_read_case(file, bytes, caps, 63, initial, 64, pre, 4096, post, 4096, word, 65535);
+    r = kaunorpi_read_case(file, bytes, caps, 63, marks, 64, initial, 64, pre, 4096, post, 4096, word, 65535);
     EXPECT(r.kind == KAUNORPI_REFUSED && r.number == 2 && r.position == 0 && caps[0] == 0);
-    r = kaunorpi_read_case(file, bytes, caps, 64, initial, 64, pre, 4096, post, 4096, word, 65535);
+    r = kaunorpi_read_case(file, bytes, caps, 64, marks, 65, initial, 64, pre, 4096, post, 4096, word, 65535);
+    EXPECT(r.kind == KAUNORPI_REFUSED && r.number == 2 && r.position == 0 && caps[0] == 0 && marks[0] == 7);
+    r = kaunorpi_read_case(file, bytes, caps, 64, marks, 64, initial, 64, pre, 4096, post, 4096, word, 65535);
     EXPECT(r.kind == KAUNORPI_ANSWERED && r.number == 0 && r.position == 0);
     EXPECT(r.places == 3 && r.transitions == 3 && r.letters == 5);
     EXPECT(caps[0] == KAUNORPI_NONE && caps[2] == 5 && caps[3] == 0 && initial[0] == 1 && initial[1] == 0);
+    /* the file has no frame 06: all places are plain */
+    EXPECT(marks[0] == 0 && marks[1] == 0 && marks[2] == 0 && marks[3] == 7);
     EXPECT(pre[0] == 1 && post[1] == 1 && pre[4] == 1 && post[5] == 2 && pre[8] == 3 && pre[9] == 0);
     EXPECT(word[0] == 0 && word[1] == 1 && word[4] == 2 && word[5] == 7);
 }
@@ -176,8 +181,10 @@ static void lists_and_weightings(void) {
     EXPECT(p.kind == KAUNORPI_ANSWERED && p.number == 0 && p.position == 0 && p.places == 4);
     uint8_t pre2[12], post2[12];
     uint16_t caps2[4], initial2[4];
-    a = kaunorpi_complement_net(NET, initial, 3, pre2, 12, post2, 12, caps2, 4, initial2, 4);
+    uint8_t marks2[4] = {7, 7, 7, 7};
+    a = kaunorpi_complement_net(NET, initial, 3, pre2, 12, post2, 12, caps2, 4, marks2, 4, initial2, 4);
     EXPECT(a.kind == KAUNORPI_ANSWERED && a.number == 0 && initial2[3] == 5 && caps2[3] == KAUNORPI_NONE && pre2[7] == 2 && post2[11] == 3);
+    EXPECT(marks2[0] == 0 && marks2[3] == 0);
     /* the line: place 2 full and place 1 marked, transition 2 still fires, so it never stalls */
     l = kaunorpi_closed_stall(NET, initial, 3, list, 36);
     EXPECT(l.kind == KAUNORPI_ANSWERED && l.number == 0);
@@ -211,6 +218,38 @@ static void two_logs(void) {
     EXPECT(a.kind == KAUNORPI_ANSWERED && a.number == 1 && order[0] == 7 && work[0] == 0);
 }
 
+/* A belt pocket for one board, with one in it: transition 0 takes it and brings the next. As a plain place it passes, as a
+ * pocket it jams; without a capacity a pocket passes too. The file of the pocket has a frame 06, and is read with a mark of 1. */
+static void pockets(void) {
+    static const char jams[] = "010101\n020001\n060000000000000001\n030001\n04000101\n0500\n";
+    static const uint8_t one[] = {1}, letter[] = {0}, plain[] = {0}, other[] = {255};
+    static const uint16_t capacity[] = {1}, none[] = {KAUNORPI_NONE}, board[] = {1};
+    uint32_t room[1] = {7}, need[64], climb[64];
+    int32_t change[64];
+    uint8_t pre2[2], post2[2], marks2[2] = {7, 7}, file[sizeof jams];
+    uint16_t caps2[2], initial2[2];
+    kaunorpi_replay r = kaunorpi_replay_word(1, 1, one, 1, one, 1, capacity, 1, plain, 1, board, 1, letter, 1, room, 1);
+    EXPECT(r.number == 0 && r.position == 1 && room[0] == 1);
+    r = kaunorpi_replay_word(1, 1, one, 1, one, 1, capacity, 1, other, 1, board, 1, letter, 1, room, 1);
+    EXPECT(r.kind == KAUNORPI_ANSWERED && r.number == 2 && r.position == 0 && r.place == 0);
+    r = kaunorpi_replay_word(1, 1, one, 1, one, 1, none, 1, other, 1, board, 1, letter, 1, room, 1);
+    EXPECT(r.number == 0 && r.position == 1);
+    r = kaunorpi_replay_word(1, 1, one, 1, one, 1, capacity, 1, NULL, 0, board, 1, letter, 1, room, 1);
+    EXPECT(r.kind == KAUNORPI_REFUSED && r.number == 2 && r.position == 0);
+    kaunorpi_summary s = kaunorpi_summary_word(1, 1, one, 1, one, 1, capacity, 1, other, 1, letter, 1, need, 64, climb, 64, change, 64);
+    EXPECT(s.number == 0 && need[0] == 1 && climb[0] == 1 && change[0] == 0);
+    s = kaunorpi_summary_word(1, 1, one, 1, one, 1, none, 1, other, 1, letter, 1, need, 64, climb, 64, change, 64);
+    EXPECT(s.number == 0 && need[0] == 1 && climb[0] == 0 && change[0] == 0);
+    EXPECT(kaunorpi_complement_places(1, 1, one, 1, one, 1, capacity, 1, plain, 1).places == 1);
+    EXPECT(kaunorpi_complement_places(1, 1, one, 1, one, 1, capacity, 1, other, 1).places == 2);
+    kaunorpi_answer a = kaunorpi_complement_net(1, 1, one, 1, one, 1, capacity, 1, other, 1, board, 1, pre2, 2, post2, 2, caps2, 2, marks2, 2, initial2, 2);
+    EXPECT(a.number == 0 && pre2[1] == 1 && post2[1] == 1 && caps2[1] == KAUNORPI_NONE && marks2[0] == 0 && marks2[1] == 0 && initial2[1] == 0);
+    kaunorpi_length l = kaunorpi_write_case(1, 1, one, 1, one, 1, capacity, 1, other, 1, board, 1, letter, 1, file, sizeof file);
+    EXPECT(l.number == 0 && l.length == sizeof jams - 1 && memcmp(file, jams, sizeof jams - 1) == 0);
+    kaunorpi_case c = kaunorpi_read_case(file, l.length, caps, 64, marks, 64, initial, 64, pre, 4096, post, 4096, word, 65535);
+    EXPECT(c.kind == KAUNORPI_ANSWERED && c.places == 1 && caps[0] == 1 && marks[0] == 1 && marks[1] == 0 && initial[0] == 1);
+}
+
 int main(void) {
     read_the_case();
     write_it_back();
@@ -218,5 +257,6 @@ int main(void) {
     summaries();
     lists_and_weightings();
     two_logs();
+    pockets();
     return wrong;
 }

@@ -116,8 +116,14 @@ LOOSE = [
 WIRED = [("only taken from", 1, 1, [1], [0]), ("only put into", 1, 1, [0], [1]), ("a loop", 1, 1, [1], [1])]
 
 
-def net(P, T, pre, post, caps):
-    return {"places": P, "transitions": T, "pre": pre, "post": post, "caps": caps}
+def all_plain(P):
+    """Marks of P places that are all plain; a net of very many places is refused before its lists are looked at."""
+    return [0] * P if P <= 80 else []
+
+
+def net(P, T, pre, post, caps, marks=None):
+    """A net as it is lent; all places are plain where no marks are told."""
+    return {"places": P, "transitions": T, "pre": pre, "post": post, "caps": caps, "marks": all_plain(P) if marks is None else marks}
 
 
 def call(case, question, lent, answer, rooms=None):

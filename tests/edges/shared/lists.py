@@ -1,11 +1,12 @@
-"""What closed.py and cover.py share, from document 01's "Marking lists" and its refusal table, with 17 of document 02."""
+"""What closed.py and cover.py share, from document 01's "Marking lists" and its refusal table, with 17 and marks of document 02."""
 
-from shared.calls import NONE, call, loose, net as lent_net
+from shared.calls import NONE, all_plain, call, loose, net as lent_net
 
 
 class Net:
-    def __init__(self, P, T, pre, post, caps):
+    def __init__(self, P, T, pre, post, caps, marks=None):
         self.P, self.T, self.pre, self.post, self.caps = P, T, pre, post, caps
+        self.marks = all_plain(P) if marks is None else marks
 
     def arcs(self, t):
         """What t takes from each place, and what it puts there."""
@@ -23,7 +24,7 @@ def refusal(net, initial, flat, target, given):
     P, T = net.P, net.T
     if not (1 <= P <= 64 and 1 <= T <= 64):
         return 1, 0
-    if [len(net.pre), len(net.post), len(net.caps), len(initial)] != [P * T, P * T, P, P] or len(flat) % P:
+    if [len(net.pre), len(net.post), len(net.caps), len(net.marks), len(initial)] != [P * T, P * T, P, P, P] or len(flat) % P:
         return 2, 0
     if target is not None and len(target) != P:
         return 2, 0
@@ -62,15 +63,15 @@ def tell(case, question, net, lent, refused, failed, shown):
     else:
         numbers = failed()
         answer = [129, *(numbers if numbers is not None else [0 if shown() else 3])]
-    call(case, question, {**lent_net(net.P, net.T, net.pre, net.post, net.caps), **lent}, answer)
+    call(case, question, {**lent_net(net.P, net.T, net.pre, net.post, net.caps, net.marks), **lent}, answer)
 
 
 SAMPLE = Net(3, 3, [1, 0, 0, 0, 1, 0, 0, 0, 3], [0, 1, 0, 1, 0, 2, 0, 0, 0], [NONE, NONE, 5])
 START = [1, 0, 0]
 
 
-def one_place(takes, puts, cap):
-    return Net(1, 1, [takes], [puts], [cap])
+def one_place(takes, puts, cap, mark=0):
+    return Net(1, 1, [takes], [puts], [cap], [mark])
 
 
 def counted_net(P, T, arcs):
