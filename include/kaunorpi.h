@@ -15,7 +15,8 @@
  * their own; every other function needs less than 4 KB. Measured in the machine code of the archive for x86-64: 74,960
  * bytes; at most 29,784 (kaunorpi_closed_target); and at most 3,392 (kaunorpi_summary_stretch); with what a function calls
  * and without memcpy and memset, which are the C library's. Of kaunorpi_order_logs, where 510 letters fire, 335,936 bytes
- * were seen to be written.
+ * were seen to be written. All these were taken before marks were lent (version 5) and not again since: allow for some
+ * hundred bytes more, and in kaunorpi_order_logs for more in each letter.
  *
  * What is proved. Each function's comment ends with its contract, which says that the answer is the entry's of that
  * name, number by number, and with theorems that say what such an answer means; docs/STATEMENTS.md has them in words,
