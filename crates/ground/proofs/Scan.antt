@@ -112,6 +112,12 @@ tally-end f i n b e h l = let q : i ≡ b = omega arith in rw (e, q)
 
 pub ruleset tallies = (tally-start, tally-next, tally-end)
 
+-- tests with the same answers count alike
+pub tally-alike : (f g : ℕ → Bool) (n : ℕ) → ((k : ℕ) → k < n → f k ≡ g k) → tally f n ≡ tally g n
+unfolding tally
+tally-alike f g zero e = refl
+tally-alike f g (suc n) e = rw (tally-alike f g n (λ k h. e k (omega arith)), e n (omega arith))
+
 -- none passes exactly where the count is 0
 pub tally-none : (f : ℕ → Bool) (n : ℕ) → Below f n → tally f n ≡ 0
 unfolding tally

@@ -1,13 +1,13 @@
--- To be believed: the limits of document 01's first table. No other file writes these numbers.
+-- To be believed: the limits of document 01's first table, and where document 02 raises one, 02's. No other file writes these numbers.
 use Prim.Native.Nat.{ℕ, _+_, _*_}
 
 -- "places P, transitions T: 1 to 64 each"
 abbrev pub countLimit : ℕ
 countLimit = 64
 
--- "weight of an arc: 0 to 255, 0 meaning no arc"
+-- document 02, E6: "Raise the weight limit to 4,095." (01 had 255); "0 meaning no arc"
 abbrev pub weightLimit : ℕ
-weightLimit = 255
+weightLimit = 4095
 
 -- "capacity: 0 to 65,534; 65,535 means none"
 abbrev pub noCapacity : ℕ
@@ -33,6 +33,6 @@ listLimit = 4096
 abbrev pub tokensAfter : ℕ → ℕ
 tokensAfter n = tokenLimit + weightLimit * n
 
--- "A replay from these reaches at most 65,534 + 65,535 x 255 tokens in a place."
+-- document 02, E6: "A replay then reaches at most 268,431,359 tokens", which is 65,534 + 65,535 x 4,095
 abbrev pub replayLimit : ℕ
 replayLimit = tokensAfter wordLimit

@@ -11,10 +11,10 @@ ghost use Rattle.ground.specs.Parts.{up, dn};
 pub const COUNT_LIMIT: usize = 64;
 
 // A weight of an arc, as it is lent.
-pub type Weight = u8;
+pub type Weight = u16;
 
 // The largest weight of an arc.
-pub const WEIGHT_LIMIT: u32 = 255;
+pub const WEIGHT_LIMIT: u32 = 4095;
 
 // The capacity that means none.
 pub const NO_CAPACITY: u16 = 65535;

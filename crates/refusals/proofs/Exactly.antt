@@ -16,7 +16,9 @@ use Rattle.ground.proofs.Scan.{first-at, first-none, first-below, first-passes,
 use Rattle.net.specs.Net.{Net}
 use Rattle.wiring.specs.Wired.{PlaceWired, TransitionWired, Wired, loosePlace, looseTransition, lowestLooseTransition}
 use Rattle.wiring.proofs.Loose.{place-wired, wired-place, transition-wired, wired-transition}
-use Rattle.refusals.specs.Given.{refuse, orElse, outside, unlike, misfit, tokenBad, badToken, countsFault, looseFault, netFault, markingFault, startFault, markedFault, badLetter, wordFault, Fine, Letters}
+use Rattle.weights.specs.Heavy.{LightAt, heavy}
+use Rattle.weights.proofs.Heavies.{light-at, at-light}
+use Rattle.refusals.specs.Given.{refuse, orElse, outside, unlike, misfit, tokenBad, badToken, weightsFault, countsFault, looseFault, netFault, markingFault, startFault, markedFault, badLetter, wordFault, Fine, Letters}
 use Rattle.refusals.specs.First.{First, fails, holds, Given, GivenAt, Above, Counts, Lengths, FineAt, CountsFirst, LooseFirst, NetFirst, StartFirst, MarkedFirst, WordFirst}
 use Rattle.refusals.specs.declared.Fault.{Fault}
 use Rattle.refusals.specs.declared.Fault.the-variants.{Sound, Faulty}
@@ -142,10 +144,15 @@ loose-reads net =
     (reads-test (tells-above (ltb (lowestLooseTransition net) (net .transitions)) 17 (lowestLooseTransition net) countLimit
     (tells-scan (looseTransition net) (net .transitions) 17 {D = TransitionWired net} (transition-wired net) (wired-transition net))))
 
+pub weights-reads : (net : Net) → Reads (weightsFault net) (λ n at Next. First ((t : ℕ) → t < net .transitions → LightAt net t) (GivenAt 18 (LightAt net) (net .transitions) n at) Next)
+unfolding weightsFault
+weights-reads net = reads-test (tells-scan (heavy net) (net .transitions) 18 {D = LightAt net} (light-at net) (at-light net))
+
 module _ (net : Net) (fits : Bool) {Others : Type 0} (there : fits ≡ true → Others) (back : Others → fits ≡ true) where
   pub counts-reads : Reads (countsFault net fits) (CountsFirst net Others)
   unfolding countsFault
-  counts-reads = reads-both (reads-test (tells-test _ 1 0 counts-of of-counts)) (reads-test (tells-test _ 2 0 lengths-of of-lengths))
+  counts-reads =
+      reads-both (reads-test (tells-test _ 1 0 counts-of of-counts)) (reads-both (reads-test (tells-test _ 2 0 lengths-of of-lengths)) (weights-reads net))
     where
       counts-of : (outside (net .places) || outside (net .transitions)) ≡ false → Counts net
       counts-of e =
@@ -223,11 +230,12 @@ word-reads T w =
     (tells-scan (λ k. leb T (getD w k 0)) (length w) 5 {D = λ k. getD w k 0 < T} (λ k e. leb-false T (getD w k 0) e) (λ k h. lt-leb T (getD w k 0) h))))
 
 -- ---- 17
--- a refusal of 1, 2 or 3 is no 17
+-- a refusal of 1, 2, 18 or 3 is no 17
 counts-other : {net : Net} {Others Next : Type 0} {n at : ℕ} → n ≡ 17 → CountsFirst net Others n at Next → Next
 counts-other e (fails miss g) = let z = g .number in absurd (omega arith)
 counts-other e (holds c (fails miss g)) = let z = g .number in absurd (omega arith)
-counts-other e (holds c (holds l h)) = h
+counts-other e (holds c (holds l (fails miss g))) = let z = g .number in absurd (omega arith)
+counts-other e (holds c (holds l (holds w h))) = h
 
 start-other : {net : Net} {initial : List ℕ} {Others Next : Type 0} {n at : ℕ} → n ≡ 17 → StartFirst net initial Others n at Next → Next
 start-other e h = marking e (counts-other e h)

@@ -8,21 +8,22 @@ use lib.Dec.{eqb}
 use Rattle.net.specs.Net.{Net}
 use Rattle.net.specs.Marks.{remarked}
 use Rattle.wiring.specs.Wired.{loosePlace, looseTransition}
-use Rattle.refusals.specs.Given.{refuse, orElse, outside, unlike, countsFault, looseFault, netFault, markingFault, startFault, markedFault}
+use Rattle.weights.specs.Heavy.{heavy}
+use Rattle.refusals.specs.Given.{refuse, orElse, outside, unlike, weightsFault, countsFault, looseFault, netFault, markingFault, startFault, markedFault}
 
 module _ (net : Net) (marks : List ℕ) (long : length marks ≡ length (net .marks)) where
   pub remarked-counts : (fits : Bool) → countsFault net fits ≡ countsFault (remarked net marks) fits
-  unfolding countsFault
+  unfolding countsFault weightsFault heavy
   remarked-counts fits =
       ap
       (λ (n : ℕ).
       orElse (refuse (outside (net .places) || outside (net .transitions)) 1 0)
-      (refuse
+      (orElse (refuse
       ((unlike (length (net .pre)) (net .transitions * net .places)
       || (unlike (length (net .post)) (net .transitions * net .places) || (unlike (length (net .caps)) (net .places) || unlike n (net .places))))
       || not fits)
       2
-      0))
+      0) (weightsFault net)))
       (sym long)
 
   pub remarked-loose : looseFault net ≡ looseFault (remarked net marks)

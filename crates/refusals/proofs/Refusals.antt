@@ -14,10 +14,12 @@ use borrow.Author.Tests.{lt-ltb, le-ltb, ltb-false, lt-leb, leb-false, eq-eqb, n
 use Rattle.ground.specs.Limits.{countLimit, tokenLimit, wordLimit}
 use Rattle.ground.proofs.Tests.{never, or-false, both-false, and-true, unlike-false, like-false}
 use Rattle.ground.proofs.Scan.{first-none, first-below, first-most}
-use Rattle.net.specs.Net.{Net, Sized}
+use Rattle.net.specs.Net.{Net, Sized, Light}
 use Rattle.wiring.specs.Wired.{Wired, loosePlace, looseTransition, lowestLoosePlace, lowestLooseTransition}
 use Rattle.wiring.proofs.Loose.{wired-places, wired-transitions}
-use Rattle.refusals.specs.Given.{refuse, orElse, outside, unlike, misfit, sizedNet, tokenBad, badToken, countsFault, looseFault, netFault, markingFault, startFault, markedFault, badLetter, wordFault, Fine, Letters}
+use Rattle.weights.specs.Heavy.{heavy, lowestHeavy}
+use Rattle.weights.proofs.Heavies.{light-of, of-light}
+use Rattle.refusals.specs.Given.{refuse, orElse, outside, unlike, misfit, sizedNet, tokenBad, badToken, weightsFault, countsFault, looseFault, netFault, markingFault, startFault, markedFault, badLetter, wordFault, Fine, Letters}
 use Rattle.refusals.specs.declared.Fault.{Fault}
 use Rattle.refusals.specs.declared.Fault.the-variants.{Sound, Faulty}
 use Rattle.refusals.proofs.Chains.{or-sound, sound-or, refuse-sound, sound-refuse, chain-first, chain-next}
@@ -30,6 +32,24 @@ inside-of n e = let a = or-false (ltb n 1) (ltb countLimit n) e in (ltb-false n 
 
 pub few-of : (n : ℕ) (r : Bool) → r ≡ outside n → r ≡ false → n ≤ countLimit
 few-of n r e q = inside-of n (sym e ∙ q) .1
+
+-- the tests of a sized net
+sized-of : (net : Net) → (outside (net .places) || outside (net .transitions)) ≡ false → misfit net ≡ false → Sized net
+sized-of net c l =
+    let o = or-false (outside (net .places)) (outside (net .transitions)) c in
+    let x = or-false (unlike (length (net .pre)) (net .transitions * net .places)) _ l in
+    let y = or-false (unlike (length (net .post)) (net .transitions * net .places)) _ (x .1) in
+    let z = or-false (unlike (length (net .caps)) (net .places)) (unlike (length (net .marks)) (net .places)) (y .1) in
+    record {
+      some-places = inside-of (net .places) (o .0) .0;
+      few-places = inside-of (net .places) (o .0) .1;
+      some-transitions = inside-of (net .transitions) (o .1) .0;
+      few-transitions = inside-of (net .transitions) (o .1) .1;
+      pres = unlike-false _ _ (x .0);
+      posts = unlike-false _ _ (y .0);
+      capped = unlike-false _ _ (z .0);
+      noted = unlike-false _ _ (z .1);
+    }
 
 -- which refusal of counts and lengths: a, b, d are the tests' answers
 module _ (net : Net) (fits : Bool) (a : Bool) (ea : a ≡ outside (net .places)) where
@@ -51,11 +71,38 @@ module _ (net : Net) (fits : Bool) (a : Bool) (ea : a ≡ outside (net .places))
       unfolding countsFault
       counts-others q h = rw (sym ea ∙ qa, sym eb ∙ qb, sym ed ∙ q, h)
 
-      pub counts-none : d ≡ false → fits ≡ true → Sound ≡ countsFault net fits
+      pub counts-weights : (r : Fault) → d ≡ false → fits ≡ true → r ≡ weightsFault net → r ≡ countsFault net fits
       unfolding countsFault
-      counts-none q h = rw (sym ea ∙ qa, sym eb ∙ qb, sym ed ∙ q, h)
+      counts-weights r q h e = rw (sym ea ∙ qa, sym eb ∙ qb, sym ed ∙ q, h) e
 
-pub ruleset counts-faults = (few-of, counts-places, counts-transitions, counts-lengths, counts-others, counts-none)
+      pub counts-sized : d ≡ false → Sized net
+      counts-sized q = sized-of net (both-false _ _ (sym ea ∙ qa) (sym eb ∙ qb)) (sym ed ∙ q)
+
+pub ruleset counts-faults = (few-of, counts-places, counts-transitions, counts-lengths, counts-others, counts-weights)
+
+-- which refusal of weights; t is what was found
+module _ (net : Net) (t : ℕ) (e : t ≡ lowestHeavy net) where
+  pub weights-heavy : t < net .transitions → Faulty 18 t ≡ weightsFault net
+  unfolding weightsFault
+  weights-heavy h = rw (← e, lt-ltb t (net .transitions) h)
+
+  pub weights-light : net .transitions ≤ t → Sound ≡ weightsFault net
+  unfolding weightsFault
+  weights-light h = rw (← e, le-ltb t (net .transitions) h)
+
+pub ruleset weights-faults = (weights-heavy, weights-light)
+
+-- no weight is refused exactly where the net is light
+pub weights-met : (net : Net) → Sized net → weightsFault net ≡ Sound → Light net
+unfolding weightsFault
+weights-met net sized e =
+    let t = ltb-false (lowestHeavy net) (net .transitions) (refuse-sound _ 18 (lowestHeavy net) e) in
+    light-of net sized (omega (arith, first-most (heavy net) (net .transitions)))
+
+pub met-weights : (net : Net) → Sized net → Light net → weightsFault net ≡ Sound
+unfolding weightsFault
+met-weights net sized l =
+    let t = of-light net sized l in sound-refuse _ 18 (lowestHeavy net) (le-ltb (lowestHeavy net) (net .transitions) (omega arith))
 
 -- which refusal of a marking
 module _ (caps m : List ℕ) (p : ℕ) (e : p ≡ badToken caps m) where
@@ -72,21 +119,25 @@ pub ruleset marking-faults = (marking-bad, marking-fine)
 -- what holds where nothing is refused, a record for each chain, so that a demand more is a field more
 pub record CountsMet (net : Net) (fits : Bool) : Type 0 where
   pub sized : Sized net
+  pub light : Light net
   pub fitting : fits ≡ true
 
 pub record NetMet (net : Net) (fits : Bool) : Type 0 where
   pub sized : Sized net
+  pub light : Light net
   pub fitting : fits ≡ true
   pub wired : Wired net
 
 pub record StartMet (net : Net) (initial : List ℕ) (fits : Bool) : Type 0 where
   pub sized : Sized net
+  pub light : Light net
   pub marked : length initial ≡ net .places
   pub fitting : fits ≡ true
   pub fine : Fine (net .caps) initial
 
 pub record MarkedMet (net : Net) (initial : List ℕ) (fits : Bool) : Type 0 where
   pub sized : Sized net
+  pub light : Light net
   pub marked : length initial ≡ net .places
   pub fitting : fits ≡ true
   pub fine : Fine (net .caps) initial
@@ -95,24 +146,6 @@ pub record MarkedMet (net : Net) (initial : List ℕ) (fits : Bool) : Type 0 whe
 pub record WordMet (n : ℕ) (w : List ℕ) : Type 0 where
   pub short : length w ≤ wordLimit
   pub letters : Letters n w
-
--- the tests of a sized net
-sized-of : (net : Net) → (outside (net .places) || outside (net .transitions)) ≡ false → misfit net ≡ false → Sized net
-sized-of net c l =
-    let o = or-false (outside (net .places)) (outside (net .transitions)) c in
-    let x = or-false (unlike (length (net .pre)) (net .transitions * net .places)) _ l in
-    let y = or-false (unlike (length (net .post)) (net .transitions * net .places)) _ (x .1) in
-    let z = or-false (unlike (length (net .caps)) (net .places)) (unlike (length (net .marks)) (net .places)) (y .1) in
-    record {
-      some-places = inside-of (net .places) (o .0) .0;
-      few-places = inside-of (net .places) (o .0) .1;
-      some-transitions = inside-of (net .transitions) (o .1) .0;
-      few-transitions = inside-of (net .transitions) (o .1) .1;
-      pres = unlike-false _ _ (x .0);
-      posts = unlike-false _ _ (y .0);
-      capped = unlike-false _ _ (z .0);
-      noted = unlike-false _ _ (z .1);
-    }
 
 -- the test of `Sized` as the code comes to it: a, b, d are the tests' answers
 module _ (net : Net) (a : Bool) (ea : a ≡ outside (net .places)) where
@@ -136,9 +169,11 @@ sized-true net e =
 pub counts-met : (net : Net) (fits : Bool) → countsFault net fits ≡ Sound → CountsMet net fits
 unfolding countsFault
 counts-met net fits e =
-    let a = or-sound (refuse (outside (net .places) || outside (net .transitions)) 1 0) (refuse (misfit net || not fits) 2 0) e in
-    let f = or-false (misfit net) (not fits) (refuse-sound _ 2 0 (a .1)) in
-    record { sized = sized-of net (refuse-sound _ 1 0 (a .0)) (f .0); fitting = not-false fits (f .1) }
+    let a = or-sound (refuse (outside (net .places) || outside (net .transitions)) 1 0) (orElse (refuse (misfit net || not fits) 2 0) (weightsFault net)) e in
+    let b = or-sound (refuse (misfit net || not fits) 2 0) (weightsFault net) (a .1) in
+    let f = or-false (misfit net) (not fits) (refuse-sound _ 2 0 (b .0)) in
+    let z = sized-of net (refuse-sound _ 1 0 (a .0)) (f .0) in
+    record { sized = z; light = weights-met net z (b .1); fitting = not-false fits (f .1) }
 
 pub inside-is : (n : ℕ) → 1 ≤ n → n ≤ countLimit → outside n ≡ false
 inside-is n h l = both-false (ltb n 1) (ltb countLimit n) (le-ltb n 1 h) (le-ltb countLimit n l)
@@ -153,7 +188,8 @@ lengths-like net s = both-false _ _ (like-false _ _ (s .pres)) (both-false _ _ (
 pub met-counts : (net : Net) (fits : Bool) → CountsMet net fits → countsFault net fits ≡ Sound
 unfolding countsFault
 met-counts net fits m =
-    sound-or _ _ (sound-refuse _ 1 0 (counts-inside net (m .sized))) (sound-refuse _ 2 0 (both-false _ _ (lengths-like net (m .sized)) (rw (m .fitting))))
+    sound-or _ _ (sound-refuse _ 1 0 (counts-inside net (m .sized)))
+    (sound-or _ _ (sound-refuse _ 2 0 (both-false _ _ (lengths-like net (m .sized)) (rw (m .fitting)))) (met-weights net (m .sized) (m .light)))
 
 -- no node is refused exactly where the net is wired
 pub loose-met : (net : Net) → looseFault net ≡ Sound → Wired net
@@ -180,18 +216,18 @@ unfolding netFault
 net-met net fits e =
     let a = or-sound (countsFault net fits) (looseFault net) e in
     let m = counts-met net fits (a .0) in
-    record { sized = m .sized; fitting = m .fitting; wired = loose-met net (a .1) }
+    record { sized = m .sized; light = m .light; fitting = m .fitting; wired = loose-met net (a .1) }
 
 pub met-net : (net : Net) (fits : Bool) → NetMet net fits → netFault net fits ≡ Sound
 unfolding netFault
-met-net net fits m = sound-or _ _ (met-counts net fits (record { sized = m .sized; fitting = m .fitting })) (met-loose net (m .wired))
+met-net net fits m = sound-or _ _ (met-counts net fits (record { sized = m .sized; light = m .light; fitting = m .fitting })) (met-loose net (m .wired))
 
 -- where something else does not fit, 1 or 2 is given whatever follows
 pub counts-unfit : (net : Net) (next : Fault) → orElse (countsFault net false) next ≡ countsFault net false
 unfolding countsFault
 counts-unfit net next = go (outside (net .places) || outside (net .transitions)) (misfit net)
   where
-    go : (a b : Bool) → orElse (orElse (refuse a 1 0) (refuse (b || true) 2 0)) next ≡ orElse (refuse a 1 0) (refuse (b || true) 2 0)
+    go : (a b : Bool) → orElse (orElse (refuse a 1 0) (orElse (refuse (b || true) 2 0) (weightsFault net))) next ≡ orElse (refuse a 1 0) (orElse (refuse (b || true) 2 0) (weightsFault net))
     go true b = refl
     go false true = refl
     go false false = refl
@@ -213,7 +249,7 @@ pub unsized-unfit : (net : Net) (fits : Bool) → sizedNet net ≡ false → cou
 unfolding countsFault
 unsized-unfit net fits e = go (outside (net .places) || outside (net .transitions)) (misfit net) fits e
   where
-    go : (a b f : Bool) → (not a && not b) ≡ false → orElse (refuse a 1 0) (refuse (b || not f) 2 0) ≡ orElse (refuse a 1 0) (refuse (b || true) 2 0)
+    go : (a b f : Bool) → (not a && not b) ≡ false → orElse (refuse a 1 0) (orElse (refuse (b || not f) 2 0) (weightsFault net)) ≡ orElse (refuse a 1 0) (orElse (refuse (b || true) 2 0) (weightsFault net))
     go true b f q = refl
     go false true f q = refl
     go false false f q = never q
@@ -277,14 +313,14 @@ start-met net initial fits e =
     let a = or-sound (countsFault net (eqb (length initial) (net .places) && fits)) (markingFault (net .caps) initial) e in
     let c = counts-met net (eqb (length initial) (net .places) && fits) (a .0) in
     let f = and-true (eqb (length initial) (net .places)) fits (c .fitting) in
-    record { sized = c .sized; marked = eqb-true _ _ (f .0); fitting = f .1; fine = fine-of (net .caps) initial (a .1) }
+    record { sized = c .sized; light = c .light; marked = eqb-true _ _ (f .0); fitting = f .1; fine = fine-of (net .caps) initial (a .1) }
 
 pub met-start : (net : Net) (initial : List ℕ) (fits : Bool) → StartMet net initial fits → startFault net initial fits ≡ Sound
 unfolding startFault
 met-start net initial fits m =
     sound-or _ _
     (met-counts net (eqb (length initial) (net .places) && fits)
-    (record { sized = m .sized; fitting = rw (eq-eqb (length initial) (net .places) (m .marked)) (m .fitting) }))
+    (record { sized = m .sized; light = m .light; fitting = rw (eq-eqb (length initial) (net .places) (m .marked)) (m .fitting) }))
     (fine-is (net .caps) initial (m .fine))
 
 pub marked-met : (net : Net) (initial : List ℕ) (fits : Bool) → markedFault net initial fits ≡ Sound → MarkedMet net initial fits
@@ -292,12 +328,12 @@ unfolding markedFault
 marked-met net initial fits e =
     let a = or-sound (startFault net initial fits) (looseFault net) e in
     let m = start-met net initial fits (a .0) in
-    record { sized = m .sized; marked = m .marked; fitting = m .fitting; fine = m .fine; wired = loose-met net (a .1) }
+    record { sized = m .sized; light = m .light; marked = m .marked; fitting = m .fitting; fine = m .fine; wired = loose-met net (a .1) }
 
 pub met-marked : (net : Net) (initial : List ℕ) (fits : Bool) → MarkedMet net initial fits → markedFault net initial fits ≡ Sound
 unfolding markedFault
 met-marked net initial fits m =
-    sound-or _ _ (met-start net initial fits (record { sized = m .sized; marked = m .marked; fitting = m .fitting; fine = m .fine })) (met-loose net (m .wired))
+    sound-or _ _ (met-start net initial fits (record { sized = m .sized; light = m .light; marked = m .marked; fitting = m .fitting; fine = m .fine })) (met-loose net (m .wired))
 
 -- which refusal of a node, from the nodes that were found
 module _ (P T p t : ℕ) where

@@ -6,6 +6,7 @@ use lib.ListN.{length, getD}
 use Rattle.ground.specs.Limits.{countLimit, tokenLimit, wordLimit}
 use Rattle.net.specs.Net.{Net}
 use Rattle.wiring.specs.Wired.{PlaceWired, TransitionWired}
+use Rattle.weights.specs.Heavy.{LightAt}
 use Rattle.refusals.specs.Given.{Fine, Letters}
 
 -- the demand does not hold, and what is given is `Given`; or it holds, and what comes next decides
@@ -52,9 +53,12 @@ pub record FineAt (caps m : List ℕ) (p : ℕ) : Type 0 where
   pub within : getD m p 0 ≤ getD caps p 0
 
 -- The chains of Given.antt, read so; `Next` is what comes after them.
--- counts and lengths
+-- counts, lengths and weights: 18 at the lowest transition with a weight over the limit
 abbrev pub CountsFirst : Net → Type 0 → ℕ → ℕ → Type 0 → Type 0
-CountsFirst net Others n at Next = First (Counts net) (Given 1 0 n at) (First (Lengths net Others) (Given 2 0 n at) Next)
+CountsFirst net Others n at Next =
+    First (Counts net) (Given 1 0 n at)
+    (First (Lengths net Others) (Given 2 0 n at)
+    (First ((t : ℕ) → t < net .transitions → LightAt net t) (GivenAt 18 (LightAt net) (net .transitions) n at) Next))
 
 -- loose nodes: 17 at the lowest place that has no arc; 17 at 64 plus the lowest transition that has none
 abbrev pub LooseFirst : Net → ℕ → ℕ → Type 0 → Type 0
@@ -66,7 +70,7 @@ LooseFirst net n at Next =
 abbrev pub NetFirst : Net → Type 0 → ℕ → ℕ → Type 0 → Type 0
 NetFirst net Others n at Next = CountsFirst net Others n at (LooseFirst net n at Next)
 
--- counts, lengths and the initial marking
+-- counts, lengths, weights and the initial marking
 abbrev pub StartFirst : Net → List ℕ → Type 0 → ℕ → ℕ → Type 0 → Type 0
 StartFirst net initial Others n at Next =
     CountsFirst net ((length initial ≡ net .places) × Others) n at

@@ -1,4 +1,4 @@
--- To be believed: what is lent, and the refusals that the entries share, "in number order": 1, 2, 3 and 17 for a net and its marking, 4 and 5 for a word.
+-- To be believed: what is lent, and the refusals that the entries share, "in number order": 1, 2, 18, 3 and 17 for a net and its marking, 4 and 5 for a word.
 use Prim.Native.Nat.{ℕ, _+_, _*_, _-_, _≤_, _<_}
 use mathlib.Core.Bool.{Bool, true, false, not, _&&_, _||_}
 use mathlib.Core.List.{List}
@@ -9,6 +9,7 @@ use Rattle.ground.specs.Lists.{first}
 use Rattle.net.specs.Net.{Net}
 use Rattle.net.specs.Letter.{Small}
 use Rattle.wiring.specs.Wired.{lowestLoosePlace, lowestLooseTransition}
+use Rattle.weights.specs.Heavy.{lowestHeavy}
 use Rattle.refusals.specs.declared.Fault.{Fault}
 use Rattle.refusals.specs.declared.Fault.the-variants.{Sound, Faulty}
 
@@ -44,11 +45,17 @@ tokenBad cap tokens = ltb tokenLimit tokens || ltb cap tokens
 abbrev pub badToken : List ℕ → List ℕ → ℕ
 badToken caps m = first (λ p. tokenBad (getD caps p 0) (getD m p 0)) (length m)
 
+-- 18, document 02, E6: "a lent weight over 4,095, position its transition", the lowest over Pre and Post together
+unfoldable pub weightsFault : Net → Fault
+weightsFault net = refuse (ltb (lowestHeavy net) (net .transitions)) 18 (lowestHeavy net)
+
 -- The chain of refusals that the questions share, in five names, so that a refusal more stands in one of them:
--- what is wrong with counts and lengths, 1 and 2; `fits` tells whether the lengths of all else that is lent agree with the counts
+-- what is wrong with counts, lengths and weights: 1, 2, and 18 "after 2 and before 3"; `fits` tells whether the lengths of all else that is lent agree
+-- with the counts
 unfoldable pub countsFault : Net → Bool → Fault
 countsFault net fits =
-    orElse (refuse (outside (net .places) || outside (net .transitions)) 1 0) (refuse (misfit net || not fits) 2 0)
+    orElse (refuse (outside (net .places) || outside (net .transitions)) 1 0)
+    (orElse (refuse (misfit net || not fits) 2 0) (weightsFault net))
 
 -- 17, document 02, E4: "position the lowest loose place, else 64 plus the lowest loose transition"
 unfoldable pub looseFault : Net → Fault
@@ -64,7 +71,7 @@ netFault net fits = orElse (countsFault net fits) (looseFault net)
 unfoldable pub markingFault : List ℕ → List ℕ → Fault
 markingFault caps m = refuse (ltb (badToken caps m) (length m)) 3 (badToken caps m)
 
--- with counts, lengths and the initial marking, for questions whose list or target has a 3 of its own: they add what comes after it
+-- with counts, lengths, weights and the initial marking, for questions whose list or target has a 3 of its own: they add what comes after it
 unfoldable pub startFault : Net → List ℕ → Bool → Fault
 startFault net initial fits =
     orElse (countsFault net (eqb (length initial) (net .places) && fits)) (markingFault (net .caps) initial)

@@ -9,7 +9,7 @@ ghost use lib.Dec.{leb, ltb};
 ghost use lib.ListN.{length};
 ghost use Rattle.ground.specs.Limits.{countLimit};
 ghost use Rattle.net.specs.Net.{netOf, Sized};
-ghost use Rattle.refusals.specs.Given.{refuse, orElse, outside, misfit, sizedNet, tokenBad, badToken, countsFault, looseFault, netFault, markingFault, startFault, markedFault, badLetter, wordFault};
+ghost use Rattle.refusals.specs.Given.{refuse, orElse, outside, misfit, sizedNet, tokenBad, badToken, weightsFault, countsFault, looseFault, netFault, markingFault, startFault, markedFault, badLetter, wordFault};
 
 // Whether what was lent can be used, else a refusal's number and position.
 pub enum Fault {
@@ -97,8 +97,28 @@ pub fn is_sized(
     !is_misfit(places, transitions, pre, post, caps, marks)
 }
 
-// Refusals 1 and 2: counts and lengths. `fits` tells whether the lengths of all else that an entry
-// is lent agree with the counts, which is refusal 2 too.
+// Refusal 18: the lowest transition with a weight over what is allowed.
+fn weights_fault(
+    places: usize,
+    transitions: usize,
+    pre: &[Weight],
+    post: &[Weight],
+    caps: &[u16],
+    marks: &[u8],
+) -> Fault
+    requires { ⌜ Sized (netOf places transitions (now pre) (now post) (now caps) (now marks)) ⌝ }
+    ensures { λ r. ⌜ r ≡ weightsFault (netOf places transitions (now (pre .entry)) (now (post .entry)) (now (caps .entry)) (now (marks .entry))) ⌝ }
+{
+    let t = weights::heavy_transition(places, transitions, pre, post, caps, marks);
+    if t < transitions {
+        Fault::Faulty(18, t)
+    } else {
+        Fault::Sound
+    }
+}
+
+// Refusals 1, 2 and 18: counts, lengths and weights. `fits` tells whether the lengths of all else that
+// an entry is lent agree with the counts, which is refusal 2 too.
 pub fn counts_fault(
     places: usize,
     transitions: usize,
@@ -120,7 +140,7 @@ pub fn counts_fault(
         return Fault::Faulty(2, 0);
     }
     if fits {
-        Fault::Sound
+        weights_fault(places, transitions, pre, post, caps, marks)
     } else {
         Fault::Faulty(2, 0)
     }
@@ -190,7 +210,7 @@ pub fn marking_fault(caps: &[u16], marking: &[u16]) -> Fault
     }
 }
 
-// Refusals 1, 2 and 3 for a net and its initial marking, for questions whose list or target has a 3
+// Refusals 1, 2, 18 and 3 for a net and its initial marking, for questions whose list or target has a 3
 // of its own.
 pub fn start_fault(
     places: usize,

@@ -16,14 +16,20 @@ abbrev μ-loop : tie.MeasureT-loop
 loop-holds : tie.Need-loop-holds Inv-loop μ-loop
 loop-holds c = search (fills, needs)
 
+mul-moved : tie.Need-mul-moved Inv-loop μ-loop
+mul-moved c = search needs
+
 shared-slice-read-moved : tie.Need-shared-slice-read-moved Inv-loop μ-loop
 shared-slice-read-moved c = search needs
+
+mul-moved-2 : tie.Need-mul-moved-2 Inv-loop μ-loop
+mul-moved-2 c = search needs
 
 shared-slice-read-moved-2 : tie.Need-shared-slice-read-moved-2 Inv-loop μ-loop
 shared-slice-read-moved-2 c = search needs
 
-mul-moved : tie.Need-mul-moved Inv-loop μ-loop
-mul-moved c = search needs
+mul-moved-3 : tie.Need-mul-moved-3 Inv-loop μ-loop
+mul-moved-3 c = search needs
 
 slice-read-moved : tie.Need-slice-read-moved Inv-loop μ-loop
 slice-read-moved c = search needs
@@ -59,9 +65,11 @@ fire-spec =
     Inv-loop
     μ-loop
     loop-holds
-    shared-slice-read-moved
-    shared-slice-read-moved-2
     mul-moved
+    shared-slice-read-moved
+    mul-moved-2
+    shared-slice-read-moved-2
+    mul-moved-3
     slice-read-moved
     moved-requires
     mul-marking

@@ -30,6 +30,9 @@ mul-a c = let s : tie.Start = search needs in omega (arith, pre-ends s)
 add-e : tie.Need-add-e
 add-e c = let s : tie.Start = search needs in omega (arith, pre-ends s)
 
+mul-fire : tie.Need-mul-fire
+mul-fire c = let s : tie.Start = search needs in omega (arith, pre-ends s, post-ends s)
+
 sub-fire : tie.Need-sub-fire
 sub-fire c = search needs
 
@@ -38,6 +41,9 @@ part-fire-start c = search needs
 
 part-fire-end : tie.Need-part-fire-end
 part-fire-end c = let s : tie.Start = search needs in omega (arith, pre-ends s, post-ends s)
+
+mul-fire-2 : tie.Need-mul-fire-2
+mul-fire-2 c = let s : tie.Start = search needs in omega (arith, pre-ends s, post-ends s)
 
 sub-fire-2 : tie.Need-sub-fire-2
 sub-fire-2 c = search needs
@@ -70,9 +76,11 @@ fire-at-spec =
     (tie.spec
     mul-a
     add-e
+    mul-fire
     sub-fire
     part-fire-start
     part-fire-end
+    mul-fire-2
     sub-fire-2
     part-fire-start-2
     part-fire-end-2

@@ -22,14 +22,20 @@ found s = over (arcsOf (now (s .args .takes)) (now (s .args .puts)) (now (s .arg
 loop-holds : tie.Need-loop-holds Inv-loop μ-loop
 loop-holds c = search (scans, needs)
 
+mul-is-over : tie.Need-mul-is-over Inv-loop μ-loop
+mul-is-over c = search needs
+
 shared-slice-read-is-over : tie.Need-shared-slice-read-is-over Inv-loop μ-loop
 shared-slice-read-is-over c = search needs
+
+mul-is-over-2 : tie.Need-mul-is-over-2 Inv-loop μ-loop
+mul-is-over-2 c = search needs
 
 shared-slice-read-is-over-2 : tie.Need-shared-slice-read-is-over-2 Inv-loop μ-loop
 shared-slice-read-is-over-2 c = search needs
 
-mul-is-over : tie.Need-mul-is-over Inv-loop μ-loop
-mul-is-over c = search needs
+mul-is-over-3 : tie.Need-mul-is-over-3 Inv-loop μ-loop
+mul-is-over-3 c = search needs
 
 shared-slice-read-is-over-3 : tie.Need-shared-slice-read-is-over-3 Inv-loop μ-loop
 shared-slice-read-is-over-3 c = search needs
@@ -37,8 +43,8 @@ shared-slice-read-is-over-3 c = search needs
 shared-slice-read-is-over-4 : tie.Need-shared-slice-read-is-over-4 Inv-loop μ-loop
 shared-slice-read-is-over-4 c = search needs
 
-mul-is-over-2 : tie.Need-mul-is-over-2 Inv-loop μ-loop
-mul-is-over-2 c = search needs
+mul-is-over-4 : tie.Need-mul-is-over-4 Inv-loop μ-loop
+mul-is-over-4 c = search needs
 
 shared-slice-read-is-over-5 : tie.Need-shared-slice-read-is-over-5 Inv-loop μ-loop
 shared-slice-read-is-over-5 c = search needs
@@ -76,12 +82,14 @@ lowest-over-spec =
     Inv-loop
     μ-loop
     loop-holds
-    shared-slice-read-is-over
-    shared-slice-read-is-over-2
     mul-is-over
+    shared-slice-read-is-over
+    mul-is-over-2
+    shared-slice-read-is-over-2
+    mul-is-over-3
     shared-slice-read-is-over-3
     shared-slice-read-is-over-4
-    mul-is-over-2
+    mul-is-over-4
     shared-slice-read-is-over-5
     is-over-requires
     returns

@@ -15,11 +15,14 @@ abbrev μ-loop : tie.MeasureT-loop
 loop-holds : tie.Need-loop-holds Inv-loop μ-loop
 loop-holds c = search (scans, needs)
 
+mul-is-short : tie.Need-mul-is-short Inv-loop μ-loop
+mul-is-short c = search needs
+
 shared-slice-read-is-short : tie.Need-shared-slice-read-is-short Inv-loop μ-loop
 shared-slice-read-is-short c = search needs
 
-mul-is-short : tie.Need-mul-is-short Inv-loop μ-loop
-mul-is-short c = search needs
+mul-is-short-2 : tie.Need-mul-is-short-2 Inv-loop μ-loop
+mul-is-short-2 c = search needs
 
 shared-slice-read-is-short-2 : tie.Need-shared-slice-read-is-short-2 Inv-loop μ-loop
 shared-slice-read-is-short-2 c = search needs
@@ -49,8 +52,9 @@ lowest-short-spec =
     Inv-loop
     μ-loop
     loop-holds
-    shared-slice-read-is-short
     mul-is-short
+    shared-slice-read-is-short
+    mul-is-short-2
     shared-slice-read-is-short-2
     is-short-requires
     returns

@@ -18,14 +18,20 @@ abbrev μ-loop : tie.MeasureT-loop
 loop-holds : tie.Need-loop-holds Inv-loop μ-loop
 loop-holds c = search (tallies, needs)
 
+mul-stops-at : tie.Need-mul-stops-at Inv-loop μ-loop
+mul-stops-at c = search needs
+
 shared-slice-read-stops-at : tie.Need-shared-slice-read-stops-at Inv-loop μ-loop
 shared-slice-read-stops-at c = search needs
+
+mul-stops-at-2 : tie.Need-mul-stops-at-2 Inv-loop μ-loop
+mul-stops-at-2 c = search needs
 
 shared-slice-read-stops-at-2 : tie.Need-shared-slice-read-stops-at-2 Inv-loop μ-loop
 shared-slice-read-stops-at-2 c = search needs
 
-mul-stops-at : tie.Need-mul-stops-at Inv-loop μ-loop
-mul-stops-at c = search needs
+mul-stops-at-3 : tie.Need-mul-stops-at-3 Inv-loop μ-loop
+mul-stops-at-3 c = search needs
 
 shared-slice-read-stops-at-3 : tie.Need-shared-slice-read-stops-at-3 Inv-loop μ-loop
 shared-slice-read-stops-at-3 c = search needs
@@ -33,8 +39,8 @@ shared-slice-read-stops-at-3 c = search needs
 shared-slice-read-stops-at-4 : tie.Need-shared-slice-read-stops-at-4 Inv-loop μ-loop
 shared-slice-read-stops-at-4 c = search needs
 
-mul-stops-at-2 : tie.Need-mul-stops-at-2 Inv-loop μ-loop
-mul-stops-at-2 c = search needs
+mul-stops-at-4 : tie.Need-mul-stops-at-4 Inv-loop μ-loop
+mul-stops-at-4 c = search needs
 
 shared-slice-read-stops-at-5 : tie.Need-shared-slice-read-stops-at-5 Inv-loop μ-loop
 shared-slice-read-stops-at-5 c = search needs
@@ -64,12 +70,14 @@ may-fire-spec =
     Inv-loop
     μ-loop
     loop-holds
-    shared-slice-read-stops-at
-    shared-slice-read-stops-at-2
     mul-stops-at
+    shared-slice-read-stops-at
+    mul-stops-at-2
+    shared-slice-read-stops-at-2
+    mul-stops-at-3
     shared-slice-read-stops-at-3
     shared-slice-read-stops-at-4
-    mul-stops-at-2
+    mul-stops-at-4
     shared-slice-read-stops-at-5
     stops-at-requires
     add-stopped

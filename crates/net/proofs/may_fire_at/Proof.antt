@@ -27,6 +27,9 @@ mul-a c = let s : tie.Start = search needs in omega (arith, pre-ends s)
 add-e : tie.Need-add-e
 add-e c = let s : tie.Start = search needs in omega (arith, pre-ends s)
 
+mul-may-fire : tie.Need-mul-may-fire
+mul-may-fire c = let s : tie.Start = search needs in omega (arith, pre-ends s, post-ends s)
+
 sub-may-fire : tie.Need-sub-may-fire
 sub-may-fire c = search needs
 
@@ -35,6 +38,9 @@ part-may-fire-start c = search needs
 
 part-may-fire-end : tie.Need-part-may-fire-end
 part-may-fire-end c = let s : tie.Start = search needs in omega (arith, pre-ends s, post-ends s)
+
+mul-may-fire-2 : tie.Need-mul-may-fire-2
+mul-may-fire-2 c = let s : tie.Start = search needs in omega (arith, pre-ends s, post-ends s)
 
 sub-may-fire-2 : tie.Need-sub-may-fire-2
 sub-may-fire-2 c = search needs
@@ -63,9 +69,11 @@ may-fire-at-spec =
     (tie.spec
     mul-a
     add-e
+    mul-may-fire
     sub-may-fire
     part-may-fire-start
     part-may-fire-end
+    mul-may-fire-2
     sub-may-fire-2
     part-may-fire-start-2
     part-may-fire-end-2

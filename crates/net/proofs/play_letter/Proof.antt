@@ -27,6 +27,9 @@ mul-a c = let s : tie.Start = search needs in omega (arith, pre-ends s)
 add-e : tie.Need-add-e
 add-e c = let s : tie.Start = search needs in omega (arith, pre-ends s)
 
+mul-play-rows : tie.Need-mul-play-rows
+mul-play-rows c = let s : tie.Start = search needs in omega (arith, pre-ends s, post-ends s)
+
 sub-play-rows : tie.Need-sub-play-rows
 sub-play-rows c = search needs
 
@@ -35,6 +38,9 @@ part-play-rows-start c = search needs
 
 part-play-rows-end : tie.Need-part-play-rows-end
 part-play-rows-end c = let s : tie.Start = search needs in omega (arith, pre-ends s)
+
+mul-play-rows-2 : tie.Need-mul-play-rows-2
+mul-play-rows-2 c = let s : tie.Start = search needs in omega (arith, pre-ends s, post-ends s)
 
 sub-play-rows-2 : tie.Need-sub-play-rows-2
 sub-play-rows-2 c = search needs
@@ -63,9 +69,11 @@ play-letter-spec =
     (tie.spec
     mul-a
     add-e
+    mul-play-rows
     sub-play-rows
     part-play-rows-start
     part-play-rows-end
+    mul-play-rows-2
     sub-play-rows-2
     part-play-rows-start-2
     part-play-rows-end-2

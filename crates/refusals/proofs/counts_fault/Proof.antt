@@ -1,4 +1,6 @@
-use Rattle.refusals.proofs.Refusals.{counts-faults}
+use denote.Ref.{now}
+use Rattle.net.specs.Net.{netOf}
+use Rattle.refusals.proofs.Refusals.{counts-faults, counts-sized}
 use borrow.Author.Needs.{needs}
 use Rattle.refusals.proofs.counts_fault.Statement.{statement}
 use Rattle.refusals.proofs.counts_fault.Tie as tie
@@ -21,6 +23,14 @@ is-misfit-requires c κs = search (counts-faults, needs)
 returns-3 : tie.Need-returns-3
 returns-3 c = search (counts-faults, needs)
 
+weights-fault-requires : tie.Need-weights-fault-requires
+weights-fault-requires c κs =
+    let s : tie.Start = search needs in
+    let m = c .before .before in
+    let b = m .before .before in
+    let a = b .before .before in
+    counts-sized (netOf (s .args .places) (s .args .transitions) (now (s .args .pre)) (now (s .args .post)) (now (s .args .caps)) (now (s .args .marks))) (s .args .fits) _ (a .is-outside .ensures) _ (b .before .if1 .left) (b .is-outside2 .ensures) _ (m .before .if2 .left) (m .is-misfit .ensures) (c .before .if3 .left)
+
 returns-4 : tie.Need-returns-4
 returns-4 c = search (counts-faults, needs)
 
@@ -37,5 +47,6 @@ counts-fault-spec =
     returns-2
     is-misfit-requires
     returns-3
+    weights-fault-requires
     returns-4
     returns-5)
