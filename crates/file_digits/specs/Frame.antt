@@ -5,9 +5,9 @@ use mathlib.Core.List.{List, [], _∷_}
 use lib.ListN.{getD}
 use lib.Dec.{leb}
 
--- "an even number, 2 to 260, of digits"
+-- document 02, E6: "Lines may have 516 digits" (01 had 260)
 abbrev pub lineLimit : ℕ
-lineLimit = 260
+lineLimit = 516
 
 -- "all but the last hold 64"
 abbrev pub block : ℕ

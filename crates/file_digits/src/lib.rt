@@ -7,7 +7,7 @@ ghost use lib.Seq.{sets};
 ghost use Rattle.file_digits.specs.Frame.{valueOf, isDigit, allDigits, byteAt, wordAt, bytesFrom, wordsFrom};
 
 // The most digits of a line.
-pub const LINE_LIMIT: usize = 260;
+pub const LINE_LIMIT: usize = 516;
 
 // The letters of a full frame 05.
 pub const BLOCK: usize = 64;

@@ -11,10 +11,11 @@ use Rattle.refusals.specs.Given.{refuse, orElse}
 use Rattle.refusals.specs.declared.Fault.{Fault}
 use Rattle.file_digits.specs.Frame.{block, byteAt}
 use Rattle.file_mask.specs.Mask.{maskBytes}
+use Rattle.file_row.specs.Row.{isRow, weightBytes}
 use Rattle.file_line.specs.declared.Reading.{Reading}
 use Rattle.file_line.specs.declared.Took.{Took}
 use Rattle.file_line.specs.declared.Took.the-variants.{Next, Refused}
-use Rattle.file_line.specs.Read.{cellLimit, Rooms, kindOf, lettersIn, ruleOf, formedOf, countsBad, tokensBad, wordOver, lettersBad, lineHere}
+use Rattle.file_line.specs.Read.{cellLimit, Rooms, kindOf, lettersIn, ruleOf, formedOf, countsBad, weightsBad, tokensBad, wordOver, lettersBad, lineHere}
 
 -- what holds of every state of a reading
 pub record Good (s : Reading) : Type 0 where
@@ -60,9 +61,10 @@ askedOf s d x =
     orElse (refuse (not (ruleOf d)) 11 (lineHere s))
     (orElse (refuse (not (formedOf s d)) 12 (lineHere s))
     (orElse (refuse (countsBad d) 1 (lineHere s))
+    (orElse (refuse (weightsBad s d) 18 (lineHere s))
     (orElse (refuse (tokensBad s d x) 3 (lineHere s))
     (orElse (refuse (wordOver s d) 4 (lineHere s))
-    (refuse (lettersBad s d) 5 (lineHere s))))))
+    (refuse (lettersBad s d) 5 (lineHere s)))))))
 
 -- what a line that is taken has, by its kind (`accepted` has it from document 01's demands)
 pub record Accepted (s : Reading) (d : List ℕ) : Type 0 where
@@ -71,9 +73,9 @@ pub record Accepted (s : Reading) (d : List ℕ) : Type 0 where
   pub caps : kindOf d ≡ 2 → (s .phase ≡ 2) × (length d ≡ 2 + 4 * s .places)
   pub pockets : kindOf d ≡ 6 → (s .phase ≡ 6) × (length d ≡ 2 + 2 * maskBytes)
   pub tokens : kindOf d ≡ 3 → ((s .phase ≡ 6) ⊎ (s .phase ≡ 3)) × (length d ≡ 2 + 4 * s .places)
-  pub row : kindOf d ≡ 4 → (s .phase ≡ 4) × (length d ≡ 4 + 4 * s .places)
+  pub row : isRow (kindOf d) ≡ true → (s .phase ≡ 4) × (length d ≡ 4 + 4 * (weightBytes (kindOf d) * s .places))
   pub letters : kindOf d ≡ 5 → (s .phase ≡ 5) × (4 ≤ length d) × (length d ≤ 2 + 2 * block) × (s .letters + lettersIn d ≤ wordLimit)
-  pub kind : kindOf d ≤ 6
+  pub kind : kindOf d ≤ 7
   pub kind-least : 1 ≤ kindOf d
 
 -- a state that goes on is good, and a refusal has a number

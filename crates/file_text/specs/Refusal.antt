@@ -34,6 +34,6 @@ pub data RefusedFile (x : Rooms) (file : List ℕ) (n l : ℕ) : Type 0 where
   -- "frames missing at the end": 12 on the line after the last
   frames-missing : (s : Reading) (y : Rooms) → TakenLines x file s y → (s .phase ≡ 5 → ⊥) → n ≡ 12 → l ≡ feeds file + 1 → RefusedFile x file n l
 
--- the last line on which a file can be refused: the one after 01, 02, 06, 03, a 04 for each of 64 transitions, and the 1,024 times 05 of the longest word
+-- the last line on which a file can be refused: the one after 01, 02, 06, 03, an 04 or 07 for each of 64 transitions, and the 1,024 times 05 of the longest word
 abbrev pub lastLine : ℕ
 lastLine = 4 + countLimit + lettersLines wordLimit + 1

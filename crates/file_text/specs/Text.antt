@@ -9,6 +9,7 @@ use lib.Dec.{eqb}
 use Rattle.ground.specs.Limits.{noCapacity, wordLimit}
 use Rattle.file_digits.specs.Frame.{block}
 use Rattle.file_put.specs.Put.{lineText, twos}
+use Rattle.file_row.specs.Row.{rowFrame}
 use Rattle.file_mask.specs.Mask.{bitOf, Bits, maskOf, eight}
 use Rattle.net.specs.Net.{Net, Sized, Light}
 use Rattle.net.specs.Letter.{row, Small}
@@ -41,9 +42,9 @@ pocketsCount marks = cond (eqb (maskOf marks) 0) 0 1
 abbrev pub tokensLine : List ℕ → List ℕ
 tokensLine initial = lineText (3 ∷ twos initial)
 
--- "04 t, P Pre bytes, P Post bytes"
+-- "04 t, P Pre bytes, P Post bytes"; document 02, E6: an 07 with two-byte weights "exactly when one of its weights is over 255"
 abbrev pub rowLine : Net → ℕ → List ℕ
-rowLine net t = lineText (4 ∷ t ∷ (row (net .places) t (net .pre) ++ row (net .places) t (net .post)))
+rowLine net t = lineText (rowFrame t (row (net .places) t (net .pre)) (row (net .places) t (net .post)))
 
 -- "05 with 1 to 64 letters of a byte; .. all but the last hold 64": line k, from 0, of the word cut into rows of 64
 abbrev pub lettersLine : List ℕ → ℕ → List ℕ
@@ -58,7 +59,7 @@ unfoldable pub joined : (ℕ → List ℕ) → ℕ → List ℕ
 joined line zero = []
 joined line (suc n) = joined line n ++ line n
 
--- the case file: 01, 02, perhaps 06, 03, then 04 "one for each t in order from 0", then the word's 05
+-- the case file: 01, 02, perhaps 06, 03, then 04 or 07 "one for each t in order from 0", then the word's 05
 unfoldable pub fileOf : Net → List ℕ → List ℕ → List ℕ
 fileOf net initial w =
     countsLine (net .places) (net .transitions)
@@ -68,7 +69,7 @@ fileOf net initial w =
     ++ joined (rowLine net) (net .transitions)
     ++ joined (lettersLine w) (lettersLines (length w))
 
--- a net, its initial marking and a word within the limits of document 01, as lists of bytes and of numbers in 16 bits; each place and transition has an arc;
+-- a net, its initial marking and a word within the limits of document 01, as lists of numbers in 16 bits, of marks and of letters; each place and transition has an arc;
 -- marks are 0 or 1, as a file has them
 pub record Limited (net : Net) (initial w : List ℕ) : Type 0 where
   pub sized : Sized net
