@@ -5,3 +5,4 @@ pub mod Most
 pub mod Stores
 pub mod Parts
 pub mod Signed
+pub mod Room
