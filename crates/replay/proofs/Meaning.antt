@@ -154,7 +154,7 @@ module _ (net : Net) (initial w : List ℕ) (within : Bool) (room : List ℕ) wh
               let q : 0 + k ≡ k = omega arith in
               rw (x, y, q) (h, n)
 
-      -- the marking left is reachable, within capacities, and at most what 01 says a replay reaches
+      -- the marking left is reachable, within capacities, and at most what 02 says a replay reaches (E6)
       pub left-reachable : Reachable net initial room′
       left-reachable = record { word = take (lettersFired r) w; fires = fired-longest .fires }
 
