@@ -56,7 +56,7 @@ badOf s = badSlot (s .places) (weightLimit * s .letters) (s .slots)
 unfoldable pub shapeFault : Summary → Fault
 shapeFault s = orElse (refuse (ltb wordLimit (s .letters)) 6 0) (refuse (ltb (badOf s) countLimit) 6 (badOf s))
 
--- When a summary is well formed, by the largest weight that is allowed, `limit`: 01 had another than document 02 (E6), "so every stored summary stays well
+-- When a summary is well formed, where `limit` is the largest weight; document 02 (E6) puts another in place of 01's, "so every stored summary stays well
 -- formed" (`still-well-formed` in proofs/Meaning.antt).
 -- at one place: "0 <= need <= .., 0 <= climb <= .., -need <= change <= climb", where limit times n stands for the dots
 pub record WellAt (limit n : ℕ) (s : Slot) : Type 0 where
@@ -78,6 +78,7 @@ pub record WellFormedBy (limit : ℕ) (s : Summary) : Type 0 where
   pub few : s .letters ≤ wordLimit
   pub slots : SlotsFormed limit s
 
+-- by the limit in force
 abbrev pub WellFormed : Summary → Type 0
 WellFormed s = WellFormedBy weightLimit s
 

@@ -10,6 +10,7 @@ use lib.Dec.{ltb}
 use lib.Signed.{_≤ℤ_, ≤ℤ-refl}
 use lib.IntN.{ℤ, pos}
 use borrow.Author.Tests.{le-ltb, ltb-true, ltb-false}
+use Rattle.ground.specs.Limits.{tokenLimit}
 use Rattle.ground.specs.Parts.{up, dn}
 use Rattle.ground.proofs.Tests.{never}
 use Rattle.ground.proofs.Parts.{parts-eq, le-pos, pos-lt, neg-le}
@@ -28,7 +29,7 @@ use Rattle.weighting_sums.proofs.Entries.{no-negative, weight-is}
 use Rattle.weighting_bound.proofs.Allowed.{bound-allowed-of}
 use Rattle.weighting_sums.proofs.Lowest.{all-zero, none-found, no-negative-of, of-no-negative}
 use Rattle.weighting_sums.proofs.Meaning.{keeps-sum}
-use Rattle.weighting_sums.proofs.Largest.{InRange, BoundFits, bound-small, held-most}
+use Rattle.weighting_sums.proofs.Largest.{InRange, SumFits, bound-small, held-most}
 
 -- each answer says what is published, with the causes tried in 01's order
 pub bound-judged : (net : Net) (initial : List ℕ) (y : List ℤ) (p : ℕ) → Judged net initial y p (foundBound net initial y p)
@@ -95,7 +96,7 @@ pub bound-holds : {net : Net} {initial m : List ℕ} (y : List ℤ) (p b : ℕ) 
 bound-holds y p b e r = let f = bound-found y p b e in let j = f .1 in invariant-bounds y p b (j .0) (j .1) (j .3) (f .0 .below) r
 
 -- and it is at most the sum of y x initial marking
-pub bound-most : (net : Net) (initial : List ℕ) (y : List ℤ) (p b : ℕ) → InRange y → boundOf net initial y p ≡ Bounded b → BoundFits b
+pub bound-most : (net : Net) (initial : List ℕ) (y : List ℤ) (p b : ℕ) → InRange y → boundOf net initial y p ≡ Bounded b → SumFits tokenLimit b
 bound-most net initial y p b range e =
     let f = bound-found y p b e in
     let n = f .1 .1 in
