@@ -197,8 +197,8 @@ module _ (s : Reading) (y : Rooms) where
         each : byteAt rowDigits 0 ≡ wideRow → (q : ℕ) → q < s .places → (getD (takesIn wideRow rowDigits (s .places)) q 0 ≤ weightLimit) × (getD (putsIn wideRow rowDigits (s .places)) q 0 ≤ weightLimit)
         each e q l =
             let k : rowKind a b ≡ wideRow = sym kind ∙ e in
-            let u : takesIn wideRow rowDigits (s .places) ≡ a = rw k at takes-a in
-            let v : putsIn wideRow rowDigits (s .places) ≡ b = rw k at puts-b in
+            let u : takesIn wideRow rowDigits (s .places) ≡ a = subst (λ (j : ℕ). takesIn j rowDigits (s .places) ≡ a) k takes-a in
+            let v : putsIn wideRow rowDigits (s .places) ≡ b = subst (λ (j : ℕ). putsIn j rowDigits (s .places) ≡ b) k puts-b in
             rw (u, v) (below-most weightLimit a q wa, below-most weightLimit b q wb)
 
     pub row-formed : (ruleOf rowDigits ≡ true) × Formed s rowDigits × WeightsAllowed s rowDigits × ((byteAt rowDigits 0 ≡ narrowRow) ⊎ (byteAt rowDigits 0 ≡ wideRow)) × (stored s rowDigits y ≡ rowsOf s y a b) × (advanced s rowDigits ≡ rowState)
@@ -209,17 +209,17 @@ module _ (s : Reading) (y : Rooms) where
         go true w =
             let k : rowKind a b ≡ wideRow = kind-wide a b w in
             let e : byteAt rowDigits 0 ≡ wideRow = kind ∙ k in
-            let u : takesIn wideRow rowDigits (s .places) ≡ a = rw k at takes-a in
-            let v : putsIn wideRow rowDigits (s .places) ≡ b = rw k at puts-b in
-            let n : length rowDigits ≡ 4 + 8 * s .places = (rw k at row-digits) ∙ omega arith in
+            let u : takesIn wideRow rowDigits (s .places) ≡ a = subst (λ (j : ℕ). takesIn j rowDigits (s .places) ≡ a) k takes-a in
+            let v : putsIn wideRow rowDigits (s .places) ≡ b = subst (λ (j : ℕ). putsIn j rowDigits (s .places) ≡ b) k puts-b in
+            let n : length rowDigits ≡ 4 + 8 * s .places = row-digits ∙ ap (λ (j : ℕ). 4 + 4 * (weightBytes j * s .places)) k ∙ omega arith in
             let i : isWide (takesIn wideRow rowDigits (s .places)) (putsIn wideRow rowDigits (s .places)) ≡ true = rw (u, v) w in
             (row-rule (rw k (omega arith)), frame07 p e n index (wide-some s rowDigits i), light, inr e, rw (e, u, v), rw e)
         go false w =
             let k : rowKind a b ≡ narrowRow = kind-narrow a b w in
             let e : byteAt rowDigits 0 ≡ narrowRow = kind ∙ k in
-            let u : takesIn narrowRow rowDigits (s .places) ≡ a = rw k at takes-a in
-            let v : putsIn narrowRow rowDigits (s .places) ≡ b = rw k at puts-b in
-            let n : length rowDigits ≡ 4 + 4 * s .places = (rw k at row-digits) ∙ omega arith in
+            let u : takesIn narrowRow rowDigits (s .places) ≡ a = subst (λ (j : ℕ). takesIn j rowDigits (s .places) ≡ a) k takes-a in
+            let v : putsIn narrowRow rowDigits (s .places) ≡ b = subst (λ (j : ℕ). putsIn j rowDigits (s .places) ≡ b) k puts-b in
+            let n : length rowDigits ≡ 4 + 4 * s .places = row-digits ∙ ap (λ (j : ℕ). 4 + 4 * (weightBytes j * s .places)) k ∙ omega arith in
             (row-rule (rw k (omega arith)), frame04 p e n index, light, inl e, rw (e, u, v), rw e)
 
     -- it is of no other kind
