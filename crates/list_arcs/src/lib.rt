@@ -88,7 +88,7 @@ fn is_stopped(takes: Weight, puts: Weight, cap: u16, mark: u8, tokens: u16) -> b
     requires { ⌜ tokens ≤ cap ⌝ }
     ensures { λ r. ⌜ r ≡ (shortAt takes tokens || overAt takes puts cap mark tokens) ⌝ }
 {
-    if tokens < takes as u16 {
+    if tokens < takes {
         return true;
     }
     if cap < NO_CAPACITY {
