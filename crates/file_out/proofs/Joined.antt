@@ -1,6 +1,6 @@
 -- Laws of lines put one after another: none yet, one more, all; the part of a list that a line holds, and the room for it. Assumes nothing.
 use mathlib.Core.Path.{_≡_, refl, sym, _∙_, ap}
-use mathlib.Core.List.{List, [], _∷_, _++_}
+use mathlib.Core.List.{List, _∷_, _++_}
 use Prim.Native.Nat.{ℕ, zero, suc, _+_, _-_, _*_, _≤_, _<_, min}
 use native.Mathlib.Omega.{arith}
 use native.Mathlib.Numerals.{add-one}
@@ -11,7 +11,6 @@ use lib.Seq.{take-all}
 use Rattle.ground.specs.Limits.{countLimit}
 use Rattle.net.specs.Net.{Net, Sized}
 use Rattle.net.specs.Letter.{row}
-use Rattle.net.proofs.Rows.{row-length, pre-end}
 use Rattle.weights.proofs.Heavies.{rows-long}
 use Rattle.file_digits.specs.Frame.{block}
 use Rattle.file_put.specs.Append.{Appended}
@@ -55,12 +54,12 @@ module _ (net : Net) (sized : Sized net) (t : ℕ) (h : t < net .transitions) wh
       × (length (row (net .places) t (net .post)) ≡ length (row (net .places) t (net .pre)))
       × (length (row (net .places) t (net .pre)) ≤ countLimit)
   row-room l at r o roomy p =
-      let a = row-length (net .places) t (net .pre) (pre-end net [] t sized h) in
+      let a = rows-long net t sized h in
       let e = joined-room (rowLine net) t (net .transitions) h in
       let f = rows-all net (sized .pres) (sized .posts) in
       let g = row-long net (sized .pres) (sized .posts) t h in
       let k = kind-long (net .places) (row (net .places) t (net .pre)) (row (net .places) t (net .post)) in
-      (rw a (omega (arith, p .next, append-long p, e, f, g, k)), rows-long net t sized h .0, rows-long net t sized h .1)
+      (rw (a .0) (omega (arith, p .next, append-long p, e, f, g, k)), omega (arith, a), omega (arith, a))
 
 -- n entries from a on, or as many as there are
 part-is : (w : List ℕ) (a n : ℕ) → a ≤ length w → take (min (a + n) (length w) - a) (drop a w) ≡ take n (drop a w)

@@ -71,7 +71,8 @@ part-wide-row-end-2 c = let i : tie.In-loop Inv-loop μ-loop = search needs in o
 wide-row-requires : tie.Need-wide-row-requires Inv-loop μ-loop
 wide-row-requires c κs =
     let i : tie.In-loop Inv-loop μ-loop = search needs in
-    simp add-sub-cancel-left (rows-long (net i) (i .before .loop .t) (start i .pre) (i .loop-test .taken))
+    let l = rows-long (net i) (i .before .loop .t) (start i .pre) (i .loop-test .taken) in
+    simp add-sub-cancel-left (omega (arith, l), omega (arith, l))
 
 add-wide : tie.Need-add-wide Inv-loop μ-loop
 add-wide c =
