@@ -6,6 +6,7 @@ use mathlib.Core.List.{List}
 use native.Mathlib.Omega.{arith}
 use native.Mathlib.Nat.{mod-eq-of-lt, mul-add-mod-self-right}
 use lib.ListN.{length, getD}
+use Rattle.ground.specs.Limits.{countLimit}
 use Rattle.ground.proofs.Tests.{and-true}
 use Rattle.net.specs.Net.{Net, Light, Sized}
 use Rattle.net.proofs.Rows.{row-at}
@@ -51,8 +52,8 @@ module _ (kind : Kind) (net : Net) (initial list : List ℕ) (fits : Bool) (next
   pub start-sized : found ≡ Sound → Sized net
   start-sized q = start-met net initial agree (sym e ∙ q) .sized
 
-  pub caps-long : found ≡ Sound → (1 ≤ net .places) × (length (net .caps) ≡ net .places)
-  caps-long q = let s = start-sized q in (s .some-places, s .capped)
+  pub caps-long : found ≡ Sound → ((1 ≤ net .places) × (net .places ≤ countLimit)) × (length (net .caps) ≡ net .places)
+  caps-long q = let s = start-sized q in ((s .some-places, s .few-places), s .capped)
 
 pub ruleset givens = (given-first, given-list)
 
