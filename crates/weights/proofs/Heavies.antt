@@ -87,9 +87,12 @@ module _ (net : Net) (t : ℕ) (sized : Sized net) (h : t < net .transitions) wh
   pub rows-heavy : rowOver weightLimit (row (net .places) t (net .pre)) (row (net .places) t (net .post)) ≡ heavy net t
   unfolding rowOver heavy
   rows-heavy =
-      rw (long, tally-alike (overAt weightLimit (row (net .places) t (net .pre)) (row (net .places) t (net .post)))
-      (λ p. ltb weightLimit (Pre net p t) || ltb weightLimit (Post net p t)) (net .places)
-      (λ p l. rw (row-at (net .places) t (net .pre) p l, row-at (net .places) t (net .post) p l)))
+      rw (
+        long,
+        tally-alike (overAt weightLimit (row (net .places) t (net .pre)) (row (net .places) t (net .post)))
+            (λ p. ltb weightLimit (Pre net p t) || ltb weightLimit (Post net p t)) (net .places)
+            (λ p l. rw (row-at (net .places) t (net .pre) p l, row-at (net .places) t (net .post) p l)),
+      )
 
 -- an entry of a table with T rows of P entries is one of a row
 entry-row : (P T k : ℕ) → 1 ≤ P → k < T * P → (k / P < T) × ((k % P < P) × (k / P * P + k % P ≡ k))
