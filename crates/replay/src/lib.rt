@@ -69,17 +69,7 @@ fn replay_part(
         Fault::Faulty(number, at) => Replay::Refused(number, at),
         Fault::Sound => {
             net::load(initial, room);
-            plays::play_word(
-                places,
-                transitions,
-                pre,
-                post,
-                caps,
-                marks,
-                0,
-                part,
-                room,
-            )
+            plays::play_word(places, transitions, pre, post, caps, marks, 0, part, room)
         }
     }
 }

@@ -19,18 +19,18 @@ use Rattle.running.specs.declared.Part.{Part}
 use Rattle.running.specs.declared.Part.the-variants.{Fired, Blocked, Refused}
 use Rattle.running.specs.declared.Fed.{Fed}
 
--- a state of nothing
-abbrev pub blank : Running
-blank = record { marking = table (λ k. 0) countLimit; fired = 0; blocked = 0; position = 0; place = 0 }
+-- the state before the first letter, with a marking
+abbrev pub freshAt : List ℕ → Running
+freshAt marking = record { marking = marking; fired = 0; position = 0; place = 0; blocked = 0 }
 
--- the state before the first part: the initial marking, and 0 past it
-abbrev pub started : List ℕ → Running
-started initial = record { marking = sets (table (λ k. 0) countLimit) 0 initial; fired = 0; blocked = 0; position = 0; place = 0 }
+-- a marking of nothing
+abbrev pub empty : List ℕ
+empty = table (λ k. 0) countLimit
 
--- 1, 2, 18, 3 and 17, or that state
+-- 1, 2, 18, 3 and 17, or the state before the first part: the initial marking, and 0 past it
 abbrev pub startedBy : Fault → List ℕ → Fed
-startedBy (Faulty n at) initial = record { state = blank; answer = Refused n at }
-startedBy Sound initial = record { state = started initial; answer = Fired 0 }
+startedBy (Faulty n at) initial = record { state = freshAt empty; answer = Refused n at }
+startedBy Sound initial = record { state = freshAt (sets empty 0 initial); answer = Fired 0 }
 
 unfoldable pub startOf : Net → List ℕ → Fed
 startOf net initial = startedBy (markedFault net initial true) initial
@@ -54,7 +54,7 @@ pub record Allowed (net : Net) (s : Running) (w : List ℕ) : Type 0 where
   pub wired : Wired net
   pub short : s .fired + length w ≤ wordLimit
   pub letters : Letters (net .transitions) w
-  pub placed : isBlocked s ≡ true → s .place < net .places
+  pub placed : isBlocked (s .blocked) ≡ true → s .place < net .places
 
 -- its refusals in order, each exactly when its demand is the first that does not hold: n and at are what is given
 abbrev pub Refusal : Net → Running → List ℕ → ℕ → ℕ → Type 0
@@ -64,4 +64,4 @@ Refusal net s w n at =
     (LooseFirst net n at
     (First (s .fired + length w ≤ wordLimit) (Given 4 0 n at)
     (First (Letters (net .transitions) w) (GivenAt 5 (λ k. getD w k 0 < net .transitions) (length w) n at)
-    (First (isBlocked s ≡ true → s .place < net .places) (Given 13 0 n at) ⊥)))))
+    (First (isBlocked (s .blocked) ≡ true → s .place < net .places) (Given 13 0 n at) ⊥)))))
