@@ -1,3 +1,7 @@
+use Prim.Native.Nat.{_≤_, _-_}
+use lib.ListN.{getD}
+use Rattle.ground.proofs.Scan.{Below, scans}
+use Rattle.running.specs.State.{tokensOver}
 use borrow.Author.Needs.{needs}
 use Rattle.running.proofs.bad_tokens.Statement.{statement}
 use Rattle.running.proofs.bad_tokens.Tie as tie
@@ -6,14 +10,14 @@ use Rattle.running.proofs.bad_tokens.Lts as lts
 use Rattle.running.proofs.is_over.Reads as is-over-reads
 
 abbrev Inv-loop : tie.InvT-loop
-Inv-loop places caps fired marking p₀ p = ?
+Inv-loop places caps fired marking p₀ p = (p ≤ places) × Below (λ p. tokensOver fired (getD caps p 0) (getD marking p 0)) p
 
 abbrev μ-loop : tie.MeasureT-loop
-μ-loop places caps fired marking p₀ p = ?
+μ-loop places caps fired marking p₀ p = places - p
 
 -- src/lib.rt:75:5
 loop-holds : tie.Need-loop-holds Inv-loop μ-loop
-loop-holds c = search needs
+loop-holds c = search (scans, needs)
 
 -- src/lib.rt:76:27
 mul-is-over : tie.Need-mul-is-over Inv-loop μ-loop
@@ -37,7 +41,7 @@ is-over-requires c κs = search needs
 
 -- src/lib.rt:77:13
 returns : tie.Need-returns Inv-loop μ-loop
-returns c = search needs
+returns c = search (scans, needs)
 
 -- src/lib.rt:79:9
 add-p : tie.Need-add-p Inv-loop μ-loop
@@ -49,11 +53,11 @@ loop-less c = search needs
 
 -- src/lib.rt:75:5
 loop-again : tie.Need-loop-again Inv-loop μ-loop
-loop-again c = search needs
+loop-again c = search (scans, needs)
 
 -- src/lib.rt:70:1
 returns-2 : tie.Need-returns-2 Inv-loop μ-loop
-returns-2 c = search needs
+returns-2 c = search (scans, needs)
 
 pub bad-tokens-spec : {M : Type 1} → statement M
 bad-tokens-spec =

@@ -1,3 +1,4 @@
+use Rattle.running.proofs.Faults.{letters-faults}
 use borrow.Author.Needs.{needs}
 use Rattle.running.proofs.letters_fault.Statement.{statement}
 use Rattle.running.proofs.letters_fault.Tie as tie
@@ -11,7 +12,7 @@ add-if1 c = search needs
 
 -- src/lib.rt:144:9
 returns : tie.Need-returns
-returns c = search needs
+returns c = search (letters-faults, needs)
 
 -- src/lib.rt:146:5
 word-fault-requires : tie.Need-word-fault-requires
@@ -19,7 +20,7 @@ word-fault-requires c κs = search needs
 
 -- src/lib.rt:140:1
 returns-2 : tie.Need-returns-2
-returns-2 c = search needs
+returns-2 c = search (letters-faults, needs)
 
 pub letters-fault-spec : {M : Type 1} → statement M
 letters-fault-spec = tie.close (tie.spec add-if1 returns word-fault-requires returns-2)

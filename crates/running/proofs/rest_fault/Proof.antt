@@ -1,3 +1,4 @@
+use Rattle.refusals.proofs.Chains.{chains}
 use borrow.Author.Needs.{needs}
 use Rattle.running.proofs.rest_fault.Statement.{statement}
 use Rattle.running.proofs.rest_fault.Tie as tie
@@ -24,11 +25,11 @@ block-fault-requires c κs = search needs
 
 -- src/lib.rt:163:1
 returns : tie.Need-returns
-returns c = search needs
+returns c = search (chains, needs)
 
 -- src/lib.rt:163:1
 returns-2 : tie.Need-returns-2
-returns-2 c = search needs
+returns-2 c = search (chains, needs)
 
 pub rest-fault-spec : {M : Type 1} → statement M
 rest-fault-spec =
