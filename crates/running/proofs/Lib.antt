@@ -1,1 +1,4 @@
 pub mod Faults
+pub mod Fronts
+pub mod Parts
+pub mod Starts

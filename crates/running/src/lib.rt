@@ -10,7 +10,6 @@ use net::Cause;
 use plays::Replay;
 use refusals::Fault;
 ghost use mathlib.Core.Path.{_≡_};
-ghost use mathlib.Core.Bool.{false};
 ghost use Prim.Native.Nat.{_+_, _≤_};
 ghost use lib.ListN.{length, take};
 ghost use lib.Seq.{sets};
@@ -21,7 +20,7 @@ ghost use Rattle.refusals.specs.Given.{orElse, looseFault, Letters};
 ghost use Rattle.refusals.specs.declared.Fault.the-variants.{Sound};
 ghost use Rattle.plays.specs.Replay.{playFrom};
 ghost use Rattle.plays.specs.declared.Replay.the-variants.{Blocked};
-ghost use Rattle.running.specs.State.{tokensOver, badTokens, tokensFault, stateFault, lettersFault, blockFault, partFault, isBlocked, blockedAt, wentOn, playedOn, heldBlock, fedOf};
+ghost use Rattle.running.specs.State.{tokensOver, badTokens, tokensFault, stateFault, lettersFault, blockFault, partFault, blockedAt, wentOn, playedOn, heldBlock, fedOf};
 ghost use Rattle.running.specs.Entry.{freshAt, startOf};
 ghost use Rattle.running.specs.Walk.{Brief};
 
@@ -284,7 +283,7 @@ fn went_on(state: Running, marking: [u32; COUNT_LIMIT], ran: Replay) -> Fed
     }
 }
 
-// A part that is not refused, on a state that is not blocked.
+// A part that is not refused, played on a state.
 fn play_on(
     places: usize,
     transitions: usize,
@@ -295,7 +294,7 @@ fn play_on(
     state: Running,
     part: &[u8],
 ) -> Fed
-    requires { ⌜ (partFault (netOf places transitions (now pre) (now post) (now caps) (now marks)) state (now part) ≡ Sound) × (isBlocked (state .blocked) ≡ false) ⌝ }
+    requires { ⌜ partFault (netOf places transitions (now pre) (now post) (now caps) (now marks)) state (now part) ≡ Sound ⌝ }
     ensures { λ r. ⌜ r ≡ playedOn (netOf places transitions (now (pre .entry)) (now (post .entry)) (now (caps .entry)) (now (marks .entry))) state (now (part .entry)) ⌝ }
 {
     let mut marking = state.marking;

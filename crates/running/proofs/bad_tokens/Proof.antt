@@ -5,9 +5,6 @@ use Rattle.running.specs.State.{tokensOver}
 use borrow.Author.Needs.{needs}
 use Rattle.running.proofs.bad_tokens.Statement.{statement}
 use Rattle.running.proofs.bad_tokens.Tie as tie
-use Rattle.running.proofs.bad_tokens.Reads as reads
-use Rattle.running.proofs.bad_tokens.Lts as lts
-use Rattle.running.proofs.is_over.Reads as is-over-reads
 
 abbrev Inv-loop : tie.InvT-loop
 Inv-loop places caps fired marking p₀ p = (p ≤ places) × Below (λ p. tokensOver fired (getD caps p 0) (getD marking p 0)) p
@@ -15,47 +12,36 @@ Inv-loop places caps fired marking p₀ p = (p ≤ places) × Below (λ p. token
 abbrev μ-loop : tie.MeasureT-loop
 μ-loop places caps fired marking p₀ p = places - p
 
--- src/lib.rt:75:5
 loop-holds : tie.Need-loop-holds Inv-loop μ-loop
 loop-holds c = search (scans, needs)
 
--- src/lib.rt:76:27
 mul-is-over : tie.Need-mul-is-over Inv-loop μ-loop
 mul-is-over c = search needs
 
--- src/lib.rt:76:27
 shared-slice-read-is-over : tie.Need-shared-slice-read-is-over Inv-loop μ-loop
 shared-slice-read-is-over c = search needs
 
--- src/lib.rt:76:36
 mul-is-over-2 : tie.Need-mul-is-over-2 Inv-loop μ-loop
 mul-is-over-2 c = search needs
 
--- src/lib.rt:76:36
 shared-slice-read-is-over-2 : tie.Need-shared-slice-read-is-over-2 Inv-loop μ-loop
 shared-slice-read-is-over-2 c = search needs
 
--- src/lib.rt:76:12
 is-over-requires : tie.Need-is-over-requires Inv-loop μ-loop
 is-over-requires c κs = search needs
 
--- src/lib.rt:77:13
 returns : tie.Need-returns Inv-loop μ-loop
 returns c = search (scans, needs)
 
--- src/lib.rt:79:9
 add-p : tie.Need-add-p Inv-loop μ-loop
 add-p c = search needs
 
--- src/lib.rt:75:5
 loop-less : tie.Need-loop-less Inv-loop μ-loop
 loop-less c = search needs
 
--- src/lib.rt:75:5
 loop-again : tie.Need-loop-again Inv-loop μ-loop
 loop-again c = search (scans, needs)
 
--- src/lib.rt:70:1
 returns-2 : tie.Need-returns-2 Inv-loop μ-loop
 returns-2 c = search (scans, needs)
 

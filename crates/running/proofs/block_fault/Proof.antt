@@ -2,18 +2,13 @@ use Rattle.running.proofs.Faults.{block-faults}
 use borrow.Author.Needs.{needs}
 use Rattle.running.proofs.block_fault.Statement.{statement}
 use Rattle.running.proofs.block_fault.Tie as tie
-use Rattle.running.proofs.block_fault.Reads as reads
-use Rattle.running.proofs.block_fault.Lts as lts
 
--- src/lib.rt:154:9
 returns : tie.Need-returns
 returns c = search (block-faults, needs)
 
--- src/lib.rt:157:9
 returns-2 : tie.Need-returns-2
 returns-2 c = search (block-faults, needs)
 
--- src/lib.rt:150:1
 returns-3 : tie.Need-returns-3
 returns-3 c = search (block-faults, needs)
 
