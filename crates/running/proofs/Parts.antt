@@ -1,27 +1,27 @@
 -- Laws of a part: what holds where nothing is refused, and the state and the answer that it leads to. Assumes nothing.
 use Prim.Native.Nat.{ℕ, _+_, _^_, _≤_, _<_, zero-le}
 use mathlib.Core.Path.{_≡_, refl, sym, subst, _∙_}
-use mathlib.Core.Bool.{Bool, true, false, not, _&&_, _||_, cond}
+use mathlib.Core.Bool.{Bool, true, false, _&&_, cond}
 use mathlib.Core.List.{List, [], _∷_}
 use native.Mathlib.Omega.{arith}
 use native.Mathlib.Decide.{decLt}
-use lib.ListN.{length, getD, take, length-take, List·getD-eq-default}
-use lib.Seq.{length-take-le, getD-take, sets}
-use lib.Dec.{ltb, leb, eqb}
+use lib.ListN.{length, getD, length-take, List·getD-eq-default}
+use lib.Seq.{getD-take, sets}
+use lib.Dec.{ltb, leb}
 use borrow.Author.Tests.{lt-ltb, ltb-false, leb-false, eq-eqb, ne-eqb}
 use Rattle.ground.specs.Limits.{countLimit, noCapacity, wordLimit, tokensAfter}
 use Rattle.ground.proofs.Tests.{or-false}
 use Rattle.ground.proofs.Scan.{first-below, first-most}
 use Rattle.ground.proofs.Fill.{mapAt-length}
-use Rattle.net.specs.Net.{Net, Capped, capacity}
+use Rattle.net.specs.Net.{Net}
 use Rattle.net.specs.Letter.{Small, arcsAt, passes, after, firedAt, short, over, lowestShort, lowestOver, cause}
 use Rattle.net.specs.declared.Cause.{Cause}
 use Rattle.net.specs.declared.Cause.the-variants.{Short, Over}
-use Rattle.refusals.specs.Given.{refuse, orElse, countsFault, looseFault, wordFault, badLetter, Letters}
+use Rattle.refusals.specs.Given.{refuse, orElse, countsFault, looseFault, badLetter, Letters}
 use Rattle.refusals.specs.declared.Fault.{Fault}
 use Rattle.refusals.specs.declared.Fault.the-variants.{Sound, Faulty}
-use Rattle.refusals.proofs.Chains.{or-sound, sound-or, refuse-sound, sound-refuse}
-use Rattle.refusals.proofs.Refusals.{counts-met, loose-met, word-met}
+use Rattle.refusals.proofs.Chains.{or-sound, refuse-sound}
+use Rattle.refusals.proofs.Refusals.{counts-met, loose-met}
 use Rattle.plays.specs.Replay.{Ran, playFrom}
 use Rattle.plays.specs.declared.Replay.{Replay}
 use Rattle.plays.specs.declared.Replay.the-variants as replay
@@ -109,7 +109,7 @@ play-brief net n m (t ∷ w) h l =
     go true e ih = subst (λ (z : Ran). Brief (z .answer)) (sym (next-passes net n t m w e)) ih
     go false e ih = subst (λ (z : Ran). Brief (z .answer)) (sym (next-stops net n t m w e)) (omega arith, cause-brief net t m h)
 
--- r is what the code got of it, and m what it left
+-- ran is what the code got of it, m the marking that it left
 module _ (net : Net) (s : Running) (w : List ℕ) (ran : Replay) (e : ran ≡ playFrom net (s .fired) (held net s) w .answer) where
   pub ran-brief : Allowed net s w → Brief ran
   ran-brief a =
