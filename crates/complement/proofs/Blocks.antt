@@ -17,8 +17,8 @@ use Rattle.net.proofs.Rule.{force-capped, level-lt}
 use Rattle.weights.specs.Heavy.{LightAt}
 use Rattle.refusals.specs.First.{First, fails, holds, Counts, Lengths}
 use Rattle.replay.specs.Entry.{Replayed, Allowed as Replayable, Refusal, lettersFired, Longest}
-use Rattle.replay.specs.declared.Replay.{Replay}
-use Rattle.replay.specs.declared.Replay.the-variants.{Fired, Blocked, Refused}
+use Rattle.plays.specs.declared.Replay.{Replay}
+use Rattle.plays.specs.declared.Replay.the-variants.{Fired, Blocked, Refused}
 use Rattle.replay.proofs.Meaning.{answered-allowed as replayable, allowed-answered as never-refused, fired-means, fired-longest, blocked-cause, left-within}
 use Rattle.complement.specs.Complement.{made, madePlaces, complementPlaces, complementNet, complementMarking, Related}
 use Rattle.complement.specs.Entry.{Rooms, Allowed}

@@ -26,8 +26,8 @@ use Rattle.refusals.specs.First.{First, Given}
 use Rattle.refusals.specs.declared.Fault.{Fault}
 use Rattle.refusals.specs.declared.Fault.the-variants.{Sound, Faulty}
 use Rattle.replay.specs.Entry.{Replayed, Allowed as Replayable}
-use Rattle.replay.specs.declared.Replay.{Replay}
-use Rattle.replay.specs.declared.Replay.the-variants.{Fired}
+use Rattle.plays.specs.declared.Replay.{Replay}
+use Rattle.plays.specs.declared.Replay.the-variants.{Fired}
 use Rattle.replay.proofs.Meaning.{answered-allowed as replayable, fired-means, fires-fired}
 use Rattle.complement.specs.Complement.{Changed, made, madePlaces, atMade, complementPlaces, fall, complementNet, complementMarking, Related}
 use Rattle.complement.specs.Told.{limitFault, placesFault, placesOf, placesNumbers, Told, Countable, PlacesRefusal}

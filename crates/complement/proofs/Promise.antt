@@ -16,8 +16,8 @@ use Rattle.net.proofs.Meaning.{deterministic}
 use Rattle.refusals.specs.Given.{Fine}
 use Rattle.complement.proofs.Meaning.{complement-wired}
 use Rattle.replay.specs.Entry.{Replayed, Refusal as ReplayRefusal}
-use Rattle.replay.specs.declared.Replay.{Replay}
-use Rattle.replay.specs.declared.Replay.the-variants.{Fired, Blocked, Refused as NotReplayed}
+use Rattle.plays.specs.declared.Replay.{Replay}
+use Rattle.plays.specs.declared.Replay.the-variants.{Fired, Blocked, Refused as NotReplayed}
 use Rattle.replay.proofs.Meaning.{answered-allowed as replayable, refused-exactly as replay-refused-exactly, blocked-cause}
 use Rattle.complement.specs.Complement.{Changed, made, madePlaces, complementPlaces, complementNet, complementMarking, Related}
 use Rattle.complement.specs.Told.{Told, Countable}

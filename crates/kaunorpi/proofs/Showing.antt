@@ -9,8 +9,8 @@ use Rattle.file_put.specs.Put.{digitOf, digitsOf, lineText}
 use Rattle.file_line.specs.Read.{Rooms}
 use Rattle.file_parts.specs.declared.Case.{Case}
 use Rattle.file_parts.specs.declared.Case.the-variants as file
-use Rattle.replay.specs.declared.Replay.{Replay}
-use Rattle.replay.specs.declared.Replay.the-variants.{Fired, Blocked, Refused}
+use Rattle.plays.specs.declared.Replay.{Replay}
+use Rattle.plays.specs.declared.Replay.the-variants.{Fired, Blocked, Refused}
 use Rattle.verdict_text.specs.Verdict.{bytesOf}
 use Rattle.verdict_line.specs.Answer.{ranRead, lineFor}
 

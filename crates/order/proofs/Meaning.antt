@@ -9,8 +9,8 @@ use lib.ListN.{length}
 use Rattle.net.specs.Net.{Net}
 use Rattle.net.specs.Firing.{Fires}
 use Rattle.replay.specs.Entry.{Replayed, Allowed as Replayable}
-use Rattle.replay.specs.declared.Replay.{Replay}
-use Rattle.replay.specs.declared.Replay.the-variants.{Fired}
+use Rattle.plays.specs.declared.Replay.{Replay}
+use Rattle.plays.specs.declared.Replay.the-variants.{Fired}
 use Rattle.replay.proofs.Meaning.{fires-fired, fired-means}
 use Rattle.orders.specs.Orders.{OrderOf, woven, picked, Earlier, logsOf, Runs}
 use Rattle.orders.specs.Search.{anOrder, wayOf}

@@ -6,7 +6,7 @@ use mathlib.Core.List.{List, []}
 use Rattle.file_line.specs.Read.{Rooms}
 use Rattle.file_reads.specs.declared.Input.the-variants.{Over, Failed}
 use Rattle.file_reads.specs.Reads.{State, unread, InputRead}
-use Rattle.replay.specs.declared.Replay.the-variants as verdict
+use Rattle.plays.specs.declared.Replay.the-variants as verdict
 use Rattle.verdict_text.specs.Verdict.{bytesOf, WrittenBytes}
 use Rattle.file_write.specs.Entry.{Wrote}
 use Rattle.file_write.specs.declared.WriteCase.the-variants.{Written, Refused}

@@ -11,10 +11,10 @@ use Rattle.wiring.specs.Wired.{loosePlace, looseTransition}
 use Rattle.weights.specs.Heavy.{heavy}
 use Rattle.refusals.specs.Given.{weightsFault, countsFault, looseFault, markingFault, startFault, markedFault, wordFault}
 use Rattle.refusals.specs.declared.Fault.the-variants.{Sound}
-use Rattle.replay.specs.Replay.{playFrom}
+use Rattle.plays.specs.Replay.{playFrom}
 use Rattle.replay.specs.Entry.{replayFault, Replayed}
-use Rattle.replay.specs.declared.Replay.{Replay}
-use Rattle.replay.specs.declared.Replay.the-variants.{Fired, Blocked}
+use Rattle.plays.specs.declared.Replay.{Replay}
+use Rattle.plays.specs.declared.Replay.the-variants.{Fired, Blocked}
 use Rattle.replay.proofs.Meaning.{numbers-apart}
 use Rattle.lists.specs.Some.{some, none}
 use Rattle.list_refusals.specs.Given.{firstBad, entryFault, sizeFault, listFault}

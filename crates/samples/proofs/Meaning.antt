@@ -12,9 +12,9 @@ use Rattle.net.specs.declared.Cause.the-variants.{Over}
 use Rattle.wiring.specs.Wired.{loosePlace, looseTransition}
 use Rattle.weights.specs.Heavy.{heavy}
 use Rattle.refusals.specs.Given.{weightsFault, countsFault, looseFault, netFault, markingFault, startFault, markedFault, wordFault}
-use Rattle.replay.specs.Replay.{playFrom}
+use Rattle.plays.specs.Replay.{playFrom}
 use Rattle.replay.specs.Entry.{replayFault, Replayed}
-use Rattle.replay.specs.declared.Replay.the-variants.{Fired, Blocked}
+use Rattle.plays.specs.declared.Replay.the-variants.{Fired, Blocked}
 use Rattle.replay.proofs.Meaning as replay
 use Rattle.summary_place.specs.Place.{change, need, climb}
 use Rattle.summary_place.specs.Slots.{slotOf, joined, slotBad}

@@ -6,7 +6,7 @@ use mathlib.Core.List.{List, [], _∷_}
 use lib.ListN.{take, getD}
 use Rattle.refusals.specs.declared.Fault.the-variants.{Sound}
 use Rattle.replay.specs.Entry.{Replayed}
-use Rattle.replay.specs.declared.Replay.{Replay}
+use Rattle.plays.specs.declared.Replay.{Replay}
 use Rattle.summary_place.specs.Slots.{nil}
 use Rattle.summary_form.specs.Summary.{Answers}
 use Rattle.summary_join.specs.Join.{joinAnswer}

@@ -10,8 +10,8 @@ use Rattle.net.specs.Net.{Net, netOf}
 use Rattle.net.specs.declared.Cause.the-variants.{Short, Over}
 use Rattle.refusals.specs.declared.Fault.the-variants.{Sound}
 use Rattle.replay.specs.Entry.{replayOf}
-use Rattle.replay.specs.declared.Replay.{Replay}
-use Rattle.replay.specs.declared.Replay.the-variants.{Fired, Blocked}
+use Rattle.plays.specs.declared.Replay.{Replay}
+use Rattle.plays.specs.declared.Replay.the-variants.{Fired, Blocked}
 use Rattle.summary_place.specs.Slots.{nil}
 use Rattle.summary_place.specs.declared.Slot.{Slot}
 use Rattle.summary.specs.Entry.{wordAnswer}

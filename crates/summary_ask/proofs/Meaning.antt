@@ -17,8 +17,8 @@ use Rattle.net.specs.Firing.{Fires, Within}
 use Rattle.net.proofs.Meaning.{within-stays}
 use Rattle.refusals.specs.Given.{Letters}
 use Rattle.replay.specs.Entry.{Replayed, Allowed}
-use Rattle.replay.specs.declared.Replay.{Replay}
-use Rattle.replay.specs.declared.Replay.the-variants.{Fired}
+use Rattle.plays.specs.declared.Replay.{Replay}
+use Rattle.plays.specs.declared.Replay.the-variants.{Fired}
 use Rattle.replay.proofs.Meaning.{fired-means, fires-fired}
 use Rattle.summary_place.specs.Place.{letterAt, change}
 use Rattle.summary_place.specs.Slots.{nil, slotOf, slotsOf}

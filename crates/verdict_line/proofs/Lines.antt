@@ -19,10 +19,10 @@ use Rattle.net.specs.declared.Cause.{Cause}
 use Rattle.net.specs.declared.Cause.the-variants.{Short, Over}
 use Rattle.refusals.specs.declared.Fault.{Fault}
 use Rattle.refusals.specs.declared.Fault.the-variants.{Sound, Faulty}
-use Rattle.replay.specs.Replay.{playFrom}
+use Rattle.plays.specs.Replay.{playFrom}
 use Rattle.replay.specs.Entry.{replayFault, replayOf, answered, Replayed}
-use Rattle.replay.specs.declared.Replay.{Replay}
-use Rattle.replay.specs.declared.Replay.the-variants.{Fired, Blocked, Refused}
+use Rattle.plays.specs.declared.Replay.{Replay}
+use Rattle.plays.specs.declared.Replay.the-variants.{Fired, Blocked, Refused}
 use Rattle.replay.proofs.Meaning.{numbers-apart, answered-allowed, blocked-cause}
 use Rattle.verdict_text.specs.Verdict.{bytesOf, answerLimit, WrittenBytes}
 use Rattle.verdict_text.specs.Walk.{Placed}

@@ -18,7 +18,7 @@ use Rattle.file_parts.specs.File.{Both, both, going, stopped, feedAll, readOf, 
 use Rattle.file_parts.proofs.Line.{stays, all-append, any-cutting}
 use Rattle.net.specs.Firing.{Fires}
 use Rattle.replay.specs.Entry.{Replayed, Allowed}
-use Rattle.replay.specs.declared.Replay.the-variants.{Fired, Refused}
+use Rattle.plays.specs.declared.Replay.the-variants.{Fired, Refused}
 use Rattle.replay.proofs.Meaning.{allowed-answered, fires-fired}
 use Rattle.verdict_text.specs.Verdict.{bytesOf}
 use Rattle.verdict_text.proofs.Meaning.{bytes-below}

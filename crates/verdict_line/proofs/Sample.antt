@@ -16,7 +16,7 @@ use Rattle.file_line.specs.declared.Took.the-variants.{Next}
 use Rattle.file_line.specs.Read.{Rooms, fresh, ruleOf, formedKind, formedOf, hangsLoose, judgeOf, advancedKind, storedKind, lineOf, roomsOf, rooms}
 use Rattle.file_parts.specs.File.{both, going, feedAll, finishOf, caseOf, lineLen, NoFeed}
 use Rattle.file_parts.proofs.Line.{next-line}
-use Rattle.replay.specs.Replay.{playFrom}
+use Rattle.plays.specs.Replay.{playFrom}
 use Rattle.replay.specs.Entry.{replayFault}
 use Rattle.verdict_line.specs.Answer.{lineAt, fileLine}
 

@@ -28,10 +28,10 @@ use Rattle.file_text.specs.Text.{fileOf, Limited, Written, markingIn, wordIn, e
 use Rattle.file_text.specs.Refusal.{RefusedFile}
 use Rattle.file_text.proofs.Meaning.{limited-allowed, file-read, filled-net, filled-marking, filled-word, accepted-exactly}
 use Rattle.file_text.proofs.Refusal.{refused-means, refused-early}
-use Rattle.replay.specs.Replay.{Ran}
+use Rattle.plays.specs.Replay.{Ran}
 use Rattle.replay.specs.Entry.{replayOf, Replayed, Allowed, lettersFired}
-use Rattle.replay.specs.declared.Replay.{Replay}
-use Rattle.replay.specs.declared.Replay.the-variants.{Fired, Blocked, Refused}
+use Rattle.plays.specs.declared.Replay.{Replay}
+use Rattle.plays.specs.declared.Replay.the-variants.{Fired, Blocked, Refused}
 use Rattle.replay.proofs.Ending.{no-more}
 use Rattle.replay.proofs.Meaning.{allowed-answered, fired-means, fires-fired, fired-longest, blocked-cause, left-small}
 use Rattle.verdict_text.specs.Verdict.{bytesOf, verdict, WrittenBytes}

@@ -9,9 +9,9 @@ use Rattle.file_parts.specs.declared.Case.{Case}
 use Rattle.file_parts.specs.declared.Case.the-variants as file
 use Rattle.file_parts.specs.File.{Both, readOf, caseOf}
 use Rattle.file_text.specs.Text.{markingIn, wordIn}
-use Rattle.replay.specs.Replay.{Ran}
+use Rattle.plays.specs.Replay.{Ran}
 use Rattle.replay.specs.Entry.{replayOf}
-use Rattle.replay.specs.declared.Replay.the-variants.{Refused}
+use Rattle.plays.specs.declared.Replay.the-variants.{Refused}
 use Rattle.file_put.specs.Put.{lineText}
 use Rattle.verdict_text.specs.Verdict.{bytesOf}
 

@@ -6,8 +6,8 @@ use lib.ListN.{length, getD, take}
 use Rattle.net.specs.Net.{Net}
 use Rattle.net.specs.Firing.{Fires, Names}
 use Rattle.net.specs.declared.Cause.{Cause}
-use Rattle.replay.specs.declared.Replay.{Replay}
-use Rattle.replay.specs.declared.Replay.the-variants.{Fired, Blocked, Refused}
+use Rattle.plays.specs.declared.Replay.{Replay}
+use Rattle.plays.specs.declared.Replay.the-variants.{Fired, Blocked, Refused}
 use Rattle.file_line.specs.Read.{Rooms}
 use Rattle.file_text.specs.Text.{Written}
 use Rattle.file_text.specs.Refusal.{RefusedFile}

@@ -12,8 +12,8 @@ use Rattle.file_put.specs.Put.{digitsOf, lineText, four, fours}
 use Rattle.net.specs.declared.Cause.{Cause}
 use Rattle.net.specs.declared.Cause.the-variants.{Short, Over}
 use Rattle.net.specs.Firing.{causePlace}
-use Rattle.replay.specs.declared.Replay.{Replay}
-use Rattle.replay.specs.declared.Replay.the-variants.{Fired, Blocked, Refused}
+use Rattle.plays.specs.declared.Replay.{Replay}
+use Rattle.plays.specs.declared.Replay.the-variants.{Fired, Blocked, Refused}
 use Rattle.verdict_text.specs.Verdict.{bytesOf, answerLimit, WrittenBytes}
 use Rattle.verdict_text.specs.Walk.{Placed}
 use Rattle.file_put.proofs.Round.{digits-long}

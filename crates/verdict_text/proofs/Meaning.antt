@@ -14,8 +14,8 @@ use Rattle.net.specs.Firing.{causeNumber, causeValues}
 use Rattle.net.specs.Letter.{Small}
 use Rattle.net.specs.declared.Cause.the-variants.{Short, Over}
 use Rattle.net.proofs.Meaning.{cause-apart, cause-some}
-use Rattle.replay.specs.declared.Replay.{Replay}
-use Rattle.replay.specs.declared.Replay.the-variants.{Fired, Blocked, Refused}
+use Rattle.plays.specs.declared.Replay.{Replay}
+use Rattle.plays.specs.declared.Replay.the-variants.{Fired, Blocked, Refused}
 use Rattle.verdict_text.specs.Verdict.{bytesOf, verdict}
 use Rattle.verdict_text.specs.Back.{fromFour, fourLimit, Sayable}
 use Rattle.verdict_text.specs.Walk.{Placed}

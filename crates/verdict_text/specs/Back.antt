@@ -5,8 +5,8 @@ use lib.ListN.{getD}
 use Rattle.ground.specs.Limits.{countLimit}
 use Rattle.net.specs.Firing.{causePlace}
 use Rattle.net.specs.Letter.{Small}
-use Rattle.replay.specs.declared.Replay.{Replay}
-use Rattle.replay.specs.declared.Replay.the-variants.{Fired, Blocked, Refused}
+use Rattle.plays.specs.declared.Replay.{Replay}
+use Rattle.plays.specs.declared.Replay.the-variants.{Fired, Blocked, Refused}
 
 -- "numbers of two or four bytes have the high byte first": the number that the first four bytes spell
 abbrev pub fromFour : List ℕ → ℕ

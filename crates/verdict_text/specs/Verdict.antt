@@ -4,8 +4,8 @@ use mathlib.Core.List.{List, [], _∷_, _++_}
 use Rattle.ground.specs.Limits.{countLimit}
 use Rattle.file_put.specs.Put.{four, fours, lineText, PutLine}
 use Rattle.net.specs.Firing.{causeNumber, causePlace}
-use Rattle.replay.specs.declared.Replay.{Replay}
-use Rattle.replay.specs.declared.Replay.the-variants.{Fired, Blocked, Refused}
+use Rattle.plays.specs.declared.Replay.{Replay}
+use Rattle.plays.specs.declared.Replay.the-variants.{Fired, Blocked, Refused}
 
 -- "81 00, letters fired (4 bytes), P tokens (4 bytes each); or 81 01 (short) or 81 02 (over), position (4 bytes, from 0), place (1 byte);
 -- or 82, refusal number, line from 1 (4 bytes)"

@@ -2,8 +2,8 @@
 use Prim.Native.Nat.{_<_}
 use Rattle.ground.specs.Limits.{countLimit}
 use Rattle.net.specs.Firing.{causePlace}
-use Rattle.replay.specs.declared.Replay.{Replay}
-use Rattle.replay.specs.declared.Replay.the-variants.{Fired, Blocked, Refused}
+use Rattle.plays.specs.declared.Replay.{Replay}
+use Rattle.plays.specs.declared.Replay.the-variants.{Fired, Blocked, Refused}
 
 -- a place that an answer names is one of at most 64, so that it is one byte
 abbrev pub Placed : Replay → Type 0

@@ -1,6 +1,6 @@
 use mathlib.Core.Path.{ap}
 use mathlib.Core.List.{[]}
-use Rattle.replay.specs.declared.Replay.the-variants.{Blocked}
+use Rattle.plays.specs.declared.Replay.the-variants.{Blocked}
 use Rattle.verdict_text.proofs.Answers.{line-of, short-byte, over-byte}
 use borrow.Author.Needs.{needs}
 use Rattle.verdict_text.proofs.write_cause.Statement.{statement}
