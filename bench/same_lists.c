@@ -10,7 +10,7 @@ struct index {
 
 /* A hash with one more number in it. */
 static uint64_t mix(uint64_t hash, uint32_t number) {
-    return (hash + number) * 1640531527 % 4294967296;
+    return (hash + number) * 374761393 % 4294967296;
 }
 
 /* The bucket of a listed marking. */
@@ -46,10 +46,18 @@ static int same_marking(const uint16_t *listed, const uint32_t *marking, size_t 
     return p == 0;
 }
 
+/* The same in one plain pass, with no way out on the way. */
+static int is_same(const uint16_t *listed, const uint32_t *marking, size_t places) {
+    uint32_t differing = 0;
+    for (size_t p = 0; p < places; p++)
+        differing += listed[p] != marking[p];
+    return differing == 0;
+}
+
 /* Whether the marking is one of the list's, compared with those of its bucket. */
 static int find(size_t places, const uint16_t *list, const struct index *index, const uint32_t *marking) {
     for (size_t at = index->heads[sought_bucket(marking, places)]; at > 0; at = index->links[at - 1])
-        if (same_marking(list + (at - 1) * places, marking, places))
+        if (is_same(list + (at - 1) * places, marking, places))
             return 1;
     return 0;
 }
@@ -64,9 +72,9 @@ static void make_skips(size_t places, size_t transitions, const uint8_t *pre, co
     }
 }
 
-/* One place within its capacity stops a transition. */
+/* One place within its capacity stops a transition; where there is room for all that is put, its mark is not asked for. */
 static inline int is_stopped(uint8_t takes, uint8_t puts, uint16_t cap, uint8_t mark, uint16_t tokens) {
-    return tokens < takes || (cap < 65535 && cap < tokens + rise(mark, takes, puts));
+    return tokens < takes || (cap < tokens + puts && cap < 65535 && cap < tokens + rise(mark, takes, puts));
 }
 
 /* Whether a transition may fire at a listed marking, by its arcs. */
@@ -121,6 +129,22 @@ static inline int is_absent(KAUNORPI_NET, const uint16_t *list, size_t count, si
     return !is_listed(places, count, list, room);
 }
 
+/* Whether a marking may be given: one plain pass, with no way out on the way. */
+static int is_fine(const uint16_t *caps, const uint16_t *marking, size_t places) {
+    uint32_t bad = 0;
+    for (size_t p = 0; p < places; p++)
+        bad += is_bad_token(caps[p], marking[p]);
+    return bad == 0;
+}
+
+/* Whether every marking of a list may be given. */
+static int are_fine(size_t places, const uint16_t *caps, const uint16_t *list, size_t list_len) {
+    for (size_t k = 0; k < list_len / places; k++)
+        if (!is_fine(caps, list + k * places, places))
+            return 0;
+    return list_len / places * places == list_len;
+}
+
 /* Refusals 1, 2, 3, 17 and 9; a cover list's own entries are free. */
 static struct fault list_fault(KAUNORPI_NET, const uint16_t *initial, size_t initial_len, const uint16_t *list,
                                size_t list_len, int cover) {
@@ -128,9 +152,10 @@ static struct fault list_fault(KAUNORPI_NET, const uint16_t *initial, size_t ini
                                      initial, initial_len, places > 0 && list_len % places == 0);
     if (found.number != 0)
         return found;
-    for (size_t k = 0; !cover && k < list_len; k++)
-        if (is_bad_token(caps[k % places], list[k]))
-            return (struct fault){3, k};
+    if (!cover && !are_fine(places, caps, list, list_len))
+        for (size_t k = 0; k < list_len; k++)
+            if (is_bad_token(caps[k % places], list[k]))
+                return (struct fault){3, k};
     found = loose_fault(places, transitions, pre, post);
     if (found.number != 0)
         return found;

@@ -211,13 +211,13 @@ module _ (net : Net) (initial : List ℕ) (rooms : Rooms) where
   allowed-of e =
       let a = or-sound (markedFault net initial (roomsFit net rooms)) (limitFault (complementPlaces net)) e in
       let m = marked-met net initial (roomsFit net rooms) (a .0) in
-      record { sized = m .sized; marked = m .marked; roomy = roomy-of net rooms (m .fitting); fine = m .fine; wired = m .wired; few = limit-sound (complementPlaces net) (a .1) }
+      record { sized = m .sized; light = m .light; marked = m .marked; roomy = roomy-of net rooms (m .fitting); fine = m .fine; wired = m .wired; few = limit-sound (complementPlaces net) (a .1) }
 
   pub of-allowed : Allowed net initial rooms → complementFault net initial (roomsFit net rooms) ≡ Sound
   unfolding complementFault
   of-allowed a =
       sound-or _ _
-      (met-marked net initial (roomsFit net rooms) (record { sized = a .sized; marked = a .marked; fitting = of-roomy net rooms (a .roomy); fine = a .fine; wired = a .wired }))
+      (met-marked net initial (roomsFit net rooms) (record { sized = a .sized; light = a .light; marked = a .marked; fitting = of-roomy net rooms (a .roomy); fine = a .fine; wired = a .wired }))
       (sym (limit-none (complementPlaces net) (a .few)))
 
   module _ (found : Fault) (e : found ≡ complementFault net initial (roomsFit net rooms)) where
@@ -237,8 +237,8 @@ unfolding placesFault
 countable-of net e =
     let a = or-sound (netFault net true) (limitFault (complementPlaces net)) e in
     let m = net-met net true (a .0) in
-    record { sized = m .sized; wired = m .wired; few = limit-sound (complementPlaces net) (a .1) }
+    record { sized = m .sized; light = m .light; wired = m .wired; few = limit-sound (complementPlaces net) (a .1) }
 
 pub of-countable : (net : Net) → Countable net → placesFault net ≡ Sound
 unfolding placesFault
-of-countable net c = sound-or _ _ (met-net net true (record { sized = c .sized; fitting = refl; wired = c .wired })) (sym (limit-none (complementPlaces net) (c .few)))
+of-countable net c = sound-or _ _ (met-net net true (record { sized = c .sized; light = c .light; fitting = refl; wired = c .wired })) (sym (limit-none (complementPlaces net) (c .few)))

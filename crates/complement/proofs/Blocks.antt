@@ -1,5 +1,5 @@
 -- Where a letter is stopped in the net and in its complement net, the causes are tied: and so are two replays' blocks. Assumes nothing.
-use Prim.Native.Nat.{ℕ, _+_, _<_, zero-le}
+use Prim.Native.Nat.{ℕ, _+_, _*_, _<_, zero-le}
 use mathlib.Core.Path.{_≡_, refl, sym, ap, _∙_}
 use mathlib.Core.Bool.{Bool, true, false}
 use mathlib.Core.List.{List}
@@ -14,6 +14,7 @@ use Rattle.net.specs.declared.Cause.{Cause}
 use Rattle.net.specs.declared.Cause.the-variants.{Short, Over}
 use Rattle.net.proofs.Meaning.{deterministic}
 use Rattle.net.proofs.Rule.{force-capped, level-lt}
+use Rattle.weights.specs.Heavy.{LightAt}
 use Rattle.refusals.specs.First.{First, fails, holds, Counts, Lengths}
 use Rattle.replay.specs.Entry.{Replayed, Allowed as Replayable, Refusal, lettersFired, Longest}
 use Rattle.replay.specs.declared.Replay.{Replay}
@@ -99,11 +100,14 @@ hold-alike to from f (holds x k) = holds (to x) (f k)
 
 pub refusal-same : (net net′ : Net) (m m′ w : List ℕ) (within : Bool) (room room′ : List ℕ) → net′ .transitions ≡ net .transitions → Ready net m room → Ready net′ m′ room′ → (n at : ℕ) → Refusal net m w within room n at → Refusal net′ m′ w within room′ n at
 refusal-same net net′ m m′ w within room room′ e a b n at =
-    both-hold (ready-counts a) (ready-counts b) (hold-alike (λ l. lengths b (l .others .1 .1)) (λ l. lengths a (l .others .1 .1)) (both-hold (a .fine) (b .fine)
-    (both-hold (a .wired .places) (b .wired .places) (both-hold (a .wired .transitions) (b .wired .transitions) (λ x. rw e x)))))
+    both-hold (ready-counts a) (ready-counts b) (hold-alike (λ l. lengths b (l .others .1 .1)) (λ l. lengths a (l .others .1 .1)) (both-hold (lights a) (lights b) (both-hold (a .fine) (b .fine)
+    (both-hold (a .wired .places) (b .wired .places) (both-hold (a .wired .transitions) (b .wired .transitions) (λ x. rw e x))))))
   where
     lengths : {k : Net} {u v : List ℕ} → Ready k u v → within ≡ true → Lengths k ((length u ≡ k .places) × ((length v ≡ k .places) × (within ≡ true)))
     lengths c i = record { pres = c .sized .pres; posts = c .sized .posts; capped = c .sized .capped; noted = c .sized .noted; others = (c .marked, (c .roomy, i)) }
+
+    lights : {k : Net} {u v : List ℕ} → Ready k u v → (t : ℕ) → t < k .transitions → LightAt k t
+    lights {k} c t h = record { pre = λ p l. c .light .pre (t * k .places + p); post = λ p l. c .light .post (t * k .places + p) }
 
 -- two replays of one word, as `replay-same` has them
 module _ (net : Net) (initial : List ℕ) (rooms : Rooms) (allowed : Allowed net initial rooms) (w room room′ : List ℕ)

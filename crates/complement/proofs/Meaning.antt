@@ -39,7 +39,7 @@ use Rattle.complement.specs.declared.ComplementNet.the-variants.{Made, R
 use Rattle.complement.proofs.Changes.{zero-change}
 use Rattle.complement.proofs.Answers.{roomy-of, of-roomy, allowed-of, of-allowed, countable-of, of-countable}
 use Rattle.complement.proofs.Choice.{chosen-is, chosen-has, map-at, made-capped, made-wanted, unmade-flat}
-use Rattle.complement.proofs.Entries.{pre-long, post-long, pre-old, post-old, pre-new, post-new, arcs-even, never-capped}
+use Rattle.complement.proofs.Entries.{pre-long, post-long, pre-old, post-old, pre-new, post-new, arcs-even, never-capped, light-stays}
 
 -- the arcs of the new place of p, which has a capacity, with t
 module _ (net : Net) (p t : ℕ) (c : Capped net p) where
@@ -265,6 +265,7 @@ module _ (net : Net) (initial : List ℕ) (rooms : Rooms) (allowed : Allowed net
   to-other a =
       record {
         sized = sized-stays net (allowed .sized) (allowed .few);
+        light = light-stays net (allowed .light);
         marked = start .long;
         roomy = long′;
         inside = refl;
@@ -276,7 +277,7 @@ module _ (net : Net) (initial : List ℕ) (rooms : Rooms) (allowed : Allowed net
 
   pub from-other : Replayable (complementNet net) (complementMarking net initial) w true room′ → Replayable net initial w true room
   from-other a =
-      record { sized = allowed .sized; marked = allowed .marked; roomy = long; inside = refl; fine = allowed .fine; wired = allowed .wired; short = a .short; letters = a .letters }
+      record { sized = allowed .sized; light = allowed .light; marked = allowed .marked; roomy = long; inside = refl; fine = allowed .fine; wired = allowed .wired; short = a .short; letters = a .letters }
 
   fired-to : (n : ℕ) → r ≡ Fired n → (r′ ≡ Fired n) × Related net left left′
   fired-to n e =

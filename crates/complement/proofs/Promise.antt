@@ -29,7 +29,7 @@ use Rattle.complement.specs.declared.ComplementNet.{ComplementNet}
 use Rattle.complement.specs.declared.ComplementNet.the-variants.{Made}
 use Rattle.complement.proofs.Changes.{loop-unchanged, unchanged-stays}
 use Rattle.complement.proofs.Choice.{chosen-has, chosen-order, wanted-made}
-use Rattle.complement.proofs.Entries.{pre-old, post-old, pre-new, post-new}
+use Rattle.complement.proofs.Entries.{pre-old, post-old, pre-new, post-new, light-stays}
 use Rattle.complement.proofs.Meaning.{arc-from, arc-to, pocket-arcs, made-place, made-cap, made-why, answered-allowed, allowed-made, fine-within, starts-related, sized-stays, fine-stays, word-to, word-from, replay-same, places-answered-allowed, places-told}
 use Rattle.complement.proofs.Blocks.{refusal-same, answered-related, blocks-tied, blocks-tied-only}
 
@@ -152,6 +152,7 @@ module _ (net : Net) (initial : List ℕ) (rooms : Rooms) (r : ComplementNet) (r
       let l : length room ≡ complementPlaces net = long ∙ made-places in
       let x : Ready (complementNet net) (complementMarking net initial) room = record {
         sized = sized-stays net (made-allowed .sized) (made-allowed .few);
+        light = light-stays net (made-allowed .light);
         marked = start .long;
         roomy = l;
         fine = fine-stays net (made-allowed .sized) initial (made-allowed .marked) (made-allowed .fine);
@@ -192,7 +193,7 @@ module _ (net : Net) (initial : List ℕ) (rooms : Rooms) (r : ComplementNet) (r
         held = heldNet (net .transitions) rooms′
 
         ready : Ready net initial room
-        ready = record { sized = made-allowed .sized; marked = made-allowed .marked; roomy = long; fine = made-allowed .fine; wired = made-allowed .wired }
+        ready = record { sized = made-allowed .sized; light = made-allowed .light; marked = made-allowed .marked; roomy = long; fine = made-allowed .fine; wired = made-allowed .wired }
 
         one : (s ≡ NotReplayed n at) ↔ ReplayRefusal net initial w within room n at
         one = replay-refused-exactly net initial w within room s left p n at
@@ -295,4 +296,4 @@ module _ (net : Net) (r : ComplementPlaces) (promise : Told net r) (n : ℕ) (e 
         back y =
             let z = rw (← told-is) at y in
             allowed-made net initial rooms a rooms′ answer
-            (record { sized = told-countable .sized; marked = marked; roomy = record { pres = z .pres; posts = z .posts; capped = z .caps; noted = z .marks; initials = z .initials }; fine = fine; wired = told-countable .wired; few = told-countable .few }) .0
+            (record { sized = told-countable .sized; light = told-countable .light; marked = marked; roomy = record { pres = z .pres; posts = z .posts; capped = z .caps; noted = z .marks; initials = z .initials }; fine = fine; wired = told-countable .wired; few = told-countable .few }) .0

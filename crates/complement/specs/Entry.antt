@@ -1,4 +1,4 @@
--- To be believed: the complement net into lent rooms; refusals 1, 2, 3, 17 and 10 in order, else the net and its initial marking.
+-- To be believed: the complement net into lent rooms; refusals 1, 2, 18, 3, 17 and 10 in order, else the net and its initial marking.
 use Prim.Native.Nat.{ℕ, _*_, _≤_}
 use mathlib.Core.Path.{_≡_}
 use mathlib.Core.Bool.{Bool, _&&_}
@@ -6,7 +6,7 @@ use mathlib.Core.List.{List, [], _∷_}
 use lib.ListN.{length}
 use lib.Dec.{eqb}
 use Rattle.ground.specs.Limits.{countLimit}
-use Rattle.net.specs.Net.{Net, Sized}
+use Rattle.net.specs.Net.{Net, Sized, Light}
 use Rattle.wiring.specs.Wired.{Wired}
 use Rattle.refusals.specs.Given.{orElse, markedFault, Fine}
 use Rattle.refusals.specs.First.{MarkedFirst}
@@ -38,7 +38,7 @@ netFits net pre post caps marks initial = lengthsFit (net .transitions * complem
 abbrev pub roomsFit : Net → Rooms → Bool
 roomsFit net rooms = netFits net (length (rooms .pre)) (length (rooms .post)) (length (rooms .caps)) (length (rooms .marks)) (length (rooms .initial))
 
--- 1, 2, 3 and 17 for the net and its initial marking, then 10
+-- 1, 2, 18, 3 and 17 for the net and its initial marking, then 10
 unfoldable pub complementFault : Net → List ℕ → Bool → Fault
 complementFault net initial fits = orElse (markedFault net initial fits) (limitFault (complementPlaces net))
 
@@ -80,12 +80,13 @@ pub record Roomy (net : Net) (rooms : Rooms) : Type 0 where
 -- all that document 01 asks of what is lent: nothing is refused exactly where this holds
 pub record Allowed (net : Net) (initial : List ℕ) (rooms : Rooms) : Type 0 where
   pub sized : Sized net
+  pub light : Light net
   pub marked : length initial ≡ net .places
   pub roomy : Roomy net rooms
   pub fine : Fine (net .caps) initial
   pub wired : Wired net
   pub few : complementPlaces net ≤ countLimit
 
--- what refusal n at position at means, demand by demand: 1, 2, 3, 17, 10
+-- what refusal n at position at means, demand by demand: 1, 2, 18, 3, 17, 10
 abbrev pub Refusal : Net → List ℕ → Rooms → ℕ → ℕ → Type 0
 Refusal net initial rooms n at = MarkedFirst net initial (Roomy net rooms) n at (LimitFirst net n at)

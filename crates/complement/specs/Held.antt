@@ -5,7 +5,7 @@ use mathlib.Core.List.{List}
 use mathlib.Core.Logic.{_⊎_}
 use lib.ListN.{length, getD}
 use Rattle.ground.specs.Parts.{up, dn}
-use Rattle.net.specs.Net.{Net, netOf, Pre, Post, Change, capacity, Capped, mark, Pocket, tokens, Sized}
+use Rattle.net.specs.Net.{Net, netOf, Pre, Post, Change, capacity, Capped, mark, Pocket, tokens, Sized, Light}
 use Rattle.net.specs.Firing.{Names}
 use Rattle.net.specs.declared.Cause.{Cause}
 use Rattle.net.specs.declared.Cause.the-variants.{Short, Over}
@@ -65,9 +65,10 @@ pub record TiedBlock (net held : Net) (w m m′ : List ℕ) (i : ℕ) (why why�
   pub named′ : Names held m′ (getD w i 0) why′
   pub causes : Tied net why why′
 
--- a net, its marking and a room for one, of which nothing is refused by 1, 2, 3 or 17
+-- a net, its marking and a room for one, of which nothing is refused by 1, 2, 18, 3 or 17
 pub record Ready (net : Net) (m room : List ℕ) : Type 0 where
   pub sized : Sized net
+  pub light : Light net
   pub marked : length m ≡ net .places
   pub roomy : length room ≡ net .places
   pub fine : Fine (net .caps) m

@@ -5,7 +5,7 @@ use mathlib.Core.Bool.{true}
 use mathlib.Core.List.{List, [], _∷_}
 use lib.Dec.{ltb}
 use Rattle.ground.specs.Limits.{countLimit}
-use Rattle.net.specs.Net.{Net, Sized}
+use Rattle.net.specs.Net.{Net, Sized, Light}
 use Rattle.wiring.specs.Wired.{Wired}
 use Rattle.refusals.specs.Given.{refuse, orElse, netFault}
 use Rattle.refusals.specs.First.{First, Given, NetFirst}
@@ -19,7 +19,7 @@ use Rattle.complement.specs.declared.ComplementPlaces.the-variants.{Plac
 unfoldable pub limitFault : ℕ → Fault
 limitFault n = refuse (ltb countLimit n) 10 0
 
--- 1, 2 and 17 for the net, then 10
+-- 1, 2, 18 and 17 for the net, then 10
 unfoldable pub placesFault : Net → Fault
 placesFault net = orElse (netFault net true) (limitFault (complementPlaces net))
 
@@ -43,6 +43,7 @@ pub record Told (net : Net) (r : ComplementPlaces) : Type 0 where
 -- all that document 01 asks: nothing is refused exactly where this holds
 pub record Countable (net : Net) : Type 0 where
   pub sized : Sized net
+  pub light : Light net
   pub wired : Wired net
   pub few : complementPlaces net ≤ countLimit
 
@@ -50,6 +51,6 @@ pub record Countable (net : Net) : Type 0 where
 abbrev pub LimitFirst : Net → ℕ → ℕ → Type 0
 LimitFirst net n at = First (complementPlaces net ≤ countLimit) (Given 10 0 n at) ⊥
 
--- what refusal n at position at means, demand by demand: 1, 2, 17, 10. Nothing beside the net is lent.
+-- what refusal n at position at means, demand by demand: 1, 2, 18, 17, 10. Nothing beside the net is lent.
 abbrev pub PlacesRefusal : Net → ℕ → ℕ → Type 0
 PlacesRefusal net n at = NetFirst net (Unit {0}) n at (LimitFirst net n at)

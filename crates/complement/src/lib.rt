@@ -348,7 +348,7 @@ fn limit_fault(wide: usize) -> Fault
     }
 }
 
-// Refusals 1, 2, 3 and 17, then 10, once the number of places is known.
+// Refusals 1, 2, 18, 3 and 17, then 10, once the number of places is known.
 fn later_fault(
     places: usize,
     transitions: usize,
@@ -369,7 +369,7 @@ fn later_fault(
     }
 }
 
-// Refusals 1, 2, 3, 17 and 10, from the rooms' lengths. It is not lent the rooms, so a refusal cannot
+// Refusals 1, 2, 18, 3, 17 and 10, from the rooms' lengths. It is not lent the rooms, so a refusal cannot
 // touch them. Places are counted only where counts and lengths agree, so nothing overflows; where
 // they do not, 1 or 2 is given whatever the rooms are.
 fn find_fault(

@@ -104,7 +104,7 @@ fn read_file(
     file_parts::finish_held(r)
 }
 
-// A list to the front of a room.
+// A list of numbers, or of weights, to the front of a room.
 fn lay_words(room: &mut [u16], list: &[u16])
     requires { ⌜ length (now list) ≤ length (now room) ⌝ }
     ensures { λ _. ⌜ now (room .exit) ≡ sets (now (room .entry)) 0 (now (list .entry)) ⌝ }
@@ -134,8 +134,8 @@ fn lay_out(
     c: &[u16],
     k: &[u8],
     m: &[u16],
-    a: &[u8],
-    b: &[u8],
+    a: &[Weight],
+    b: &[Weight],
     w: &[u8],
     caps: &mut [u16],
     marks: &mut [u8],
@@ -155,8 +155,8 @@ fn lay_out(
     lay_words(caps, &c[..p]);
     lay_bytes(marks, &k[..p]);
     lay_words(initial, &m[..p]);
-    lay_bytes(pre, &a[..cells]);
-    lay_bytes(post, &b[..cells]);
+    lay_words(pre, &a[..cells]);
+    lay_words(post, &b[..cells]);
     lay_bytes(word, &w[..n]);
 }
 
@@ -166,8 +166,8 @@ fn answer(
     c: &[u16],
     k: &[u8],
     m: &[u16],
-    a: &[u8],
-    b: &[u8],
+    a: &[Weight],
+    b: &[Weight],
     w: &[u8],
     caps: &mut [u16],
     marks: &mut [u8],

@@ -7,15 +7,19 @@ use Prim.Native.Nat.{ℕ, zero, suc, _+_, _*_, _≤_, _<_}
 use native.Mathlib.Omega.{arith}
 use native.Mathlib.Nat.{not-suc-le-zero, suc-mul, mul-le-mul}
 use lib.Dec.{eqb}
+use lib.ListN.{length}
+use lib.Seq.{sets}
 use borrow.Author.Tests.{ne-eqb, eqb-false}
 use Rattle.ground.specs.Limits.{countLimit}
 use Rattle.refusals.specs.declared.Fault.the-variants.{Sound}
 use Rattle.file_digits.specs.Frame.{byteAt}
+use Rattle.file_row.specs.Row.{narrowRow, wideRow, weightBytes, takesIn, putsIn}
 use Rattle.file_line.specs.declared.Reading.{Reading}
-use Rattle.file_line.specs.Read.{cellLimit, Rooms, kindOf, phaseAfter, lettersIn, judgeOf, advanced, advancedKind, storedKind}
+use Rattle.file_line.specs.Read.{cellLimit, Rooms, rooms, kindOf, phaseAfter, lettersIn, judgeOf, advanced, advancedKind, stored, storedKind}
 use Rattle.file_line.specs.Line.{Ruled, Formed, CountsInRange, WordNotOver}
 use Rattle.file_line.specs.Walk.{Good, askedOf, Accepted}
-use Rattle.file_line.proofs.Order.{formed-kind, formed-01, formed-02, formed-03, formed-04, formed-05, formed-06, taken-of, asked-of-line}
+use Rattle.file_line.proofs.Weights.{row-kinds, kinds-row}
+use Rattle.file_line.proofs.Order.{formed-kind, formed-01, formed-02, formed-03, formed-row, formed-05, formed-06, taken-of, asked-of-line}
 
 pub row-fits : (t p n : ℕ) → t < n → n ≤ countLimit → p ≤ countLimit → t * p + p ≤ cellLimit
 row-fits t p n h k l =
@@ -36,7 +40,7 @@ module _ (s : Reading) (d : List ℕ) where
         caps = λ q. formed-02 s d formed q;
         pockets = λ q. let f = formed-06 s d formed q in (f .0, f .1);
         tokens = λ q. formed-03 s d formed q;
-        row = λ q. let f = formed-04 s d formed q in (f .0, f .1);
+        row = λ q. let f = formed-row s d formed (row-kinds (kindOf d) q) in (f .0, f .1);
         letters = λ q. let f = formed-05 s d formed q in (f .0, f .2, f .3, word .few q);
         kind = k .1;
         kind-least = k .0;
@@ -48,6 +52,13 @@ module _ (s : Reading) (d : List ℕ) where
   -- a line has it before it is stored
   pub asked-accepted : (x : Rooms) → askedOf s d x ≡ Sound → Accepted s d
   asked-accepted x e = let t = asked-of-line s d x e in accepted-by (t .0) (t .1) (t .2) (t .3)
+
+  -- a transition's weights are in the line, and have room
+  pub row-room : Good s → Accepted s d → (k : ℕ) → k ≡ kindOf d → (k ≡ narrowRow) ⊎ (k ≡ wideRow)
+      → (length d ≡ 4 + 4 * (weightBytes k * s .places)) × (s .places ≤ countLimit) × (s .next * s .places + s .places ≤ cellLimit)
+  row-room g a k e q =
+      let z = a .row (rw (← e) (kinds-row k q)) in
+      (rw e (z .1), g .places, row-fits (s .next) (s .places) (s .transitions) (g .rows (z .0)) (g .transitions) (g .places))
 
   -- a good state stays good
   pub good-advanced : Good s → Accepted s d → Good (advanced s d)
@@ -127,7 +138,7 @@ module _ (s : Reading) (d : List ℕ) where
           line = omega arith;
         }
 
-    go : (k : ℕ) → byteAt d 0 ≡ k → 1 ≤ k → k ≤ 6 → Good (advancedKind k s d)
+    go : (k : ℕ) → byteAt d 0 ≡ k → 1 ≤ k → k ≤ 7 → Good (advancedKind k s d)
     go zero e l m = absurd (not-suc-le-zero l)
     go (suc zero) e l m =
         let h = a .counts e in
@@ -157,7 +168,7 @@ module _ (s : Reading) (d : List ℕ) where
         let i = g .line-early (omega arith) in
         early 6 (omega arith) n w (omega arith) (omega arith) (omega arith) (λ q. omega arith)
     go (suc (suc (suc zero))) e l m = tokens (a .tokens e .0)
-    go (suc (suc (suc (suc zero)))) e l m = row _ refl (a .row e .0)
+    go (suc (suc (suc (suc zero)))) e l m = row _ refl (a .row (kinds-row (kindOf d) (inl e)) .0)
     go (suc (suc (suc (suc (suc zero))))) e l m =
         let h = a .letters e in
         let t = g .some (omega arith) in
@@ -182,7 +193,8 @@ module _ (s : Reading) (d : List ℕ) where
         let p = a .pockets e .0 in
         let q = g .pockets p in
         early 3 (omega arith) (q .0) (q .1) (omega arith) (omega arith) (omega (arith, q .2)) (λ z. omega arith)
-    go (suc (suc (suc (suc (suc (suc (suc k))))))) e l m = absurd (omega arith)
+    go (suc (suc (suc (suc (suc (suc (suc zero))))))) e l m = row _ refl (a .row (kinds-row (kindOf d) (inr e)) .0)
+    go (suc (suc (suc (suc (suc (suc (suc (suc k)))))))) e l m = absurd (omega arith)
 
   pub both : (r : Reading) → Good s → Accepted s d → r ≡ advanced s d → (r ≡ advanced s d) × Good r
   both r g a e = (e, subst Good (sym e) (good-advanced g a))
@@ -194,20 +206,35 @@ module _ (s : Reading) (d : List ℕ) where
     unfolding advancedKind
     advanced-01 P u T v q a b g h = rw (← e, p, q, b, a, h, g)
 
-    pub advanced-04 : k ≡ 4 → record { phase = f; places = s .places; transitions = s .transitions; next = s .next + 1; letters = 0; line = s .line + 1 } ≡ advanced s d
+    pub advanced-row : (k ≡ narrowRow) ⊎ (k ≡ wideRow)
+        → record { phase = f; places = s .places; transitions = s .transitions; next = s .next + 1; letters = 0; line = s .line + 1 } ≡ advanced s d
     unfolding advancedKind
-    advanced-04 q = rw (← e, p, q)
+    advanced-row (inl q) = rw (← e, p, q)
+    advanced-row (inr q) = rw (← e, p, q)
 
     pub advanced-05 : k ≡ 5
         → record { phase = f; places = s .places; transitions = s .transitions; next = s .next; letters = s .letters + lettersIn d; line = s .line + 1 } ≡ advanced s d
     unfolding advancedKind
     advanced-05 q = rw (← e, p, q)
 
-    pub advanced-rest : (k ≡ 1 → ⊥) → (k ≡ 4 → ⊥) → (k ≡ 5 → ⊥)
+    pub advanced-rest : (k ≡ 1 → ⊥) → ((k ≡ narrowRow) ⊎ (k ≡ wideRow) → ⊥) → (k ≡ 5 → ⊥)
         → record { phase = f; places = s .places; transitions = s .transitions; next = 0; letters = 0; line = s .line + 1 } ≡ advanced s d
     unfolding advancedKind
-    advanced-rest a b g = rw (← e, p, ne-eqb k 1 a, ne-eqb k 4 b, ne-eqb k 5 g)
+    advanced-rest a b g = rw (← e, p, ne-eqb k 1 a, ne-eqb k narrowRow (λ q. b (inl q)), ne-eqb k wideRow (λ q. b (inr q)), ne-eqb k 5 g)
 
-pub stored-rest : (s : Reading) (d : List ℕ) (x : Rooms) (k : ℕ) → (k ≡ 2 → ⊥) → (k ≡ 3 → ⊥) → (k ≡ 4 → ⊥) → (k ≡ 5 → ⊥) → (k ≡ 6 → ⊥) → storedKind k s d x ≡ x
-unfolding storedKind
-stored-rest s d x k a b g h i = simp (ne-eqb k 2 a, ne-eqb k 3 b, ne-eqb k 4 g, ne-eqb k 5 h, ne-eqb k 6 i)
+-- the kind that comes next behind a transition's weights, as the code makes it
+pub phase-row : (k : ℕ) (s : Reading) (f : ℕ) → (k ≡ narrowRow) ⊎ (k ≡ wideRow) → f ≡ cond (eqb (s .next + 1) (s .transitions)) 5 4 → f ≡ phaseAfter k s
+phase-row k s f (inl q) e = rw q e
+phase-row k s f (inr q) e = rw q e
+
+-- the rooms after a line of kind k, as the code makes them
+module _ (s : Reading) (d : List ℕ) (x : Rooms) (k : ℕ) where
+  pub stored-row : (a b : List ℕ) → k ≡ kindOf d → (k ≡ narrowRow) ⊎ (k ≡ wideRow) → a ≡ sets (x .pre) (s .next * s .places) (takesIn k d (s .places)) → b ≡ sets (x .post) (s .next * s .places) (putsIn k d (s .places))
+      → rooms (x .caps) (x .marks) (x .initial) a b (x .word) ≡ stored s d x
+  unfolding storedKind
+  stored-row a b e (inl q) f g = rw (f, g, ← e, q)
+  stored-row a b e (inr q) f g = rw (f, g, ← e, q)
+
+  pub stored-rest : (k ≡ 2 → ⊥) → (k ≡ 3 → ⊥) → ((k ≡ narrowRow) ⊎ (k ≡ wideRow) → ⊥) → (k ≡ 5 → ⊥) → (k ≡ 6 → ⊥) → storedKind k s d x ≡ x
+  unfolding storedKind
+  stored-rest a b g h i = simp (ne-eqb k 2 a, ne-eqb k 3 b, ne-eqb k narrowRow (λ q. g (inl q)), ne-eqb k wideRow (λ q. g (inr q)), ne-eqb k 5 h, ne-eqb k 6 i)

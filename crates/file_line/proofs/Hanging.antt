@@ -8,12 +8,12 @@ use native.Mathlib.Nat.{mul-le-mul}
 use lib.Dec.{eqb}
 use lib.ListN.{length, take}
 use lib.Seq.{length-take-le}
-use borrow.Author.Tests.{eqb-true}
 use Rattle.ground.proofs.Tests.{never, and-true}
 use Rattle.net.specs.Net.{Net, Sized}
 use Rattle.refusals.specs.Given.{refuse, looseFault}
 use Rattle.refusals.specs.declared.Fault.{Fault}
 use Rattle.refusals.specs.declared.Fault.the-variants.{Sound, Faulty}
+use Rattle.file_row.specs.Row.{isRow}
 use Rattle.file_line.specs.declared.Reading.{Reading}
 use Rattle.file_line.specs.declared.Took.the-variants.{Next, Refused}
 use Rattle.file_line.specs.Read.{cellLimit, Rooms, rooms, kindOf, netIn, hangsLoose, looseBad, lineHere, tookBy}
@@ -51,18 +51,18 @@ goes true false h e = never (sym e)
 goes false b h e = never (sym e)
 
 -- k is the line's kind, r whether it is that line
-module _ (s : Reading) (d : List ℕ) (k : ℕ) (e : k ≡ kindOf d) (r : Bool) (f : r ≡ (eqb k 4 && eqb (s .next + 1) (s .transitions))) where
+module _ (s : Reading) (d : List ℕ) (k : ℕ) (e : k ≡ kindOf d) (r : Bool) (f : r ≡ (isRow k && eqb (s .next + 1) (s .transitions))) where
   pub not-asked : (y : Rooms) → r ≡ false → false ≡ looseBad s d y
-  not-asked y q = rw (← e) (stops (eqb k 4) (eqb (s .next + 1) (s .transitions)) (hangsLoose (netIn s y)) (sym f ∙ q))
+  not-asked y q = rw (← e) (stops (isRow k) (eqb (s .next + 1) (s .transitions)) (hangsLoose (netIn s y)) (sym f ∙ q))
 
   module _ (q : r ≡ true) where
     pub asked-loose : (y : Rooms) (h : Bool) → h ≡ hangsLoose (netIn s y) → h ≡ looseBad s d y
-    asked-loose y h g = g ∙ rw (← e) (goes (eqb k 4) (eqb (s .next + 1) (s .transitions)) (hangsLoose (netIn s y)) (sym f ∙ q))
+    asked-loose y h g = g ∙ rw (← e) (goes (isRow k) (eqb (s .next + 1) (s .transitions)) (hangsLoose (netIn s y)) (sym f ∙ q))
 
     -- the net is in the rooms
     module _ (g : Good s) (t : Accepted s d) (c marks a b : List ℕ) (m : Tables c marks a b) where
       fourth : s .phase ≡ 4
-      fourth = t .row (sym e ∙ eqb-true k 4 (and-true (eqb k 4) (eqb (s .next + 1) (s .transitions)) (sym f ∙ q) .0)) .0
+      fourth = t .row (rw (← e) (and-true (isRow k) (eqb (s .next + 1) (s .transitions)) (sym f ∙ q) .0)) .0
 
       pub net-sized : Sized (netIn s (rooms c marks [] a b []))
       net-sized =

@@ -1,6 +1,6 @@
 -- The tests of a line are document 01's demands, in the order of the numbers. Assumes nothing.
-use mathlib.Core.Path.{_≡_, refl, sym, _∙_}
-use mathlib.Core.Bool.{Bool, true, false, not, _&&_}
+use mathlib.Core.Path.{_≡_, refl, sym, ap, _∙_}
+use mathlib.Core.Bool.{Bool, true, false, not, _&&_, _||_}
 use mathlib.Core.Logic.{_⊎_, inl, inr}
 use mathlib.Core.List.{List}
 use Prim.Native.Nat.{ℕ, zero, suc, _+_, _*_, _≤_, _<_, _%_}
@@ -8,10 +8,12 @@ use native.Mathlib.Omega.{arith}
 use lib.Dec.{leb, eqb}
 use lib.ListN.{length, getD}
 use borrow.Author.Tests.{eq-eqb, ne-eqb, eqb-true, le-ltb, ltb-false, le-leb, lt-leb, leb-true, leb-false, not-false}
+use Rattle.ground.specs.Limits.{weightLimit}
 use Rattle.ground.proofs.Tests.{never, or-false, both-false, and-true}
 use Rattle.ground.proofs.Scan.{first-none, first-below}
 use Rattle.net.specs.Net.{Net}
 use Rattle.wiring.specs.Wired.{Wired}
+use Rattle.weights.specs.Heavy.{rowOver}
 use Rattle.refusals.specs.Given.{refuse, outside, looseFault, markingFault, badLetter, Letters}
 use Rattle.refusals.specs.declared.Fault.{Fault}
 use Rattle.refusals.specs.declared.Fault.the-variants.{Sound, Faulty}
@@ -20,11 +22,13 @@ use Rattle.refusals.proofs.Refusals.{inside-of, inside-is, loose-met, met-loose
 use Rattle.refusals.proofs.Exactly.{Chain, tells-test, reads-test, reads-both, reads-all}
 use Rattle.file_digits.specs.Frame.{block, byteAt}
 use Rattle.file_mask.specs.Mask.{maskBytes, aboveBits, maskFits, maskIn}
+use Rattle.file_row.specs.Row.{narrowRow, wideRow, isRow, weightBytes, takesIn, putsIn}
 use Rattle.file_line.specs.declared.Reading.{Reading}
-use Rattle.file_line.specs.Read.{Rooms, kindOf, expected, tokensIn, wordPart, lineHere, ruleOf, formedKind, formedOf, countsBad, tokensBad, isFaulty, hangsLoose, looseBad, wordOver, lettersBad, stored, judgeOf}
-use Rattle.file_line.specs.Line.{Ruled, SomeBit, NoBitPast, Formed, frame01, frame02, frame06, frame03, frame04, frame05, CountsInRange, TokensAllowed, NetWired, WordNotOver, LettersNamed, Taken, Judged}
+use Rattle.file_line.specs.Read.{Rooms, kindOf, standsAs, expected, tokensIn, wordPart, lineHere, ruleOf, formedKind, formedOf, countsBad, weightsBad, tokensBad, isFaulty, hangsLoose, looseBad, wordOver, lettersBad, stored, judgeOf}
+use Rattle.file_line.specs.Line.{Ruled, SomeBit, NoBitPast, SomeWide, Formed, frame01, frame02, frame06, frame03, frame04, frame07, frame05, CountsInRange, WeightsAllowed, TokensAllowed, NetWired, WordNotOver, LettersNamed, Taken, Judged}
 use Rattle.file_line.specs.Walk.{askedOf}
 use Rattle.file_line.proofs.Digits.{rule-exactly}
+use Rattle.file_line.proofs.Weights.{row-kinds, kinds-row, wide-some, some-wide, weights-light, light-weights}
 
 -- a test that is asked of one kind only
 module _ (k j : ℕ) (b : Bool) where
@@ -38,10 +42,22 @@ module _ (k j : ℕ) (b : Bool) where
       go true q = f (eqb-true _ _ q)
       go false q = refl
 
+-- ... and one that is asked of a transition's weights, in both kinds
+module _ (k : ℕ) (b : Bool) where
+  row-asked : (isRow k && b) ≡ false → (k ≡ narrowRow) ⊎ (k ≡ wideRow) → b ≡ false
+  row-asked e h = rw (kinds-row k h) at e
+
+  asked-row : ((k ≡ narrowRow) ⊎ (k ≡ wideRow) → b ≡ false) → (isRow k && b) ≡ false
+  asked-row f = go (isRow k) refl
+    where
+      go : (a : Bool) → isRow k ≡ a → (a && b) ≡ false
+      go true q = f (row-kinds k q)
+      go false q = refl
+
 -- no other kind is known
-pub formed-rest : (s : Reading) (d : List ℕ) (k : ℕ) → (k ≡ 1 → ⊥) → (k ≡ 2 → ⊥) → (k ≡ 3 → ⊥) → (k ≡ 4 → ⊥) → (k ≡ 5 → ⊥) → (k ≡ 6 → ⊥) → formedKind k s d ≡ false
+pub formed-rest : (s : Reading) (d : List ℕ) (k : ℕ) → (k ≡ 1 → ⊥) → (k ≡ 2 → ⊥) → (k ≡ 3 → ⊥) → (k ≡ 4 → ⊥) → (k ≡ 5 → ⊥) → (k ≡ 6 → ⊥) → (k ≡ 7 → ⊥) → formedKind k s d ≡ false
 unfolding formedKind
-formed-rest s d k a b e f g h = simp (ne-eqb k 1 a, ne-eqb k 2 b, ne-eqb k 3 e, ne-eqb k 4 f, ne-eqb k 5 g, ne-eqb k 6 h)
+formed-rest s d k a b e f g h i = simp (ne-eqb k 1 a, ne-eqb k 2 b, ne-eqb k 3 e, ne-eqb k 4 f, ne-eqb k 5 g, ne-eqb k 6 h, ne-eqb k 7 i)
 
 -- a mask has some bit, and none past the places: its test says so
 module _ (m P : ℕ) where
@@ -57,26 +73,27 @@ module _ (m P : ℕ) where
 
 -- the kind that the state says, or a 03 where a 06 may come
 module _ (s : Reading) (k : ℕ) where
-  expected-says : expected s k ≡ true → (k ≡ s .phase) ⊎ ((s .phase ≡ 6) × (k ≡ 3))
-  expected-says e = go (eqb k (s .phase)) refl
+  expected-says : expected s k ≡ true → (standsAs k ≡ s .phase) ⊎ ((s .phase ≡ 6) × (k ≡ 3))
+  expected-says e = go (eqb (standsAs k) (s .phase)) refl e
     where
-      go : (b : Bool) → eqb k (s .phase) ≡ b → (k ≡ s .phase) ⊎ ((s .phase ≡ 6) × (k ≡ 3))
-      go true q = inl (eqb-true _ _ q)
-      go false q =
-          let a = and-true (eqb (s .phase) 6) (eqb k 3) (rw q at e) in
+      go : (b : Bool) → eqb (standsAs k) (s .phase) ≡ b → (b || (eqb (s .phase) 6 && eqb k 3)) ≡ true → (standsAs k ≡ s .phase) ⊎ ((s .phase ≡ 6) × (k ≡ 3))
+      go true q h = inl (eqb-true _ _ q)
+      go false q h =
+          let a = and-true (eqb (s .phase) 6) (eqb k 3) h in
           inr (eqb-true _ _ (a .0), eqb-true _ _ (a .1))
 
 -- a frame that is formedOf, by its kind
 module _ (s : Reading) (d : List ℕ) where
   -- where it stands: the kind that the state says, or a 03 where a 06 may come
-  pub formed-kind : Formed s d → (1 ≤ kindOf d) × (kindOf d ≤ 6) × ((kindOf d ≡ s .phase) ⊎ ((s .phase ≡ 6) × (kindOf d ≡ 3)))
-  formed-kind (frame01 p k l) = (omega arith, omega arith, inl (k ∙ sym p))
-  formed-kind (frame02 p k l) = (omega arith, omega arith, inl (k ∙ sym p))
-  formed-kind (frame06 p k l n z) = (omega arith, omega arith, inl (k ∙ sym p))
+  pub formed-kind : Formed s d → (1 ≤ kindOf d) × (kindOf d ≤ 7) × ((standsAs (kindOf d) ≡ s .phase) ⊎ ((s .phase ≡ 6) × (kindOf d ≡ 3)))
+  formed-kind (frame01 p k l) = (omega arith, omega arith, inl (rw (k, p)))
+  formed-kind (frame02 p k l) = (omega arith, omega arith, inl (rw (k, p)))
+  formed-kind (frame06 p k l n z) = (omega arith, omega arith, inl (rw (k, p)))
   formed-kind (frame03 (inl p) k l) = (omega arith, omega arith, inr (p, k))
-  formed-kind (frame03 (inr p) k l) = (omega arith, omega arith, inl (k ∙ sym p))
-  formed-kind (frame04 p k l i) = (omega arith, omega arith, inl (k ∙ sym p))
-  formed-kind (frame05 p k q l m) = (omega arith, omega arith, inl (k ∙ sym p))
+  formed-kind (frame03 (inr p) k l) = (omega arith, omega arith, inl (rw (k, p)))
+  formed-kind (frame04 p k l i) = (omega arith, omega arith, inl (rw (k, p)))
+  formed-kind (frame07 p k l i w) = (omega arith, omega arith, inl (rw (k, p)))
+  formed-kind (frame05 p k q l m) = (omega arith, omega arith, inl (rw (k, p)))
 
   pub formed-01 : Formed s d → kindOf d ≡ 1 → (s .phase ≡ 1) × (length d ≡ 6)
   formed-01 (frame01 p k l) e = (p, l)
@@ -84,6 +101,7 @@ module _ (s : Reading) (d : List ℕ) where
   formed-01 (frame06 p k l n z) e = absurd (omega arith)
   formed-01 (frame03 p k l) e = absurd (omega arith)
   formed-01 (frame04 p k l i) e = absurd (omega arith)
+  formed-01 (frame07 p k l i w) e = absurd (omega arith)
   formed-01 (frame05 p k q l m) e = absurd (omega arith)
 
   pub formed-02 : Formed s d → kindOf d ≡ 2 → (s .phase ≡ 2) × (length d ≡ 2 + 4 * s .places)
@@ -92,6 +110,7 @@ module _ (s : Reading) (d : List ℕ) where
   formed-02 (frame06 p k l n z) e = absurd (omega arith)
   formed-02 (frame03 p k l) e = absurd (omega arith)
   formed-02 (frame04 p k l i) e = absurd (omega arith)
+  formed-02 (frame07 p k l i w) e = absurd (omega arith)
   formed-02 (frame05 p k q l m) e = absurd (omega arith)
 
   pub formed-06 : Formed s d → kindOf d ≡ 6 → (s .phase ≡ 6) × (length d ≡ 2 + 2 * maskBytes) × SomeBit d × NoBitPast s d
@@ -100,6 +119,7 @@ module _ (s : Reading) (d : List ℕ) where
   formed-06 (frame06 p k l n z) e = (p, l, n, z)
   formed-06 (frame03 p k l) e = absurd (omega arith)
   formed-06 (frame04 p k l i) e = absurd (omega arith)
+  formed-06 (frame07 p k l i w) e = absurd (omega arith)
   formed-06 (frame05 p k q l m) e = absurd (omega arith)
 
   pub formed-03 : Formed s d → kindOf d ≡ 3 → ((s .phase ≡ 6) ⊎ (s .phase ≡ 3)) × (length d ≡ 2 + 4 * s .places)
@@ -108,6 +128,7 @@ module _ (s : Reading) (d : List ℕ) where
   formed-03 (frame06 p k l n z) e = absurd (omega arith)
   formed-03 (frame03 p k l) e = (p, l)
   formed-03 (frame04 p k l i) e = absurd (omega arith)
+  formed-03 (frame07 p k l i w) e = absurd (omega arith)
   formed-03 (frame05 p k q l m) e = absurd (omega arith)
 
   pub formed-04 : Formed s d → kindOf d ≡ 4 → (s .phase ≡ 4) × (length d ≡ 4 + 4 * s .places) × (byteAt d 1 ≡ s .next)
@@ -116,7 +137,22 @@ module _ (s : Reading) (d : List ℕ) where
   formed-04 (frame06 p k l n z) e = absurd (omega arith)
   formed-04 (frame03 p k l) e = absurd (omega arith)
   formed-04 (frame04 p k l i) e = (p, l, i)
+  formed-04 (frame07 p k l i w) e = absurd (omega arith)
   formed-04 (frame05 p k q l m) e = absurd (omega arith)
+
+  pub formed-07 : Formed s d → kindOf d ≡ 7 → (s .phase ≡ 4) × (length d ≡ 4 + 8 * s .places) × (byteAt d 1 ≡ s .next) × SomeWide s d
+  formed-07 (frame01 p k l) e = absurd (omega arith)
+  formed-07 (frame02 p k l) e = absurd (omega arith)
+  formed-07 (frame06 p k l n z) e = absurd (omega arith)
+  formed-07 (frame03 p k l) e = absurd (omega arith)
+  formed-07 (frame04 p k l i) e = absurd (omega arith)
+  formed-07 (frame07 p k l i w) e = (p, l, i, w)
+  formed-07 (frame05 p k q l m) e = absurd (omega arith)
+
+  -- what both kinds of a transition's weights have
+  pub formed-row : Formed s d → (kindOf d ≡ narrowRow) ⊎ (kindOf d ≡ wideRow) → (s .phase ≡ 4) × (length d ≡ 4 + 4 * (weightBytes (kindOf d) * s .places)) × (byteAt d 1 ≡ s .next)
+  formed-row f (inl e) = let z = formed-04 f e in (z .0, rw e (omega (arith, z .1)), z .2)
+  formed-row f (inr e) = let z = formed-07 f e in (z .0, rw e (omega (arith, z .1)), z .2)
 
   pub formed-05 : Formed s d → kindOf d ≡ 5 → (s .phase ≡ 5) × (s .letters % block ≡ 0) × (4 ≤ length d) × (length d ≤ 2 + 2 * block)
   formed-05 (frame01 p k l) e = absurd (omega arith)
@@ -124,6 +160,7 @@ module _ (s : Reading) (d : List ℕ) where
   formed-05 (frame06 p k l n z) e = absurd (omega arith)
   formed-05 (frame03 p k l) e = absurd (omega arith)
   formed-05 (frame04 p k l i) e = absurd (omega arith)
+  formed-05 (frame07 p k l i w) e = absurd (omega arith)
   formed-05 (frame05 p k q l m) e = (p, q, l, m)
 
   -- its test says so
@@ -133,16 +170,16 @@ module _ (s : Reading) (d : List ℕ) where
       let a = and-true (expected s (kindOf d)) (formedKind (kindOf d) s d) e in
       go (kindOf d) refl (expected-says s (kindOf d) (a .0)) (a .1)
     where
-      -- a kind but 03 is the one that the state says
-      at : (k : ℕ) → kindOf d ≡ k → (k ≡ 3 → ⊥) → (kindOf d ≡ s .phase) ⊎ ((s .phase ≡ 6) × (kindOf d ≡ 3)) → s .phase ≡ k
-      at k q n (inl p) = sym p ∙ q
+      -- a kind but 03 stands where the state says
+      at : (k : ℕ) → kindOf d ≡ k → (k ≡ 3 → ⊥) → (standsAs (kindOf d) ≡ s .phase) ⊎ ((s .phase ≡ 6) × (kindOf d ≡ 3)) → s .phase ≡ standsAs k
+      at k q n (inl p) = sym p ∙ ap standsAs q
       at k q n (inr p) = absurd (n (sym q ∙ p .1))
 
-      at-03 : kindOf d ≡ 3 → (kindOf d ≡ s .phase) ⊎ ((s .phase ≡ 6) × (kindOf d ≡ 3)) → (s .phase ≡ 6) ⊎ (s .phase ≡ 3)
-      at-03 q (inl p) = inr (sym p ∙ q)
+      at-03 : kindOf d ≡ 3 → (standsAs (kindOf d) ≡ s .phase) ⊎ ((s .phase ≡ 6) × (kindOf d ≡ 3)) → (s .phase ≡ 6) ⊎ (s .phase ≡ 3)
+      at-03 q (inl p) = inr (sym p ∙ ap standsAs q)
       at-03 q (inr p) = inl (p .0)
 
-      go : (k : ℕ) → kindOf d ≡ k → (kindOf d ≡ s .phase) ⊎ ((s .phase ≡ 6) × (kindOf d ≡ 3)) → formedKind k s d ≡ true → Formed s d
+      go : (k : ℕ) → kindOf d ≡ k → (standsAs (kindOf d) ≡ s .phase) ⊎ ((s .phase ≡ 6) × (kindOf d ≡ 3)) → formedKind k s d ≡ true → Formed s d
       go zero q p h = never (sym h)
       go (suc zero) q p h = frame01 (at 1 q (λ n. omega arith) p) q (eqb-true _ _ h)
       go (suc (suc zero)) q p h = frame02 (at 2 q (λ n. omega arith) p) q (eqb-true _ _ h)
@@ -158,7 +195,13 @@ module _ (s : Reading) (d : List ℕ) where
           let z = and-true (eqb (length d) (2 + 2 * maskBytes)) _ h in
           let m = mask-some (maskIn d) (s .places) (z .1) in
           frame06 (at 6 q (λ n. omega arith) p) q (eqb-true _ _ (z .0)) (m .0) (m .1)
-      go (suc (suc (suc (suc (suc (suc (suc k))))))) q p h = never (sym h ∙ formed-rest s d (suc (suc (suc (suc (suc (suc (suc k))))))) (λ q. omega arith) (λ q. omega arith) (λ q. omega arith) (λ q. omega arith) (λ q. omega arith) (λ q. omega arith))
+      go (suc (suc (suc (suc (suc (suc (suc zero))))))) q p h =
+          let z = and-true (eqb (length d) (4 + 8 * s .places)) _ h in
+          let y = and-true (eqb (byteAt d 1) (s .next)) _ (z .1) in
+          frame07 (at 7 q (λ n. omega arith) p) q (eqb-true _ _ (z .0)) (eqb-true _ _ (y .0)) (wide-some s d (y .1))
+      go (suc (suc (suc (suc (suc (suc (suc (suc k)))))))) q p h =
+          never
+          (sym h ∙ formed-rest s d (suc (suc (suc (suc (suc (suc (suc (suc k)))))))) (λ q. omega arith) (λ q. omega arith) (λ q. omega arith) (λ q. omega arith) (λ q. omega arith) (λ q. omega arith) (λ q. omega arith))
 
   pub formed-is : Formed s d → formedOf s d ≡ true
   unfolding formedOf formedKind
@@ -168,6 +211,7 @@ module _ (s : Reading) (d : List ℕ) where
   formed-is (frame03 (inl p) k l) = rw (k, p) (eq-eqb _ _ l)
   formed-is (frame03 (inr p) k l) = rw (k, p) (eq-eqb _ _ l)
   formed-is (frame04 p k l i) = rw (k, p, eq-eqb (length d) (4 + 4 * s .places) l) (eq-eqb _ _ i)
+  formed-is (frame07 p k l i w) = rw (k, p, eq-eqb (length d) (4 + 8 * s .places) l, eq-eqb (byteAt d 1) (s .next) i) (some-wide s d w)
   formed-is (frame05 p k q l m) = rw (k, p, eq-eqb (s .letters % block) 0 q, le-leb 4 (length d) l) (le-leb _ _ m)
 
 -- no node hangs loose exactly where the net is wired
@@ -207,6 +251,15 @@ module _ (s : Reading) (d : List ℕ) (x : Rooms) where
   of-counts c =
       of-asked (kindOf d) 1 _ (λ h. both-false _ _ (inside-is (byteAt d 1) (c .places h .0) (c .places h .1)) (inside-is (byteAt d 2) (c .transitions h .0) (c .transitions h .1)))
 
+  weights-of : weightsBad s d ≡ false → WeightsAllowed s d
+  weights-of e = record { takes = λ h p l. weights-light s d (heavy h) p l .0; puts = λ h p l. weights-light s d (heavy h) p l .1 }
+    where
+      heavy : kindOf d ≡ wideRow → rowOver weightLimit (takesIn wideRow d (s .places)) (putsIn wideRow d (s .places)) ≡ false
+      heavy h = asked-of (kindOf d) wideRow _ e h
+
+  of-weights : WeightsAllowed s d → weightsBad s d ≡ false
+  of-weights w = of-asked (kindOf d) wideRow _ (λ h. light-weights s d (λ p l. (w .takes h p l, w .puts h p l)))
+
   tokens-of : tokensBad s d x ≡ false → TokensAllowed s d x
   unfolding markingFault
   tokens-of e = record { fine = λ h. fine-of (x .caps) (tokensIn s d) (sound-refuse _ 3 _ (asked-of (kindOf d) 3 _ e h)) }
@@ -216,10 +269,10 @@ module _ (s : Reading) (d : List ℕ) (x : Rooms) where
   of-tokens t = of-asked (kindOf d) 3 _ (λ h. refuse-sound _ 3 _ (fine-is (x .caps) (tokensIn s d) (t .fine h)))
 
   net-of : looseBad s d (stored s d x) ≡ false → NetWired s d x
-  net-of e = record { wired = λ h l. loose-none _ (asked-of (s .next + 1) (s .transitions) _ (asked-of (kindOf d) 4 _ e h) l) }
+  net-of e = record { wired = λ h l. loose-none _ (asked-of (s .next + 1) (s .transitions) _ (row-asked (kindOf d) _ e h) l) }
 
   of-net : NetWired s d x → looseBad s d (stored s d x) ≡ false
-  of-net w = of-asked (kindOf d) 4 _ (λ h. of-asked (s .next + 1) (s .transitions) _ (λ l. none-loose _ (w .wired h l)))
+  of-net w = asked-row (kindOf d) _ (λ h. of-asked (s .next + 1) (s .transitions) _ (λ l. none-loose _ (w .wired h l)))
 
   word-of : wordOver s d ≡ false → WordNotOver s d
   word-of e = record { few = λ h. ltb-false _ _ (asked-of (kindOf d) 5 _ e h) }
@@ -249,10 +302,11 @@ module _ (s : Reading) (d : List ℕ) (x : Rooms) where
       (reads-both (reads-test (tells-test (not (ruleOf d)) 11 (lineHere s) ruled-of of-ruled))
       (reads-both (reads-test (tells-test (not (formedOf s d)) 12 (lineHere s) form-of of-form))
       (reads-both (reads-test (tells-test (countsBad d) 1 (lineHere s) counts-of of-counts))
+      (reads-both (reads-test (tells-test (weightsBad s d) 18 (lineHere s) weights-of of-weights))
       (reads-both (reads-test (tells-test (tokensBad s d x) 3 (lineHere s) tokens-of of-tokens))
       (reads-both (reads-test (tells-test (looseBad s d (stored s d x)) 17 (lineHere s) net-of of-net))
       (reads-both (reads-test (tells-test (wordOver s d) 4 (lineHere s) word-of of-word))
-      (reads-test (tells-test (lettersBad s d) 5 (lineHere s) letters-of of-letters))))))))
+      (reads-test (tells-test (lettersBad s d) 5 (lineHere s) letters-of of-letters)))))))))
 
   -- nothing is refused exactly where all of it holds
   pub taken-of : judgeOf s d x ≡ Sound → Taken s d x
@@ -261,13 +315,15 @@ module _ (s : Reading) (d : List ℕ) (x : Rooms) where
       let a = or-sound (refuse (not (ruleOf d)) 11 (lineHere s)) _ e in
       let b = or-sound (refuse (not (formedOf s d)) 12 (lineHere s)) _ (a .1) in
       let c = or-sound (refuse (countsBad d) 1 (lineHere s)) _ (b .1) in
-      let f = or-sound (refuse (tokensBad s d x) 3 (lineHere s)) _ (c .1) in
+      let j = or-sound (refuse (weightsBad s d) 18 (lineHere s)) _ (c .1) in
+      let f = or-sound (refuse (tokensBad s d x) 3 (lineHere s)) _ (j .1) in
       let i = or-sound (refuse (looseBad s d (stored s d x)) 17 (lineHere s)) _ (f .1) in
       let g = or-sound (refuse (wordOver s d) 4 (lineHere s)) _ (i .1) in
       record {
         ruled = ruled-of (refuse-sound _ 11 (lineHere s) (a .0));
         formed = form-of (refuse-sound _ 12 (lineHere s) (b .0));
         counts = counts-of (refuse-sound _ 1 (lineHere s) (c .0));
+        weights = weights-of (refuse-sound _ 18 (lineHere s) (j .0));
         tokens = tokens-of (refuse-sound _ 3 (lineHere s) (f .0));
         net = net-of (refuse-sound _ 17 (lineHere s) (i .0));
         word = word-of (refuse-sound _ 4 (lineHere s) (g .0));
@@ -280,9 +336,10 @@ module _ (s : Reading) (d : List ℕ) (x : Rooms) where
       sound-or _ _ (sound-refuse _ 11 (lineHere s) (of-ruled (t .ruled)))
       (sound-or _ _ (sound-refuse _ 12 (lineHere s) (of-form (t .formed)))
       (sound-or _ _ (sound-refuse _ 1 (lineHere s) (of-counts (t .counts)))
+      (sound-or _ _ (sound-refuse _ 18 (lineHere s) (of-weights (t .weights)))
       (sound-or _ _ (sound-refuse _ 3 (lineHere s) (of-tokens (t .tokens)))
       (sound-or _ _ (sound-refuse _ 17 (lineHere s) (of-net (t .net)))
-      (sound-or _ _ (sound-refuse _ 4 (lineHere s) (of-word (t .word))) (sound-refuse _ 5 (lineHere s) (of-letters (t .letters))))))))
+      (sound-or _ _ (sound-refuse _ 4 (lineHere s) (of-word (t .word))) (sound-refuse _ 5 (lineHere s) (of-letters (t .letters)))))))))
 
   -- what the walk needs of a line is told before it is stored
   pub asked-of-line : askedOf s d x ≡ Sound → Ruled d × Formed s d × CountsInRange d × WordNotOver s d
@@ -291,7 +348,8 @@ module _ (s : Reading) (d : List ℕ) (x : Rooms) where
       let a = or-sound (refuse (not (ruleOf d)) 11 (lineHere s)) _ e in
       let b = or-sound (refuse (not (formedOf s d)) 12 (lineHere s)) _ (a .1) in
       let c = or-sound (refuse (countsBad d) 1 (lineHere s)) _ (b .1) in
-      let f = or-sound (refuse (tokensBad s d x) 3 (lineHere s)) _ (c .1) in
+      let j = or-sound (refuse (weightsBad s d) 18 (lineHere s)) _ (c .1) in
+      let f = or-sound (refuse (tokensBad s d x) 3 (lineHere s)) _ (j .1) in
       let g = or-sound (refuse (wordOver s d) 4 (lineHere s)) _ (f .1) in (
         ruled-of (refuse-sound _ 11 (lineHere s) (a .0)),
         form-of (refuse-sound _ 12 (lineHere s) (b .0)),
@@ -304,10 +362,13 @@ module _ (s : Reading) (d : List ℕ) (x : Rooms) where
   pub no-counts : (kindOf d ≡ 1 → ⊥) → CountsInRange d
   no-counts n = record { places = λ e. absurd (n e); transitions = λ e. absurd (n e) }
 
+  pub no-weights : (kindOf d ≡ wideRow → ⊥) → WeightsAllowed s d
+  no-weights n = record { takes = λ e. absurd (n e); puts = λ e. absurd (n e) }
+
   pub no-tokens : (kindOf d ≡ 3 → ⊥) → TokensAllowed s d x
   no-tokens n = record { fine = λ e. absurd (n e) }
 
-  pub no-net : (kindOf d ≡ 4 → ⊥) → NetWired s d x
+  pub no-net : ((kindOf d ≡ narrowRow) ⊎ (kindOf d ≡ wideRow) → ⊥) → NetWired s d x
   no-net n = record { wired = λ e l. absurd (n e) }
 
   pub no-long : (kindOf d ≡ 5 → ⊥) → WordNotOver s d

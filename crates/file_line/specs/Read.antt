@@ -42,10 +42,13 @@ fresh = record { phase = 1; places = 0; transitions = 0; next = 0; letters = 0; 
 abbrev pub kindOf : List ℕ → ℕ
 kindOf d = byteAt d 0
 
--- whether a line of kind k may come next: the kind that the state says, 03 where a 06 may come ("A frame 06 .. may follow 02"), and 07 where
--- an 04 may
+-- a frame 07 stands where an 04 may, and any other where its own kind says
+abbrev pub standsAs : ℕ → ℕ
+standsAs k = cond (eqb k wideRow) narrowRow k
+
+-- whether a line of kind k may come next: the kind that the state says, and 03 where a 06 may come ("A frame 06 .. may follow 02")
 abbrev pub expected : Reading → ℕ → Bool
-expected s k = eqb k (s .phase) || ((eqb (s .phase) 6 && eqb k 3) || (eqb (s .phase) narrowRow && eqb k wideRow))
+expected s k = eqb (standsAs k) (s .phase) || (eqb (s .phase) 6 && eqb k 3)
 
 -- the kind that comes after a line of kind k: after 02 comes 06, or 03; after 06 comes 03; after the last row come letters, and after
 -- letters come more, or the end

@@ -2,6 +2,8 @@
 use file_digits::BLOCK;
 use file_digits::LINE_LIMIT;
 use file_mask::MASK_BYTES;
+use file_row::NARROW_ROW;
+use file_row::WIDE_ROW;
 use ground::COUNT_LIMIT;
 use ground::WORD_LIMIT;
 use ground::Weight;
@@ -13,19 +15,22 @@ ghost use lib.Dec.{eqb, leb, ltb};
 ghost use Prim.Native.Nat.{_+_, _*_, _%_, _<_, _≤_};
 ghost use lib.ListN.{length};
 ghost use lib.Seq.{sets};
-ghost use Rattle.ground.specs.Limits.{countLimit, wordLimit};
+ghost use Rattle.ground.specs.Limits.{countLimit, weightLimit, wordLimit};
 ghost use Rattle.net.specs.Net.{netOf, Sized};
 ghost use Rattle.refusals.specs.Given.{refuse, orElse, outside, badToken, badLetter};
-ghost use Rattle.file_digits.specs.Frame.{block, byteAt, bytesFrom, wordsFrom};
+ghost use Rattle.file_digits.specs.Frame.{block, byteAt, wordsFrom};
 ghost use Rattle.file_mask.specs.Mask.{maskBytes, bitsOf, maskFits, maskIn};
-ghost use Rattle.file_line.specs.Read.{cellLimit, rooms, fresh, phaseAfter, tokensIn, lettersIn, wordPart, ruleOf, formedOf, hangsLoose, looseBad, lineHere, stored, advanced, tookBy, lineOf, roomsOf};
+ghost use Rattle.weights.specs.Heavy.{rowOver};
+ghost use Rattle.file_row.specs.Row.{wideRow, isRow, isWide, takesIn, putsIn};
+ghost use Rattle.file_line.specs.Read.{rooms, fresh, standsAs, phaseAfter, tokensIn, lettersIn, wordPart, ruleOf, formedOf, hangsLoose, looseBad, lineHere, stored, advanced, tookBy, lineOf, roomsOf};
 ghost use Rattle.file_line.specs.Walk.{Good, Large, Tables, fitLetters, askedOf, Accepted, GoodTook};
 
 // The most entries of Pre, and of Post.
 pub const CELL_LIMIT: usize = COUNT_LIMIT * COUNT_LIMIT;
 
 pub struct Reading {
-    // the kind that must come next: 1 to 4, 5 for letters or the end, and 6 for pockets or tokens
+    // the kind that must come next: 1 to 3, 4 for a transition's weights, in an 04 or an 07, 5 for letters
+    // or the end, and 6 for pockets or tokens
     pub phase: u8,
     pub places: usize,
     pub transitions: usize,
@@ -59,7 +64,7 @@ impl Reading {
     }
 }
 
-// The digit rule: an even number of digits, 2 to 260.
+// The digit rule: an even number of digits, 2 to 516.
 fn rule(d: &[u8]) -> bool
     ensures { λ r. ⌜ r ≡ ruleOf (now (d .entry)) ⌝ }
 {
@@ -84,7 +89,7 @@ fn wide(b: u8) -> usize
 }
 
 // A frame 04 has its length, and the index of the next transition.
-fn is_row(s: Reading, d: &[u8]) -> bool
+fn is_narrow_row(s: Reading, d: &[u8]) -> bool
     requires { ⌜ s .places ≤ countLimit ⌝ }
     ensures { λ r. ⌜ r ≡ (eqb (length (now (d .entry))) (4 + 4 * s .places) && eqb (byteAt (now (d .entry)) 1) (s .next)) ⌝ }
 {
@@ -92,6 +97,21 @@ fn is_row(s: Reading, d: &[u8]) -> bool
         return false;
     }
     wide(file_digits::byte_at(d, 1)) == s.next
+}
+
+// So has a frame 07, and one of its weights is over what a byte holds.
+fn is_wide_row(s: Reading, d: &[u8]) -> bool
+    requires { ⌜ s .places ≤ countLimit ⌝ }
+    ensures { λ r. ⌜ r ≡ (eqb (length (now (d .entry))) (4 + 8 * s .places)
+        && (eqb (byteAt (now (d .entry)) 1) (s .next) && isWide (takesIn wideRow (now (d .entry)) (s .places)) (putsIn wideRow (now (d .entry)) (s .places)))) ⌝ }
+{
+    if d.len() != 4 + 8 * s.places {
+        return false;
+    }
+    if wide(file_digits::byte_at(d, 1)) != s.next {
+        return false;
+    }
+    file_row::is_wide(d, s.places)
 }
 
 // A frame 05 comes after full ones only, and has 1 to 64 letters.
@@ -107,10 +127,14 @@ fn is_block(letters: usize, len: usize) -> bool
     len <= 2 + 2 * BLOCK
 }
 
-// Whether a line of this kind may come next: the one that the state says, and 03 where a 06 may come.
+// Whether a line of this kind may come next: the one that the state says, an 07 where an 04 may come,
+// and 03 where a 06 may.
 fn is_expected(phase: u8, kind: u8) -> bool
-    ensures { λ r. ⌜ r ≡ (eqb kind phase || (eqb phase 6 && eqb kind 3)) ⌝ }
+    ensures { λ r. ⌜ r ≡ (eqb (standsAs kind) phase || (eqb phase 6 && eqb kind 3)) ⌝ }
 {
+    if kind == WIDE_ROW {
+        return phase == NARROW_ROW;
+    }
     if kind == phase {
         return true;
     }
@@ -130,7 +154,8 @@ fn is_pockets(d: &[u8], places: usize) -> bool
     file_mask::is_mask(file_mask::mask_at(d), places)
 }
 
-// Whether a line is a frame of a kind that may come next, of its length, with its index and its mask.
+// Whether a line is a frame of a kind that may come next, of its length, with its index, its mask and
+// its weights.
 fn is_formed(s: Reading, d: &[u8]) -> bool
     requires { ⌜ (Good s) × (2 ≤ length (now d)) ⌝ }
     ensures { λ r. ⌜ r ≡ formedOf s (now (d .entry)) ⌝ }
@@ -144,9 +169,10 @@ fn is_formed(s: Reading, d: &[u8]) -> bool
         1 => len == 6,
         2 => len == 2 + 4 * s.places,
         3 => len == 2 + 4 * s.places,
-        4 => is_row(s, d),
+        4 => is_narrow_row(s, d),
         5 => is_block(s.letters, len),
         6 => is_pockets(d, s.places),
+        7 => is_wide_row(s, d),
         _ => false,
     }
 }
@@ -163,6 +189,17 @@ fn counts_fault(d: &[u8], here: usize) -> Fault
     }
     if refusals::is_outside(t) {
         return Fault::Faulty(1, here);
+    }
+    Fault::Sound
+}
+
+// No weight of a frame 07 is over what is allowed.
+fn weights_fault(s: Reading, d: &[u8], here: usize) -> Fault
+    requires { ⌜ (s .places ≤ countLimit) × (length (now d) ≡ 4 + 8 * s .places) ⌝ }
+    ensures { λ r. ⌜ r ≡ refuse (rowOver weightLimit (takesIn wideRow (now (d .entry)) (s .places)) (putsIn wideRow (now (d .entry)) (s .places))) 18 here ⌝ }
+{
+    if file_row::is_heavy(d, s.places) {
+        return Fault::Faulty(18, here);
     }
     Fault::Sound
 }
@@ -258,20 +295,9 @@ fn judge(s: Reading, d: &[u8], caps: &[u16]) -> Fault
         1 => counts_fault(d, here),
         3 => tokens_fault(s, d, caps, here),
         5 => letters_fault(s, d, here),
+        7 => weights_fault(s, d, here),
         _ => Fault::Sound,
     }
-}
-
-// Row next of both matrices.
-fn store_row(s: Reading, d: &[u8], pre: &mut [Weight], post: &mut [Weight])
-    requires { ⌜ (Good s) × (s .next < s .transitions) × (length (now d) ≡ 4 + 4 * s .places) × (cellLimit ≤ length (now pre)) × (cellLimit ≤ length (now post)) ⌝ }
-    ensures pre { λ _. ⌜ now (pre .exit) ≡ sets (now (pre .entry)) (s .next * s .places) (bytesFrom (now (d .entry)) 2 (s .places)) ⌝ }
-    ensures post { λ _. ⌜ now (post .exit) ≡ sets (now (post .entry)) (s .next * s .places) (bytesFrom (now (d .entry)) (2 + s .places) (s .places)) ⌝ }
-{
-    let p = s.places;
-    let at = s.next * p;
-    file_digits::store_bytes(d, 2, pre, at, p);
-    file_digits::store_bytes(d, 2 + p, post, at, p);
 }
 
 // The capacities, with which all places are plain until a 06 says otherwise.
@@ -304,7 +330,10 @@ fn store(
     match kind {
         2 => store_caps(d, caps, marks, p),
         3 => file_digits::store_words(d, 1, initial, p),
-        4 => store_row(s, d, pre, post),
+        4 | 7 => {
+            let row = s.next * p;
+            file_row::store_row(kind, d, pre, post, row, p);
+        }
         5 => {
             let n = d.len() / 2 - 1;
             let at = s.letters;
@@ -324,12 +353,12 @@ fn last_row(next: usize, transitions: usize) -> u8
 
 // The kind that must come after a line of this kind.
 fn phase_after(kind: u8, s: Reading) -> u8
-    requires { ⌜ (kind ≤ 6) × (s .next ≤ countLimit) ⌝ }
+    requires { ⌜ (kind ≤ 7) × (s .next ≤ countLimit) ⌝ }
     ensures { λ r. ⌜ r ≡ phaseAfter kind s ⌝ }
 {
     match kind {
         2 => 6,
-        4 => last_row(s.next + 1, s.transitions),
+        4 | 7 => last_row(s.next + 1, s.transitions),
         5 => 5,
         6 => 3,
         _ => kind + 1,
@@ -353,7 +382,7 @@ fn advance(s: Reading, d: &[u8]) -> Reading
             letters: 0,
             line: s.line + 1,
         },
-        4 => Reading {
+        4 | 7 => Reading {
             phase: phase,
             places: s.places,
             transitions: s.transitions,
@@ -402,9 +431,9 @@ fn is_loose(
 // Whether a line of this kind is that of the last transition, by which the whole net has been read.
 fn is_last_row(kind: u8, next: usize, transitions: usize) -> bool
     requires { ⌜ next ≤ countLimit ⌝ }
-    ensures { λ r. ⌜ r ≡ (eqb kind 4 && eqb (next + 1) transitions) ⌝ }
+    ensures { λ r. ⌜ r ≡ (isRow kind && eqb (next + 1) transitions) ⌝ }
 {
-    if kind != 4 {
+    if !file_row::is_row(kind) {
         return false;
     }
     next + 1 == transitions

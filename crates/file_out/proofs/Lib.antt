@@ -1,5 +1,4 @@
 pub mod Length
-pub mod Listed
 pub mod Reckoned
 pub mod Joined
 pub mod Pockets

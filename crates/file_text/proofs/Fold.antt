@@ -11,6 +11,7 @@ use Rattle.refusals.specs.declared.Fault.{Fault}
 use Rattle.refusals.specs.declared.Fault.the-variants.{Sound, Faulty}
 use Rattle.file_digits.specs.Frame.{lineLimit, lineFeed, byteAt, bytesFrom, wordsFrom}
 use Rattle.file_mask.specs.Mask.{bitsOf, maskIn}
+use Rattle.file_row.specs.Row.{isRow, takesIn, putsIn}
 use Rattle.file_line.specs.declared.Reading.{Reading}
 use Rattle.file_line.specs.Read.{fresh, Rooms, lineOf, roomsOf, judgeOf, advancedKind, stored, storedKind, lettersIn}
 use Rattle.file_line.specs.Walk.{Good}
@@ -38,7 +39,7 @@ same-on x y z a b = record { caps = a .caps ∙ b .caps; marks = a .marks ∙ b 
 -- an accepted line is one line more
 advanced-line : (s : Reading) (d : List ℕ) (k : ℕ) → advancedKind k s d .line ≡ s .line + 1
 unfolding advancedKind
-advanced-line s d k = go (eqb k 1) (eqb k 4) (eqb k 5) _ _ _ _ refl refl refl refl
+advanced-line s d k = go (eqb k 1) (isRow k) (eqb k 5) _ _ _ _ refl refl refl refl
   where
     go : (a b c : Bool) (t u v w : Reading) → t .line ≡ s .line + 1 → u .line ≡ s .line + 1 → v .line ≡ s .line + 1 → w .line ≡ s .line + 1 → cond a t (cond b u (cond c v w)) .line ≡ s .line + 1
     go true b c t u v w e f g h = e
@@ -50,10 +51,10 @@ advanced-line s d k = go (eqb k 1) (eqb k 4) (eqb k 5) _ _ _ _ refl refl refl re
 stored-same : (s : Reading) (d : List ℕ) (x : Rooms) (k : ℕ) → Same (storedKind k s d x) x
 unfolding storedKind
 stored-same s d x k =
-    go (eqb k 2) (eqb k 3) (eqb k 4) (eqb k 5) (eqb k 6) _ _ _ _ _
+    go (eqb k 2) (eqb k 3) (isRow k) (eqb k 5) (eqb k 6) _ _ _ _ _
     (record { caps = length-sets (x .caps) 0 (wordsFrom d 1 (s .places)); marks = length-sets (x .marks) 0 (bitsOf 0 (s .places)); initial = refl; pre = refl; post = refl; word = refl })
     (record { caps = refl; marks = refl; initial = length-sets (x .initial) 0 (wordsFrom d 1 (s .places)); pre = refl; post = refl; word = refl })
-    (record { caps = refl; marks = refl; initial = refl; pre = length-sets (x .pre) (s .next * s .places) (bytesFrom d 2 (s .places)); post = length-sets (x .post) (s .next * s .places) (bytesFrom d (2 + s .places) (s .places)); word = refl })
+    (record { caps = refl; marks = refl; initial = refl; pre = length-sets (x .pre) (s .next * s .places) (takesIn k d (s .places)); post = length-sets (x .post) (s .next * s .places) (putsIn k d (s .places)); word = refl })
     (record { caps = refl; marks = refl; initial = refl; pre = refl; post = refl; word = length-sets (x .word) (s .letters) (bytesFrom d 1 (lettersIn d)) })
     (record { caps = refl; marks = length-sets (x .marks) 0 (bitsOf (maskIn d) (s .places)); initial = refl; pre = refl; post = refl; word = refl })
   where

@@ -1,31 +1,40 @@
 -- A line of each kind: the frame that it must be, and that the frame is taken. Assumes nothing.
 use mathlib.Core.Path.{_≡_, refl, sym, _∙_, ap, subst}
-use mathlib.Core.Bool.{true, cond}
+use mathlib.Core.Bool.{Bool, true, false, cond}
 use mathlib.Core.Logic.{_⊎_, inl, inr, ⊎-elim}
 use mathlib.Core.List.{List, [], _∷_, _++_, append-nil}
-use Prim.Native.Nat.{ℕ, suc, _+_, _*_, _%_, _≤_, _<_}
+use Prim.Native.Nat.{ℕ, _+_, _*_, _%_, _≤_, _<_}
 use native.Mathlib.Omega.{arith}
+use native.Mathlib.Nat.{mul-le-mul-right}
 use lib.Dec.{eqb}
-use lib.ListN.{length, length-append}
+use lib.ListN.{length, getD}
 use lib.Seq.{sets}
-use Rattle.ground.specs.Limits.{countLimit, wordLimit}
+use borrow.Author.Tests.{eqb-true}
+use Rattle.ground.specs.Limits.{countLimit, weightLimit, wordLimit}
+use Rattle.ground.proofs.Room.{weight-room}
+use Rattle.weights.proofs.Heavies.{row-light}
 use Rattle.file_digits.specs.Frame.{lineLimit, lineFeed, block, byteAt, bytesFrom, wordsFrom}
 use Rattle.file_put.specs.Put.{digitsOf, lineText, twos}
 use Rattle.file_mask.specs.Mask.{maskBytes, maskLimit, bitsOf, aboveBits, maskIn, eight}
 use Rattle.file_mask.proofs.Masks.{eight-long, eight-small, mask-digits, digits-mask}
 use Rattle.file_put.proofs.Round.{canon, digits-long, byte-digits, piece}
+use Rattle.file_row.specs.Row.{byteLimit, narrowRow, wideRow, weightBytes, isWide, rowKind, rowFrame, takesIn, putsIn}
+use Rattle.file_row.proofs.Weights.{from-long}
+use Rattle.file_row.proofs.Narrow.{kind-wide, kind-narrow, narrow-rows}
+use Rattle.file_row.proofs.Framed.{frame-long, frame-small, kind-back, index-back, takes-back, puts-back, frame-canon}
 use Rattle.file_line.specs.declared.Reading.{Reading}
 use Rattle.wiring.specs.Wired.{Wired}
 use Rattle.refusals.specs.Given.{Fine}
 use Rattle.refusals.specs.declared.Fault.the-variants.{Sound, Faulty}
-use Rattle.file_line.specs.Read.{Rooms, rooms, tokensIn, wordPart, ruleOf, judgeOf, lettersIn, advanced, advancedKind, stored, storedKind, netIn, lineHere}
-use Rattle.file_line.specs.Line.{SomeBit, NoBitPast, Formed, frame01, frame02, frame03, frame04, frame05, frame06, CountsInRange, TokensAllowed, NetWired, WordNotOver, LettersNamed, Taken}
+use Rattle.file_line.specs.Read.{Rooms, rooms, standsAs, tokensIn, wordPart, ruleOf, judgeOf, lettersIn, advanced, advancedKind, stored, storedKind, netIn, lineHere}
+use Rattle.file_line.specs.Line.{SomeBit, NoBitPast, Formed, frame01, frame02, frame03, frame04, frame05, frame06, frame07, CountsInRange, WeightsAllowed, TokensAllowed, NetWired, WordNotOver, LettersNamed, Taken}
 use Rattle.file_line.proofs.Digits.{rule-all, rule-exactly}
-use Rattle.file_line.proofs.Order.{no-counts, no-tokens, no-net, no-long, no-letters, formed-kind, formed-01, formed-02, formed-03, formed-04, formed-05, formed-06}
+use Rattle.file_line.proofs.Order.{no-counts, no-weights, no-tokens, no-net, no-long, no-letters, formed-kind, formed-01, formed-02, formed-03, formed-05, formed-06, formed-07, formed-row}
+use Rattle.file_line.proofs.Weights.{wide-some, some-wide}
 use Rattle.file_line.proofs.Meaning.{taken-exactly, wired-exactly}
 use Rattle.file_parts.specs.File.{both, going, feedAll}
 use Rattle.file_parts.proofs.Line.{line-taken, held}
-use Rattle.file_digits.proofs.Bytes.{Below, none, more, below-of, of-below, below-more, below-append, bytes-long, bytes-split}
+use Rattle.file_digits.proofs.Bytes.{Below, none, more, below-of, of-below, below-more, below-most, bytes-long, bytes-split}
 use Rattle.file_put.proofs.Twos.{twos-long, twos-small, words-bytes, words-digits}
 use Rattle.file_text.proofs.Rules.{no-feed, rule-digits}
 
@@ -59,14 +68,14 @@ rowsOf s y a b = rooms (y .caps) (y .marks) (y .initial) (sets (y .pre) (s .next
 module _ (s : Reading) (y : Rooms) where
   takes : (k : ℕ) (g : List ℕ) (t : Reading) (z : Rooms) → Below 256 (k ∷ g) → 2 + 2 * length g ≤ lineLimit
       → (byteAt (digitsOf (k ∷ g)) 0 ≡ k
-      → Formed s (digitsOf (k ∷ g)) × CountsInRange (digitsOf (k ∷ g)) × TokensAllowed s (digitsOf (k ∷ g)) y × NetWired s (digitsOf (k ∷ g)) y × WordNotOver s (digitsOf (k ∷ g)) × LettersNamed s (digitsOf (k ∷ g)))
+      → Formed s (digitsOf (k ∷ g)) × CountsInRange (digitsOf (k ∷ g)) × WeightsAllowed s (digitsOf (k ∷ g)) × TokensAllowed s (digitsOf (k ∷ g)) y × NetWired s (digitsOf (k ∷ g)) y × WordNotOver s (digitsOf (k ∷ g)) × LettersNamed s (digitsOf (k ∷ g)))
       → advancedKind k s (digitsOf (k ∷ g)) ≡ t → storedKind k s (digitsOf (k ∷ g)) y ≡ z → Takes s y (k ∷ g) t z
   takes k g t z w h f a b =
       let d : List ℕ = digitsOf (k ∷ g) in
       let e : byteAt d 0 ≡ k = byte-digits (k ∷ g) 0 w (omega arith) in
       let r = rule-digits (k ∷ g) w (omega arith) (omega arith) in
       let m = f e in
-      record { rule = r; judged = taken-exactly s d y .1 (record { ruled = rule-exactly d .0 r; formed = m .0; counts = m .1; tokens = m .2; net = m .3; word = m .4; letters = m .5 }); next = rw e a; kept = rw e b }
+      record { rule = r; judged = taken-exactly s d y .1 (record { ruled = rule-exactly d .0 r; formed = m .0; counts = m .1; weights = m .2; tokens = m .3; net = m .4; word = m .5; letters = m .6 }); next = rw e a; kept = rw e b }
 
   pub takes-counts : (P T : ℕ) → s .phase ≡ 1 → 1 ≤ P → P ≤ countLimit → 1 ≤ T → T ≤ countLimit → Takes s y (1 ∷ P ∷ T ∷ []) (state 2 P T 0 0 (s .line + 1)) y
   unfolding advancedKind storedKind
@@ -81,8 +90,9 @@ module _ (s : Reading) (y : Rooms) where
       (λ q. (
         frame01 p q n,
         record { places = λ _. (omega arith, omega arith); transitions = λ _. (omega arith, omega arith) },
+        no-weights s d y (λ k. omega arith),
         no-tokens s d y (λ k. omega arith),
-        no-net s d y (λ k. omega arith),
+        no-net s d y (⊎-elim (λ k. omega arith) (λ k. omega arith)),
         no-long s d y (λ k. omega arith),
         no-letters s d y (λ k. omega arith),
       ))
@@ -98,8 +108,9 @@ module _ (s : Reading) (y : Rooms) where
       (λ q. (
         frame02 p q n,
         no-counts s d y (λ k. omega arith),
+        no-weights s d y (λ k. omega arith),
         no-tokens s d y (λ k. omega arith),
-        no-net s d y (λ k. omega arith),
+        no-net s d y (⊎-elim (λ k. omega arith) (λ k. omega arith)),
         no-long s d y (λ k. omega arith),
         no-letters s d y (λ k. omega arith),
       ))
@@ -116,8 +127,9 @@ module _ (s : Reading) (y : Rooms) where
       (λ q. (
         frame06 p q n (λ z. some (sym e ∙ z)) (rw e past),
         no-counts s d y (λ k. omega arith),
+        no-weights s d y (λ k. omega arith),
         no-tokens s d y (λ k. omega arith),
-        no-net s d y (λ k. omega arith),
+        no-net s d y (⊎-elim (λ k. omega arith) (λ k. omega arith)),
         no-long s d y (λ k. omega arith),
         no-letters s d y (λ k. omega arith),
       ))
@@ -135,55 +147,105 @@ module _ (s : Reading) (y : Rooms) where
       (λ q. (
         frame03 p q n,
         no-counts s d y (λ k. omega arith),
+        no-weights s d y (λ k. omega arith),
         record { fine = λ _. rw e v },
-        no-net s d y (λ k. omega arith),
+        no-net s d y (⊎-elim (λ k. omega arith) (λ k. omega arith)),
         no-long s d y (λ k. omega arith),
         no-letters s d y (λ k. omega arith),
       ))
       refl (rw e)
 
-  -- a frame 04 is well formed, and stores its two rows
-  module _ (a b : List ℕ) (p : s .phase ≡ 4) (h : s .places ≤ countLimit) (t : s .next ≤ countLimit) (la : length a ≡ s .places) (lb : length b ≡ s .places) (wa : Below 256 a) (wb : Below 256 b) where
-    pub row-formed : (ruleOf (digitsOf (4 ∷ s .next ∷ (a ++ b))) ≡ true) × Formed s (digitsOf (4 ∷ s .next ∷ (a ++ b))) × (byteAt (digitsOf (4 ∷ s .next ∷ (a ++ b))) 0 ≡ 4) × (stored s (digitsOf (4 ∷ s .next ∷ (a ++ b))) y ≡ rowsOf s y a b)
-    unfolding storedKind
-    row-formed =
-        let f : List ℕ = 4 ∷ s .next ∷ (a ++ b) in
-        let d : List ℕ = digitsOf f in
-        let w : Below 256 f = more {x = 4} (omega arith) (more {x = s .next} (omega arith) (below-append a b wa wb)) in
-        let m = length-append a b in
-        let n : length d ≡ 4 + 4 * s .places = let q = digits-long f in omega arith in
-        let k : byteAt d 0 ≡ 4 = byte-digits f 0 w (omega arith) in
-        let e : byteAt d 1 ≡ s .next = byte-digits f 1 w (omega arith) in
-        let u : bytesFrom d 2 (s .places) ≡ a = rw la at (piece (4 ∷ s .next ∷ []) a b w) in
-        let i : suc (suc (length a)) ≡ 2 + s .places = omega arith in
-        let c : Below 256 (4 ∷ s .next ∷ (a ++ (b ++ []))) = rw append-nil w in
-        let v : bytesFrom d (2 + s .places) (s .places) ≡ b = rw (append-nil, i, lb) at (piece (4 ∷ s .next ∷ a) b [] c) in
-        (rule-digits f w (omega arith) (omega arith), frame04 p k n e, k, rw (k, u, v))
+  -- the state after the row of a transition
+  abbrev rowState : Reading
+  rowState = state (cond (eqb (s .next + 1) (s .transitions)) 5 4) (s .places) (s .transitions) (s .next + 1) 0 (s .line + 1)
 
-    pub takes-row : (s .next + 1 ≡ s .transitions → Wired (netIn s (rowsOf s y a b)))
-        → Takes s y (4 ∷ s .next ∷ (a ++ b)) (state (cond (eqb (s .next + 1) (s .transitions)) 5 4) (s .places) (s .transitions) (s .next + 1) 0 (s .line + 1)) (rowsOf s y a b)
-    unfolding advancedKind
+  -- the frame of a transition's weights is well formed, and stores its two rows
+  module _ (a b : List ℕ) (p : s .phase ≡ 4) (h : s .places ≤ countLimit) (t : s .next ≤ countLimit) (la : length a ≡ s .places) (lb : length b ≡ s .places) (wa : Below (weightLimit + 1) a) (wb : Below (weightLimit + 1) b) where
+    abbrev rowDigits : List ℕ
+    rowDigits = digitsOf (rowFrame (s .next) a b)
+
+    a-fits : Below 65536 a
+    a-fits = below-more 65536 a (omega (arith, weight-room)) wa
+
+    b-fits : Below 65536 b
+    b-fits = below-more 65536 b (omega (arith, weight-room)) wb
+
+    kind : byteAt rowDigits 0 ≡ rowKind a b
+    kind = kind-back (s .next) (s .places) a b (omega arith) la lb a-fits b-fits
+
+    takes-a : takesIn (rowKind a b) rowDigits (s .places) ≡ a
+    takes-a = takes-back (s .next) (s .places) a b (omega arith) la lb a-fits b-fits
+
+    puts-b : putsIn (rowKind a b) rowDigits (s .places) ≡ b
+    puts-b = puts-back (s .next) (s .places) a b (omega arith) la lb a-fits b-fits
+
+    row-digits : length rowDigits ≡ 4 + 4 * (weightBytes (rowKind a b) * s .places)
+    row-digits = omega (arith, digits-long (rowFrame (s .next) a b), frame-long (s .next) (s .places) a b la lb)
+
+    index : byteAt rowDigits 1 ≡ s .next
+    index = index-back (s .next) (s .places) a b (omega arith) la lb a-fits b-fits
+
+    row-rule : weightBytes (rowKind a b) ≤ 2 → ruleOf rowDigits ≡ true
+    row-rule few =
+        let z : weightBytes (rowKind a b) * s .places ≤ 2 * s .places = mul-le-mul-right (s .places) few in
+        rule-digits (rowFrame (s .next) a b) (frame-small (s .next) (s .places) a b (omega arith) la lb a-fits b-fits)
+        (omega arith) (omega (arith, frame-long (s .next) (s .places) a b la lb))
+
+    light : WeightsAllowed s rowDigits
+    light = record { takes = λ e q l. each e q l .0; puts = λ e q l. each e q l .1 }
+      where
+        each : byteAt rowDigits 0 ≡ wideRow → (q : ℕ) → q < s .places → (getD (takesIn wideRow rowDigits (s .places)) q 0 ≤ weightLimit) × (getD (putsIn wideRow rowDigits (s .places)) q 0 ≤ weightLimit)
+        each e q l =
+            let k : rowKind a b ≡ wideRow = sym kind ∙ e in
+            let u : takesIn wideRow rowDigits (s .places) ≡ a = subst (λ (j : ℕ). takesIn j rowDigits (s .places) ≡ a) k takes-a in
+            let v : putsIn wideRow rowDigits (s .places) ≡ b = subst (λ (j : ℕ). putsIn j rowDigits (s .places) ≡ b) k puts-b in
+            rw (u, v) (below-most weightLimit a q wa, below-most weightLimit b q wb)
+
+    pub row-formed : (ruleOf rowDigits ≡ true) × Formed s rowDigits × WeightsAllowed s rowDigits × ((byteAt rowDigits 0 ≡ narrowRow) ⊎ (byteAt rowDigits 0 ≡ wideRow)) × (stored s rowDigits y ≡ rowsOf s y a b) × (advanced s rowDigits ≡ rowState)
+    unfolding storedKind advancedKind
+    row-formed = go (isWide a b) refl
+      where
+        go : (w : Bool) → isWide a b ≡ w → (ruleOf rowDigits ≡ true) × Formed s rowDigits × WeightsAllowed s rowDigits × ((byteAt rowDigits 0 ≡ narrowRow) ⊎ (byteAt rowDigits 0 ≡ wideRow)) × (stored s rowDigits y ≡ rowsOf s y a b) × (advanced s rowDigits ≡ rowState)
+        go true w =
+            let k : rowKind a b ≡ wideRow = kind-wide a b w in
+            let e : byteAt rowDigits 0 ≡ wideRow = kind ∙ k in
+            let u : takesIn wideRow rowDigits (s .places) ≡ a = subst (λ (j : ℕ). takesIn j rowDigits (s .places) ≡ a) k takes-a in
+            let v : putsIn wideRow rowDigits (s .places) ≡ b = subst (λ (j : ℕ). putsIn j rowDigits (s .places) ≡ b) k puts-b in
+            let n : length rowDigits ≡ 4 + 8 * s .places = row-digits ∙ ap (λ (j : ℕ). 4 + 4 * (weightBytes j * s .places)) k ∙ omega arith in
+            let i : isWide (takesIn wideRow rowDigits (s .places)) (putsIn wideRow rowDigits (s .places)) ≡ true = rw (u, v) w in
+            (row-rule (rw k (omega arith)), frame07 p e n index (wide-some s rowDigits i), light, inr e, rw (e, u, v), rw e)
+        go false w =
+            let k : rowKind a b ≡ narrowRow = kind-narrow a b w in
+            let e : byteAt rowDigits 0 ≡ narrowRow = kind ∙ k in
+            let u : takesIn narrowRow rowDigits (s .places) ≡ a = subst (λ (j : ℕ). takesIn j rowDigits (s .places) ≡ a) k takes-a in
+            let v : putsIn narrowRow rowDigits (s .places) ≡ b = subst (λ (j : ℕ). putsIn j rowDigits (s .places) ≡ b) k puts-b in
+            let n : length rowDigits ≡ 4 + 4 * s .places = row-digits ∙ ap (λ (j : ℕ). 4 + 4 * (weightBytes j * s .places)) k ∙ omega arith in
+            (row-rule (rw k (omega arith)), frame04 p e n index, light, inl e, rw (e, u, v), rw e)
+
+    -- it is of no other kind
+    other : (j : ℕ) → (j ≡ narrowRow → ⊥) → (j ≡ wideRow → ⊥) → byteAt rowDigits 0 ≡ j → ⊥
+    other j m n q = ⊎-elim (λ k. m (sym q ∙ k)) (λ k. n (sym q ∙ k)) (row-formed .3)
+
+    pub takes-row : (s .next + 1 ≡ s .transitions → Wired (netIn s (rowsOf s y a b))) → Takes s y (rowFrame (s .next) a b) rowState (rowsOf s y a b)
     takes-row wired =
-        let d : List ℕ = digitsOf (4 ∷ s .next ∷ (a ++ b)) in
         let r = row-formed in
-        let k : byteAt d 0 ≡ 4 = r .2 in
-        let asked : Taken s d y = record {
-          ruled = rule-exactly d .0 (r .0);
+        let asked : Taken s rowDigits y = record {
+          ruled = rule-exactly rowDigits .0 (r .0);
           formed = r .1;
-          counts = no-counts s d y (λ q. omega arith);
-          tokens = no-tokens s d y (λ q. omega arith);
-          net = record { wired = λ _ l. subst (λ (z : Rooms). Wired (netIn s z)) (sym (r .3)) (wired l) };
-          word = no-long s d y (λ q. omega arith);
-          letters = no-letters s d y (λ q. omega arith);
+          counts = no-counts s rowDigits y (other 1 (λ q. omega arith) (λ q. omega arith));
+          weights = r .2;
+          tokens = no-tokens s rowDigits y (other 3 (λ q. omega arith) (λ q. omega arith));
+          net = record { wired = λ _ l. subst (λ (z : Rooms). Wired (netIn s z)) (sym (r .4)) (wired l) };
+          word = no-long s rowDigits y (other 5 (λ q. omega arith) (λ q. omega arith));
+          letters = no-letters s rowDigits y (other 5 (λ q. omega arith) (λ q. omega arith));
         } in
-        record { rule = r .0; judged = taken-exactly s d y .1 asked; next = rw k; kept = r .3 }
+        record { rule = r .0; judged = taken-exactly s rowDigits y .1 asked; next = r .5; kept = r .4 }
 
     -- where the net hangs loose with the last row, its line is refused
-    pub loose-row : s .next + 1 ≡ s .transitions → (Wired (netIn s (rowsOf s y a b)) → ⊥) → judgeOf s (digitsOf (4 ∷ s .next ∷ (a ++ b))) y ≡ Faulty 17 (lineHere s)
+    pub loose-row : s .next + 1 ≡ s .transitions → (Wired (netIn s (rowsOf s y a b)) → ⊥) → judgeOf s rowDigits y ≡ Faulty 17 (lineHere s)
     loose-row l loose =
-        let d : List ℕ = digitsOf (4 ∷ s .next ∷ (a ++ b)) in
         let r = row-formed in
-        wired-exactly s d y (lineHere s) .1 (rule-exactly d .0 (r .0), r .1, r .2, l, λ w. loose (subst (λ (z : Rooms). Wired (netIn s z)) (r .3) w), refl)
+        wired-exactly s rowDigits y (lineHere s) .1 (rule-exactly rowDigits .0 (r .0), r .1, r .2, r .3, l, λ w. loose (subst (λ (z : Rooms). Wired (netIn s z)) (r .4) w), refl)
 
   pub takes-letters : (v : List ℕ) → s .phase ≡ 5 → s .letters % block ≡ 0 → s .transitions ≤ countLimit → 1 ≤ length v → length v ≤ block
       → s .letters + length v ≤ wordLimit → Below (s .transitions) v
@@ -201,8 +263,9 @@ module _ (s : Reading) (y : Rooms) where
       (λ e. (
         frame05 p e q (omega arith) (omega arith),
         no-counts s d y (λ k. omega arith),
+        no-weights s d y (λ k. omega arith),
         no-tokens s d y (λ k. omega arith),
-        no-net s d y (λ k. omega arith),
+        no-net s d y (⊎-elim (λ k. omega arith) (λ k. omega arith)),
         record { few = λ _. omega arith },
         record { named = λ _. rw (i, u) (record { at = λ k r. of-below (s .transitions) v k w r }) },
       ))
@@ -218,12 +281,26 @@ module _ (s : Reading) (d : List ℕ) (y : Rooms) (j : judgeOf s d y ≡ Sound) 
   asked : Taken s d y
   asked = taken-exactly s d y .0 j
 
-  -- its kind is the one that must come next, or 06 or 03 where both may
-  pub kind-next : (s .phase ≡ 6 → ⊥) → byteAt d 0 ≡ s .phase
-  kind-next n = ⊎-elim (λ e. e) (λ z. absurd (n (z .0))) (formed-kind s d (asked .formed) .2)
+  -- its kind is the one that must come next, or 06 or 03 where both may, or 04 or 07
+  own-kind : (s .phase ≡ narrowRow → ⊥) → standsAs (byteAt d 0) ≡ s .phase → byteAt d 0 ≡ s .phase
+  own-kind m = go (eqb (byteAt d 0) wideRow)
+    where
+      go : (b : Bool) → cond b narrowRow (byteAt d 0) ≡ s .phase → byteAt d 0 ≡ s .phase
+      go true e = absurd (m (sym e))
+      go false e = e
+
+  pub kind-next : (s .phase ≡ 6 → ⊥) → (s .phase ≡ narrowRow → ⊥) → byteAt d 0 ≡ s .phase
+  kind-next n m = ⊎-elim (own-kind m) (λ z. absurd (n (z .0))) (formed-kind s d (asked .formed) .2)
 
   pub kind-pockets : s .phase ≡ 6 → (byteAt d 0 ≡ 6) ⊎ (byteAt d 0 ≡ 3)
-  kind-pockets p = ⊎-elim (λ e. inl (e ∙ p)) (λ z. inr (z .1)) (formed-kind s d (asked .formed) .2)
+  kind-pockets p = ⊎-elim (λ e. inl (own-kind (λ z. omega arith) e ∙ p)) (λ z. inr (z .1)) (formed-kind s d (asked .formed) .2)
+
+  pub kind-row : s .phase ≡ narrowRow → (byteAt d 0 ≡ narrowRow) ⊎ (byteAt d 0 ≡ wideRow)
+  kind-row p = ⊎-elim (go (eqb (byteAt d 0) wideRow) refl) (λ z. absurd (let q = z .0 in omega arith)) (formed-kind s d (asked .formed) .2)
+    where
+      go : (b : Bool) → eqb (byteAt d 0) wideRow ≡ b → cond b narrowRow (byteAt d 0) ≡ s .phase → (byteAt d 0 ≡ narrowRow) ⊎ (byteAt d 0 ≡ wideRow)
+      go true q e = inr (eqb-true _ _ q)
+      go false q e = inl (e ∙ p)
 
   line-of : (n : ℕ) → length d ≡ 2 * n → d ≡ digitsOf (bytesFrom d 0 n)
   line-of n e = sym (canon n d e (rule-all d (rule-exactly d .1 (asked .ruled))))
@@ -235,14 +312,14 @@ module _ (s : Reading) (d : List ℕ) (y : Rooms) (j : judgeOf s d y ≡ Sound) 
   pub counts-of : s .phase ≡ 1 → (d ≡ digitsOf (1 ∷ byteAt d 1 ∷ byteAt d 2 ∷ [])) × (1 ≤ byteAt d 1) × (byteAt d 1 ≤ countLimit) × (1 ≤ byteAt d 2) × (byteAt d 2 ≤ countLimit)
   unfolding bytesFrom
   counts-of p =
-      let e : byteAt d 0 ≡ 1 = kind-next (λ z. omega arith) ∙ p in
+      let e : byteAt d 0 ≡ 1 = kind-next (λ z. omega arith) (λ z. omega arith) ∙ p in
       let a = asked .counts .places e in
       let b = asked .counts .transitions e in
       let three : bytesFrom d 0 3 ≡ byteAt d 0 ∷ byteAt d 1 ∷ byteAt d 2 ∷ [] = refl in
       (line-of 3 (formed-01 s d (asked .formed) e .1) ∙ ap digitsOf (three ∙ rw e), a .0, a .1, b .0, b .1)
 
   pub caps-of : s .phase ≡ 2 → d ≡ digitsOf (2 ∷ twos (wordsFrom d 1 (s .places)))
-  caps-of p = let e : byteAt d 0 ≡ 2 = kind-next (λ z. omega arith) ∙ p in words-of 2 (s .places) (formed-02 s d (asked .formed) e .1) e
+  caps-of p = let e : byteAt d 0 ≡ 2 = kind-next (λ z. omega arith) (λ z. omega arith) ∙ p in words-of 2 (s .places) (formed-02 s d (asked .formed) e .1) e
 
   pub pockets-of : byteAt d 0 ≡ 6 → (d ≡ digitsOf (6 ∷ eight (maskIn d))) × SomeBit d × NoBitPast s d
   pockets-of e =
@@ -255,27 +332,55 @@ module _ (s : Reading) (d : List ℕ) (y : Rooms) (j : judgeOf s d y ≡ Sound) 
   pub tokens-fine : byteAt d 0 ≡ 3 → Fine (y .caps) (tokensIn s d)
   tokens-fine e = asked .tokens .fine e
 
-  pub row-of : s .phase ≡ 4 → d ≡ digitsOf (4 ∷ s .next ∷ (bytesFrom d 2 (s .places) ++ bytesFrom d (2 + s .places) (s .places)))
-  unfolding bytesFrom
-  row-of p =
-      let e : byteAt d 0 ≡ 4 = kind-next (λ z. omega arith) ∙ p in
-      let f = formed-04 s d (asked .formed) e in
-      let n : byteAt d 1 ≡ s .next = f .2 in
-      let two : bytesFrom d 0 2 ++ bytesFrom d 2 (s .places + s .places) ≡ byteAt d 0 ∷ byteAt d 1 ∷ bytesFrom d 2 (s .places + s .places) = refl in
-      line-of (2 + (s .places + s .places)) (f .1 ∙ omega arith)
-      ∙ ap digitsOf (bytes-split d 0 2 (s .places + s .places) ∙ two ∙ rw (e, n, bytes-split d 2 (s .places) (s .places)))
+  -- the rows of a transition's weights
+  abbrev takesHere : List ℕ
+  takesHere = takesIn (byteAt d 0) d (s .places)
 
-  pub row-wired : s .phase ≡ 4 → s .next + 1 ≡ s .transitions
-      → Wired (netIn s (rowsOf s y (bytesFrom d 2 (s .places)) (bytesFrom d (2 + s .places) (s .places))))
+  abbrev putsHere : List ℕ
+  putsHere = putsIn (byteAt d 0) d (s .places)
+
+  -- no weight is over 255 in an 04, and some is in an 07
+  row-kind : (byteAt d 0 ≡ narrowRow) ⊎ (byteAt d 0 ≡ wideRow) → rowKind takesHere putsHere ≡ byteAt d 0
+  row-kind (inl e) = rw e (kind-narrow (takesIn narrowRow d (s .places)) (putsIn narrowRow d (s .places)) (narrow-rows d (s .places)))
+  row-kind (inr e) = rw e (kind-wide (takesIn wideRow d (s .places)) (putsIn wideRow d (s .places)) (some-wide s d (formed-07 s d (asked .formed) e .3)))
+
+  pub row-of : s .phase ≡ narrowRow → d ≡ digitsOf (rowFrame (s .next) takesHere putsHere)
+  row-of p =
+      let k = kind-row p in
+      let f = formed-row s d (asked .formed) k in
+      frame-canon (byteAt d 0) (s .next) (s .places) d (rule-all d (rule-exactly d .1 (asked .ruled))) (f .1) refl (f .2) (row-kind k)
+
+  -- none is over the limit
+  pub row-below : s .phase ≡ narrowRow → Below (weightLimit + 1) takesHere × Below (weightLimit + 1) putsHere
+  row-below p = (
+    below-of (weightLimit + 1) takesHere (λ q h. omega (arith, each (kind-row p) q (rw (from-long (byteAt d 0) d 2 (s .places)) at h) .0)),
+    below-of (weightLimit + 1) putsHere (λ q h. omega (arith, each (kind-row p) q (rw (from-long (byteAt d 0) d (2 + weightBytes (byteAt d 0) * s .places) (s .places)) at h) .1)),
+  )
+    where
+      each : (byteAt d 0 ≡ narrowRow) ⊎ (byteAt d 0 ≡ wideRow) → (q : ℕ) → q < s .places → (getD takesHere q 0 ≤ weightLimit) × (getD putsHere q 0 ≤ weightLimit)
+      each (inl e) q h =
+          let z = row-light byteLimit (takesIn narrowRow d (s .places)) (putsIn narrowRow d (s .places)) (narrow-rows d (s .places)) q (rw (from-long narrowRow d 2 (s .places)) h) in
+          rw e (omega (arith, z), omega (arith, z))
+      each (inr e) q h = rw e (asked .weights .takes e q h, asked .weights .puts e q h)
+
+  -- it stores them, and goes on
+  pub row-keeps : s .phase ≡ narrowRow → stored s d y ≡ rowsOf s y takesHere putsHere
   unfolding storedKind
-  row-wired p l = let e : byteAt d 0 ≡ 4 = kind-next (λ z. omega arith) ∙ p in rw e at (asked .net .wired e l)
+  row-keeps p = ⊎-elim (λ e. rw e) (λ e. rw e) (kind-row p)
+
+  pub row-advances : s .phase ≡ narrowRow → advanced s d ≡ rowState s y
+  unfolding advancedKind
+  row-advances p = ⊎-elim (λ e. rw e) (λ e. rw e) (kind-row p)
+
+  pub row-wired : s .phase ≡ narrowRow → s .next + 1 ≡ s .transitions → Wired (netIn s (rowsOf s y takesHere putsHere))
+  row-wired p l = subst (λ (z : Rooms). Wired (netIn s z)) (row-keeps p) (asked .net .wired (kind-row p) l)
 
   pub letters-of : s .phase ≡ 5
       → (s .letters % block ≡ 0) × (1 ≤ lettersIn d) × (lettersIn d ≤ block) × (s .letters + lettersIn d ≤ wordLimit)
       × (d ≡ digitsOf (5 ∷ bytesFrom d 1 (lettersIn d))) × Below (s .transitions) (bytesFrom d 1 (lettersIn d))
   unfolding bytesFrom
   letters-of p =
-      let e : byteAt d 0 ≡ 5 = kind-next (λ z. omega arith) ∙ p in
+      let e : byteAt d 0 ≡ 5 = kind-next (λ z. omega arith) (λ z. omega arith) ∙ p in
       let f = formed-05 s d (asked .formed) e in
       let even : length d % 2 ≡ 0 = asked .ruled .even in
       let lo : 4 ≤ length d = f .2 in

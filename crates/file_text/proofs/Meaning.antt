@@ -11,6 +11,9 @@ use lib.ListN.{length, drop, replicate, length-replicate}
 use borrow.Author.Tests.{eqb-true, eqb-false}
 use Rattle.ground.specs.Limits.{noCapacity, weightLimit, wordLimit}
 use Rattle.file_put.specs.Put.{digitOf, digitsOf, twos}
+use Rattle.ground.specs.Lists.{tally}
+use Rattle.weights.specs.Heavy.{rowOver}
+use Rattle.file_row.specs.Row.{rowKind, weightsText}
 use Rattle.file_mask.specs.Mask.{Bits, maskOf}
 use Rattle.file_mask.proofs.Masks.{mask-filed}
 use Rattle.net.specs.Net.{Net, netOf, Sized, Light}
@@ -23,8 +26,8 @@ use Rattle.file_line.specs.declared.Reading.{Reading}
 use Rattle.file_line.specs.declared.Took.the-variants as took
 use Rattle.file_line.specs.Read.{cellLimit, Rooms, rooms, fresh, netIn, judgeOf, lineOf}
 use Rattle.file_line.specs.Walk.{Large}
-use Rattle.file_line.proofs.Order.{formed-04}
-use Rattle.file_line.proofs.Meaning.{refused-line, judged-number, one-on-01, three-on-03, wired-exactly}
+use Rattle.file_line.proofs.Order.{formed-07, formed-row}
+use Rattle.file_line.proofs.Meaning.{refused-line, judged-number, one-on-01, heavy-exactly, three-on-03, wired-exactly}
 use Rattle.file_parts.specs.declared.Case.{Case}
 use Rattle.file_parts.specs.declared.Case.the-variants.{Whole, Refused}
 use Rattle.file_parts.specs.File.{Run, going, stopped, Both, both, readOf, finishOf, caseOf}
@@ -51,8 +54,8 @@ rowed-of net initial sized weights capacities bits marked fine =
       fine = fine;
       pres = sized .pres;
       posts = sized .posts;
-      takes = below-of 256 (net .pre) (λ k h. let z = weights .pre k in omega arith);
-      puts = below-of 256 (net .post) (λ k h. let z = weights .post k in omega arith);
+      takes = below-of (weightLimit + 1) (net .pre) (λ k h. let z = weights .pre k in omega arith);
+      puts = below-of (weightLimit + 1) (net .post) (λ k h. let z = weights .post k in omega arith);
     }
 
 listed : (net : Net) (initial w : List ℕ) → Limited net initial w → Listed net initial w
@@ -89,7 +92,7 @@ limited net initial w l =
 
 -- what is within the limits is refused by no replay
 pub limited-allowed : (net : Net) (initial w room : List ℕ) → Limited net initial w → length room ≡ net .places → Allowed net initial w true room
-limited-allowed net initial w room m h = record { sized = m .sized; marked = m .marked; roomy = h; inside = refl; fine = m .fine; wired = m .wired; short = m .short; letters = m .letters }
+limited-allowed net initial w room m h = record { sized = m .sized; light = m .weights; marked = m .marked; roomy = h; inside = refl; fine = m .fine; wired = m .wired; short = m .short; letters = m .letters }
 
 -- a whole file, by the state that it ends in
 whole-case : (r : Run) (s : Reading) → caseOf r ≡ Whole s → (r ≡ going s []) × (s .phase ≡ 5)
@@ -262,8 +265,15 @@ module _ (x : Rooms) (big : Large x) (lines : List ℕ) (s : Reading) (y : Rooms
   pub seventeen-on-last-row : (at : ℕ) → judgeOf s d y ≡ Faulty 17 at → lineOf s d y ≡ took.Refused 17 (3 + pocketsCount (netIn s y .marks) + s .transitions)
   seventeen-on-last-row at e =
       let w = wired-exactly s d y at .0 e in
-      let l : at ≡ 3 + pocketsCount (netIn s y .marks) + s .transitions = let z = lines-so-far .rows (formed-04 s d (w .1) (w .2) .0) in omega (arith, w .3, w .5) in
+      let l : at ≡ 3 + pocketsCount (netIn s y .marks) + s .transitions = let z = lines-so-far .rows (formed-row s d (w .1) (w .3) .0) in omega (arith, w .4, w .6) in
       refused-line s d y 17 at e .0 ∙ rw l
+
+  -- "in a file it falls on that 07": 18 on the line of the transition whose weight is over 4,095
+  pub eighteen-on-its-row : (at : ℕ) → judgeOf s d y ≡ Faulty 18 at → lineOf s d y ≡ took.Refused 18 (3 + pocketsCount (netIn s y .marks) + s .next + 1)
+  eighteen-on-its-row at e =
+      let w = heavy-exactly s d y at .0 e in
+      let l : at ≡ 3 + pocketsCount (netIn s y .marks) + s .next + 1 = let z = lines-so-far .rows (formed-07 s d (w .1) (w .2) .0) in omega (arith, w .4) in
+      refused-line s d y 18 at e .0 ∙ rw l
 
 -- rooms that are large enough, to read into
 blank : ℕ → Rooms
@@ -301,5 +311,5 @@ pub sample-file : fileOf (netOf 3 3 (1 ∷ 0 ∷ 0 ∷ 0 ∷ 1 ∷ 0 ∷ 0 ∷ 0
     ++ (48 ∷ 52 ∷ 48 ∷ 49 ∷ 48 ∷ 48 ∷ 48 ∷ 49 ∷ 48 ∷ 48 ∷ 48 ∷ 49 ∷ 48 ∷ 48 ∷ 48 ∷ 50 ∷ 10 ∷ [])
     ++ (48 ∷ 52 ∷ 48 ∷ 50 ∷ 48 ∷ 48 ∷ 48 ∷ 48 ∷ 48 ∷ 51 ∷ 48 ∷ 48 ∷ 48 ∷ 48 ∷ 48 ∷ 48 ∷ 10 ∷ [])
     ++ (48 ∷ 53 ∷ 48 ∷ 48 ∷ 48 ∷ 49 ∷ 48 ∷ 48 ∷ 48 ∷ 49 ∷ 48 ∷ 50 ∷ 10 ∷ [])
-unfolding fileOf pocketsLines maskOf twos joined digitsOf digitOf
+unfolding fileOf pocketsLines maskOf twos rowKind weightsText rowOver tally joined digitsOf digitOf
 sample-file = refl

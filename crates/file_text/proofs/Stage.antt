@@ -10,7 +10,7 @@ use lib.Dec.{eqb}
 use lib.ListN.{length, take, drop, length-append, length-drop}
 use lib.Seq.{sets, drop-append-le, take-append-le, drop-at, take-all}
 use borrow.Author.Tests.{eqb-true, eqb-false, eq-eqb, ne-eqb}
-use Rattle.ground.specs.Limits.{countLimit, wordLimit}
+use Rattle.ground.specs.Limits.{countLimit, weightLimit, wordLimit}
 use Rattle.ground.proofs.Stores.{sets-both}
 use Rattle.file_digits.specs.Frame.{block, lineFeed, byteAt, bytesFrom, wordsFrom}
 use Rattle.file_put.specs.Put.{lineText}
@@ -19,6 +19,8 @@ use Rattle.net.specs.Letter.{row}
 use Rattle.net.proofs.Rows.{row-end}
 use Rattle.wiring.specs.Wired.{Wired}
 use Rattle.refusals.specs.Given.{Fine}
+use Rattle.file_row.specs.Row.{weightBytes, takesIn, putsIn}
+use Rattle.file_row.proofs.Weights.{from-long}
 use Rattle.file_line.specs.declared.Reading.{Reading}
 use Rattle.refusals.specs.declared.Fault.the-variants.{Sound}
 use Rattle.file_line.specs.Read.{cellLimit, Rooms, rooms, fresh, judgeOf, lettersIn, advanced, advancedKind, stored, storedKind, netIn}
@@ -28,9 +30,9 @@ use Rattle.file_mask.specs.Mask.{Bits, maskOf, bitsOf, maskIn, eight}
 use Rattle.file_mask.proofs.Masks.{bits-long, bits-small, bits-none, mask-none, mask-of-bits}
 use Rattle.file_text.specs.Text.{countsLine, capsLine, pocketsLine, pocketsLines, pocketsCount, tokensLine, rowLine, lettersLine, lettersLines, joined, fileOf, endOf, filled}
 use Rattle.file_text.specs.Refusal.{TakenLines, no-line, one-more}
-use Rattle.file_digits.proofs.Bytes.{Below, none, below-append, bytes-long, bytes-small, words-long, words-small}
+use Rattle.file_digits.proofs.Bytes.{Below, none, below-append, bytes-long, words-long, words-small}
 use Rattle.file_text.proofs.Fronts.{getD-sets, front-of, sets-again}
-use Rattle.file_text.proofs.Lines.{state, kind-next, kind-pockets, counts-of, caps-of, pockets-of, tokens-of, tokens-fine, row-of, row-wired, letters-of}
+use Rattle.file_text.proofs.Lines.{state, kind-next, kind-pockets, counts-of, caps-of, pockets-of, tokens-of, tokens-fine, row-of, row-below, row-keeps, row-advances, row-wired, letters-of}
 
 -- a net with its first n rows, and a marking, within the limits
 pub record Rowed (net : Net) (n : ℕ) (initial : List ℕ) : Type 0 where
@@ -46,8 +48,8 @@ pub record Rowed (net : Net) (n : ℕ) (initial : List ℕ) : Type 0 where
   pub fine : Fine (net .caps) initial
   pub pres : length (net .pre) ≡ n * net .places
   pub posts : length (net .post) ≡ n * net .places
-  pub takes : Below 256 (net .pre)
-  pub puts : Below 256 (net .post)
+  pub takes : Below (weightLimit + 1) (net .pre)
+  pub puts : Below (weightLimit + 1) (net .post)
 
 -- a whole net, a marking and a word within the limits
 pub record Listed (net : Net) (initial w : List ℕ) : Type 0 where
@@ -159,7 +161,7 @@ module _ (x : Rooms) (big : Large x) (d : List ℕ) where
   step-start : judgeOf fresh d x ≡ Sound → Stage x (advanced fresh d) (stored fresh d x) ([] ++ (d ++ (lineFeed ∷ [])))
   unfolding advancedKind storedKind
   step-start j =
-      let e : byteAt d 0 ≡ 1 = kind-next fresh d x j (λ z. omega arith) in
+      let e : byteAt d 0 ≡ 1 = kind-next fresh d x j (λ z. omega arith) (λ z. omega arith) in
       let c = counts-of fresh d x j refl in
       counted (byteAt d 1) (byteAt d 2) (c .1) (c .2) (c .3) (c .4) (rw e) (rw e) (ap (λ (l : List ℕ). l ++ (lineFeed ∷ [])) (c .0))
 
@@ -168,7 +170,7 @@ module _ (x : Rooms) (big : Large x) (d : List ℕ) where
         → Stage x (advanced (state 2 P T 0 0 1) d) (stored (state 2 P T 0 0 1) d x) (countsLine P T ++ (d ++ (lineFeed ∷ [])))
     unfolding advancedKind storedKind
     step-counted j =
-        let e : byteAt d 0 ≡ 2 = kind-next (state 2 P T 0 0 1) d x j (λ z. omega arith) in
+        let e : byteAt d 0 ≡ 2 = kind-next (state 2 P T 0 0 1) d x j (λ z. omega arith) (λ z. omega arith) in
         let z : maskOf (bitsOf 0 P) ≡ 0 = mask-none (bitsOf 0 P) .1 (bits-none P) in
         capped P T (wordsFrom d 1 P) (bitsOf 0 P) a b f g (words-long d 1 P) (words-small d 1 P) (bits-long 0 P) (bits-small 0 P)
         (rw (e, plain-phase (bitsOf 0 P) z, plain-count (bitsOf 0 P) z)) (rw e)
@@ -242,25 +244,28 @@ module _ (x : Rooms) (big : Large x) (d : List ℕ) where
           go false t =
               let z : maskOf marks ≡ 0 → ⊥ = eqb-false _ _ t in
               let q : phaseOf marks ≡ 3 = pocket-phase marks z in
-              step-tokens (kind-next (cappedState P T marks) d (cappedRooms x caps marks) j (λ o. omega arith) ∙ q)
+              step-tokens (kind-next (cappedState P T marks) d (cappedRooms x caps marks) j (λ o. omega arith) (λ o. omega arith) ∙ q)
 
   module _ (net : Net) (n : ℕ) (initial : List ℕ) (r : Rowed net n initial) (h : n < net .transitions) where
     step-rowed : judgeOf (state 4 (net .places) (net .transitions) n 0 (3 + pocketsCount (net .marks) + n)) d (filled x net initial []) ≡ Sound
         → Stage x (advanced (state 4 (net .places) (net .transitions) n 0 (3 + pocketsCount (net .marks) + n)) d) (stored (state 4 (net .places) (net .transitions) n 0 (3 + pocketsCount (net .marks) + n)) d (filled x net initial []))
         (head net initial ++ joined (rowLine net) n ++ (d ++ (lineFeed ∷ [])))
-    unfolding advancedKind storedKind joined fileOf
-    step-rowed j = rw e (go (eqb (n + 1) (net .transitions)) refl) where
+    unfolding joined fileOf
+    step-rowed j = rw (row-advances s d (filled x net initial []) j refl, row-keeps s d (filled x net initial []) j refl) (go (eqb (n + 1) (net .transitions)) refl) where
       s : Reading
       s = state 4 (net .places) (net .transitions) n 0 (3 + pocketsCount (net .marks) + n)
 
-      e : byteAt d 0 ≡ 4
-      e = kind-next s d (filled x net initial []) j (λ z. omega arith)
-
       a : List ℕ
-      a = bytesFrom d 2 (net .places)
+      a = takesIn (byteAt d 0) d (net .places)
 
       b : List ℕ
-      b = bytesFrom d (2 + net .places) (net .places)
+      b = putsIn (byteAt d 0) d (net .places)
+
+      a-long : length a ≡ net .places
+      a-long = from-long (byteAt d 0) d 2 (net .places)
+
+      b-long : length b ≡ net .places
+      b-long = from-long (byteAt d 0) d (2 + weightBytes (byteAt d 0) * net .places) (net .places)
 
       more : Net
       more = netOf (net .places) (net .transitions) (net .pre ++ a) (net .post ++ b) (net .caps) (net .marks)
@@ -277,10 +282,10 @@ module _ (x : Rooms) (big : Large x) (d : List ℕ) where
         bits = r .bits;
         marked = r .marked;
         fine = r .fine;
-        pres = omega (arith, length-append (net .pre) a, bytes-long d 2 (net .places), r .pres, suc-mul n (net .places));
-        posts = omega (arith, length-append (net .post) b, bytes-long d (2 + net .places) (net .places), r .posts, suc-mul n (net .places));
-        takes = below-append (net .pre) a (r .takes) (bytes-small d 2 (net .places));
-        puts = below-append (net .post) b (r .puts) (bytes-small d (2 + net .places) (net .places));
+        pres = omega (arith, length-append (net .pre) a, a-long, r .pres, suc-mul n (net .places));
+        posts = omega (arith, length-append (net .post) b, b-long, r .posts, suc-mul n (net .places));
+        takes = below-append (net .pre) a (r .takes) (row-below s d (filled x net initial []) j refl .0);
+        puts = below-append (net .post) b (r .puts) (row-below s d (filled x net initial []) j refl .1);
       }
 
       kept : rooms (sets (x .caps) 0 (net .caps)) (sets (x .marks) 0 (net .marks)) (sets (x .initial) 0 initial) (sets (sets (x .pre) 0 (net .pre)) (n * net .places) a) (sets (sets (x .post) 0 (net .post)) (n * net .places) b) (x .word)
@@ -302,8 +307,8 @@ module _ (x : Rooms) (big : Large x) (d : List ℕ) where
 
       last : d ++ (lineFeed ∷ []) ≡ rowLine more n
       last =
-          let u = row-last (net .places) n (net .pre) a (r .pres) (omega (arith, bytes-long d 2 (net .places))) in
-          let v = row-last (net .places) n (net .post) b (r .posts) (omega (arith, bytes-long d (2 + net .places) (net .places))) in
+          let u = row-last (net .places) n (net .pre) a (r .pres) (omega (arith, a-long)) in
+          let v = row-last (net .places) n (net .post) b (r .posts) (omega (arith, b-long)) in
           rw (u, v) (ap (λ (l : List ℕ). l ++ (lineFeed ∷ [])) (row-of s d (filled x net initial []) j refl))
 
       text : head net initial ++ joined (rowLine net) n ++ (d ++ (lineFeed ∷ [])) ≡ head net initial ++ joined (rowLine more) (suc n)
@@ -335,7 +340,7 @@ module _ (x : Rooms) (big : Large x) (d : List ℕ) where
     unfolding advancedKind storedKind joined fileOf
     step-lettered j =
         let c = letters-of (endOf net w) d (filled x net initial w) j refl in
-        let e : byteAt d 0 ≡ 5 = kind-next (endOf net w) d (filled x net initial w) j (λ z. omega arith) in
+        let e : byteAt d 0 ≡ 5 = kind-next (endOf net w) d (filled x net initial w) j (λ z. omega arith) (λ z. omega arith) in
         let m : ℕ = lettersIn d in
         let v : List ℕ = bytesFrom d 1 m in
         let n : length v ≡ m = bytes-long d 1 m in

@@ -19,6 +19,7 @@ use Rattle.net.specs.Letter.{row}
 use Rattle.net.proofs.Rows.{row-end, row-length}
 use Rattle.wiring.specs.Wired.{Wired}
 use Rattle.refusals.specs.Given.{Fine}
+use Rattle.file_row.specs.Row.{rowFrame}
 use Rattle.file_line.specs.declared.Reading.{Reading}
 use Rattle.file_line.specs.Read.{Rooms, rooms, fresh, netIn, lineHere}
 use Rattle.file_line.specs.Walk.{Large}
@@ -141,7 +142,7 @@ module _ (x : Rooms) (big : Large x) (net : Net) (initial : List ℕ) (r : Rowed
       let v = grows (net .post) (x .post) (n * net .places) (net .places) (omega (arith, r .posts)) in
       ap (feedAll (both (going fresh []) x)) (sym (append-assoc (head net initial) (joined (rowLine net) n) (rowLine net n)))
       ∙ then-line _ _ _ _ _ before
-      (fed s (rowsKept n) (4 ∷ n ∷ (a ++ b)) _ _
+      (fed s (rowsKept n) (rowFrame n a b) _ _
       (takes-row s (rowsKept n) a b refl (r .few-places) (omega (arith, r .few-transitions))
       (row-length (net .places) n (net .pre) (omega (arith, r .pres))) (row-length (net .places) n (net .post) (omega (arith, r .posts)))
       (below-take (net .places) (drop (n * net .places) (net .pre)) (below-drop (n * net .places) (net .pre) (r .takes)))
@@ -155,7 +156,7 @@ module _ (x : Rooms) (big : Large x) (net : Net) (initial : List ℕ) (r : Rowed
       let s : Reading = state 4 (net .places) (net .transitions) n 0 (3 + pocketsCount (net .marks) + n) in
       let a : List ℕ = row (net .places) n (net .pre) in
       let b : List ℕ = row (net .places) n (net .post) in
-      let d : List ℕ = digitsOf (4 ∷ n ∷ (a ++ b)) in
+      let d : List ℕ = digitsOf (rowFrame n a b) in
       let H : List ℕ = head net initial ++ joined (rowLine net) n in
       let e : eqb n (net .transitions) ≡ false = ne-eqb n (net .transitions) (λ z. omega arith) in
       let f : n * net .places + net .places ≤ net .transitions * net .places = row-end n (net .transitions) (net .places) (omega arith) in

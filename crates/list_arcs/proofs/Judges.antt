@@ -18,7 +18,7 @@ use Rattle.net.proofs.Rows.{row-at, pre-end}
 use Rattle.list_arcs.specs.Arc.{Skips, Within}
 use Rattle.list_arcs.proofs.Nexts.{Next, next-is}
 
-and-false : (a b : Bool) → b ≡ false → (a && b) ≡ false
+pub and-false : (a b : Bool) → b ≡ false → (a && b) ≡ false
 and-false true b e = e
 and-false false b e = refl
 

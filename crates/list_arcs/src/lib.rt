@@ -83,13 +83,18 @@ fn next_place(skips: &[u8], a: usize, p: usize) -> usize
 }
 
 // One place stops a transition at a marking within the capacities: it has fewer tokens than are taken,
-// or it has a capacity and would rise above it.
+// or it has a capacity and would rise above it. Where there is room for all that is put, it does not
+// rise above it whatever its mark, so that few places are asked for theirs.
 fn is_stopped(takes: Weight, puts: Weight, cap: u16, mark: u8, tokens: u16) -> bool
     requires { ⌜ tokens ≤ cap ⌝ }
     ensures { λ r. ⌜ r ≡ (shortAt takes tokens || overAt takes puts cap mark tokens) ⌝ }
 {
-    if tokens < takes as u16 {
+    if tokens < takes {
         return true;
+    }
+    let most = tokens as u32 + puts as u32;
+    if most <= cap as u32 {
+        return false;
     }
     if cap < NO_CAPACITY {
         let rise = net::rise(mark, takes, puts);

@@ -71,6 +71,7 @@ module _ (kind : Kind) (net : Net) (initial l : List ℕ) where
       let g = lent-of kind net initial l true Sound e in
       record {
         sized = g .ready .sized;
+        light = g .light;
         marked = g .start;
         whole = record { some-places = g .ready .sized .some-places; number = count (net .places) l; long = g .ready .long };
         fine = g .fine;
@@ -84,6 +85,7 @@ module _ (kind : Kind) (net : Net) (initial l : List ℕ) where
       of-lent kind net initial l true Sound
       (record {
         ready = record { sized = a .sized; long = whole-long (net .places) l (of-markings (net .places) l (a .whole)) };
+        light = a .light;
         start = a .marked;
         fine = a .fine;
         agrees = refl;
@@ -131,6 +133,7 @@ module _ (kind : Kind) (net : Net) (initial l m : List ℕ) where
       record {
         listed = record {
           sized = g .ready .sized;
+          light = g .light;
           marked = g .start;
           whole = record { some-places = g .ready .sized .some-places; number = count (net .places) l; long = g .ready .long };
           fine = g .fine;
@@ -147,6 +150,7 @@ module _ (kind : Kind) (net : Net) (initial l m : List ℕ) where
       of-lent kind net initial l (eqb (length m) (net .places)) (targetFault m)
       (record {
         ready = record { sized = a .listed .sized; long = whole-long (net .places) l (of-markings (net .places) l (a .listed .whole)) };
+        light = a .listed .light;
         start = a .listed .marked;
         fine = a .listed .fine;
         agrees = eq-eqb _ _ (a .long);

@@ -6,8 +6,9 @@ use mathlib.Core.List.{List}
 use native.Mathlib.Omega.{arith}
 use native.Mathlib.Nat.{mod-eq-of-lt, mul-add-mod-self-right}
 use lib.ListN.{length, getD}
+use Rattle.ground.specs.Limits.{countLimit}
 use Rattle.ground.proofs.Tests.{and-true}
-use Rattle.net.specs.Net.{Net, Sized}
+use Rattle.net.specs.Net.{Net, Light, Sized}
 use Rattle.net.proofs.Rows.{row-at}
 use Rattle.wiring.specs.Wired.{Wired}
 use Rattle.refusals.specs.Given.{orElse, startFault, looseFault, Fine}
@@ -51,14 +52,15 @@ module _ (kind : Kind) (net : Net) (initial list : List ℕ) (fits : Bool) (next
   pub start-sized : found ≡ Sound → Sized net
   start-sized q = start-met net initial agree (sym e ∙ q) .sized
 
-  pub caps-long : found ≡ Sound → (1 ≤ net .places) × (length (net .caps) ≡ net .places)
-  caps-long q = let s = start-sized q in (s .some-places, s .capped)
+  pub caps-long : found ≡ Sound → ((1 ≤ net .places) × (net .places ≤ countLimit)) × (length (net .caps) ≡ net .places)
+  caps-long q = let s = start-sized q in ((s .some-places, s .few-places), s .capped)
 
 pub ruleset givens = (given-first, given-list)
 
 -- what is lent where nothing is refused
 pub record Lent (kind : Kind) (net : Net) (initial list : List ℕ) (fits : Bool) (next : Fault) : Type 0 where
   pub ready : Ready net (count (net .places) list) list
+  pub light : Light net
   pub start : length initial ≡ net .places
   pub fine : Fine (net .caps) initial
   pub agrees : fits ≡ true
@@ -91,6 +93,7 @@ module _ (kind : Kind) (net : Net) (initial list : List ℕ) (fits : Bool) (next
       let l = or-sound next (looseFault net) (d .0) in
       record {
         ready = record { sized = f .sized; long = whole-long (net .places) list (w .0) };
+        light = f .light;
         start = f .marked;
         fine = f .fine;
         agrees = w .1;
@@ -105,7 +108,7 @@ module _ (kind : Kind) (net : Net) (initial list : List ℕ) (fits : Bool) (next
   unfolding givenFault listFault
   of-lent g =
       let w = of-markings (net .places) list (record { some-places = g .ready .sized .some-places; number = count (net .places) list; long = g .ready .long }) in
-      sound-or _ _ (met-start net initial (whole (net .places) list && fits) (record { sized = g .ready .sized; marked = g .start; fitting = rw w (g .agrees); fine = g .fine }))
+      sound-or _ _ (met-start net initial (whole (net .places) list && fits) (record { sized = g .ready .sized; light = g .light; marked = g .start; fitting = rw w (g .agrees); fine = g .fine }))
       (sound-or _ _ (of-entries kind (net .places) (net .caps) list (g .entries))
       (sound-or _ _ (sound-or _ _ (g .follows) (met-loose net (g .wired))) (of-size (net .places) list (g .some))))
 

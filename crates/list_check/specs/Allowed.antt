@@ -4,7 +4,7 @@ use Prim.Native.Nat.{ℕ}
 use mathlib.Core.Path.{_≡_}
 use mathlib.Core.List.{List}
 use lib.ListN.{length}
-use Rattle.net.specs.Net.{Net, Sized}
+use Rattle.net.specs.Net.{Net, Light, Sized}
 use Rattle.wiring.specs.Wired.{Wired}
 use Rattle.refusals.specs.Given.{Fine}
 use Rattle.refusals.specs.First.{StartFirst, LooseFirst}
@@ -15,6 +15,7 @@ use Rattle.lists.specs.declared.Kind.the-variants.{Closed}
 -- a list alone, with its net and the initial marking
 pub record ListAllowed (kind : Kind) (net : Net) (initial list : List ℕ) : Type 0 where
   pub sized : Sized net
+  pub light : Light net
   pub marked : length initial ≡ net .places
   pub whole : WholeMarkings (net .places) list
   pub fine : Fine (net .caps) initial

@@ -1,4 +1,4 @@
--- To be believed: the refusals of a list with its net, in order: 1, 2, 3, 17 and 9; and the answers to a list and to a target.
+-- To be believed: the refusals of a list with its net, in order: 1, 2, 18, 3, 17 and 9; and the answers to a list and to a target.
 use Prim.Native.Nat.{ℕ}
 use mathlib.Core.Bool.{Bool, _&&_}
 use mathlib.Core.List.{List}
@@ -18,7 +18,7 @@ use Rattle.lists.specs.declared.ListAnswer.the-variants.{Refused}
 use Rattle.lists.specs.declared.ClaimAnswer.{ClaimAnswer}
 use Rattle.list_pairs.specs.Look.{looked}
 
--- 1, 2, then 3 in the initial marking and the others, then 17, then 9; `fits` tells whether the length of what follows the list agrees
+-- 1, 2, 18, then 3 in the initial marking and the others, then 17, then 9; `fits` tells whether the length of what follows the list agrees
 -- with the counts, `next` is its 3
 unfoldable pub givenFault : Kind → Net → List ℕ → List ℕ → Bool → Fault → Fault
 givenFault kind net initial list fits next =

@@ -60,7 +60,7 @@ fn then_loose(
     }
 }
 
-// Refusals 1, 2, 3, 17 and 9. `fits` tells whether the length of what is lent after the list agrees,
+// Refusals 1, 2, 18, 3, 17 and 9. `fits` tells whether the length of what is lent after the list agrees,
 // and `next` is what 3 makes of it.
 fn find_fault(
     kind: Kind,

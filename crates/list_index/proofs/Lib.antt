@@ -2,4 +2,5 @@ pub mod Hashes
 pub mod Latest
 pub mod Linked
 pub mod Walks
+pub mod Wholly
 pub mod Finds

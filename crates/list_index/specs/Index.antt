@@ -19,9 +19,9 @@ hashLimit = 4294967296
 abbrev pub bucketSize : ℕ
 bucketSize = 524288
 
--- by which numbers that differ by one come to lie far apart
+-- by which small numbers at any places come to lie far apart
 abbrev pub factor : ℕ
-factor = 1640531527
+factor = 374761393
 
 -- a hash with one more number in it
 abbrev pub mixOf : ℕ → ℕ → ℕ

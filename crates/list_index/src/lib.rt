@@ -5,8 +5,10 @@ use ground::LIST_LIMIT;
 ghost use mathlib.Core.Path.{_≡_};
 ghost use Prim.Native.Nat.{_+_, _*_, _/_, _≤_, _<_};
 ghost use lib.ListN.{length, replicate};
-ghost use Rattle.ground.specs.Limits.{listLimit};
-ghost use Rattle.lists.specs.Match.{held};
+ghost use Rattle.ground.specs.Limits.{countLimit, listLimit};
+ghost use Rattle.ground.specs.Lists.{bit};
+ghost use Rattle.refusals.specs.Given.{unlike};
+ghost use Rattle.lists.specs.Match.{alike, held};
 ghost use Rattle.lists.specs.declared.Kind.the-variants.{Closed};
 ghost use Rattle.list_index.specs.Index.{bucketCount, hashLimit, bucketSize, mixOf, bucketOf, Indexed};
 
@@ -19,8 +21,8 @@ const HASH_LIMIT: u64 = 4294967296;
 // How many hashes a bucket has.
 const BUCKET_SIZE: u64 = 524288;
 
-// 2^32 less its part by the golden ratio, and odd: numbers that differ by one come to lie far apart.
-const FACTOR: u64 = 1640531527;
+// A prime, by which small numbers at any places come to lie far apart.
+const FACTOR: u64 = 374761393;
 
 // An empty table of buckets.
 pub fn no_heads() -> [u16; BUCKET_COUNT]
@@ -117,6 +119,29 @@ pub fn make_index(places: usize, count: usize, list: &[u16], heads: &mut [u16], 
     }
 }
 
+// 1 where one place of two markings differs, else 0: a number, so that a pass over the places only
+// adds.
+fn differs_at(listed: u16, tokens: u32) -> u32
+    ensures { λ r. ⌜ r ≡ bit (unlike listed tokens) ⌝ }
+{
+    if listed as u32 == tokens { 0 } else { 1 }
+}
+
+// Whether two markings are the same: one plain pass over the places, with no way out on the way, since
+// what stands in a marking's bucket is mostly that marking, and is compared to the end in any case.
+fn is_same(listed: &[u16], marking: &[u32]) -> bool
+    requires { ⌜ (length (now listed) ≡ length (now marking)) × (length (now marking) ≤ countLimit) ⌝ }
+    ensures { λ r. ⌜ r ≡ alike (now (listed .entry)) (now (marking .entry)) ⌝ }
+{
+    let mut differing: u32 = 0;
+    let mut p = 0;
+    while p < marking.len() {
+        differing += differs_at(listed[p], marking[p]);
+        p += 1;
+    }
+    differing == 0
+}
+
 // Whether the list holds a marking: only those in its bucket are compared with it, the latest first.
 pub fn find(
     places: usize,
@@ -127,7 +152,7 @@ pub fn find(
     marking: &[u32],
 ) -> bool
     requires { ⌜ length (now list) ≡ count * places ⌝ }
-    requires { ⌜ length (now marking) ≡ places ⌝ }
+    requires { ⌜ (length (now marking) ≡ places) × (places ≤ countLimit) ⌝ }
     requires { ⌜ Indexed places count (now list) (now heads) (now links) ⌝ }
     ensures { λ r. ⌜ r ≡ held Closed places count (now (list .entry)) (now (marking .entry)) ⌝ }
 {
@@ -137,7 +162,7 @@ pub fn find(
         let k = at - 1;
         let a = k * places;
         let e = a + places;
-        if lists::same_marking(&list[a..e], marking) {
+        if is_same(&list[a..e], marking) {
             return true;
         }
         at = counted(links[k]);

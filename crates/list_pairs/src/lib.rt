@@ -23,7 +23,7 @@ fn is_lacking(takes: Weight, entry: u16) -> bool
     ensures { λ r. ⌜ r ≡ lacks takes entry ⌝ }
 {
     if entry <= TOKEN_LIMIT {
-        return entry < takes as u16;
+        return entry < takes;
     }
     false
 }

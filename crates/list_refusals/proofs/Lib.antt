@@ -1,3 +1,4 @@
 pub mod Wholes
 pub mod Entries
+pub mod Fines
 pub mod Exactly

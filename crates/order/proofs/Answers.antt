@@ -5,7 +5,7 @@ use mathlib.Core.Bool.{Bool, true, false}
 use mathlib.Core.List.{List}
 use lib.ListN.{length}
 use Rattle.ground.proofs.Tests.{never}
-use Rattle.net.specs.Net.{Net, Light}
+use Rattle.net.specs.Net.{Net}
 use Rattle.refusals.specs.Given.{markedFault, wordFault}
 use Rattle.refusals.specs.declared.Fault.{Fault}
 use Rattle.refusals.specs.declared.Fault.the-variants.{Sound, Faulty}
@@ -59,13 +59,13 @@ module _ (net : Net) (initial first second room work : List ℕ) (fits : Bool) (
       record { answer = rw f; left = rw f; cleared = rw f }
 
   -- what is lent can be searched
-  pub found-begins : Light net → found ≡ Sound → Begins (logsOf net first second) initial room work
-  found-begins light q =
+  pub found-begins : found ≡ Sound → Begins (logsOf net first second) initial room work
+  found-begins q =
       let a : Allowed net initial first second room work = allowed-of net initial first second room work (is-found Sound q) in
       record {
         ready = record {
           sized = a .sized;
-          light = light;
+          light = a .light;
           few-first = a .short-first;
           few-second = a .short-second;
           letters-first = a .letters-first;

@@ -121,6 +121,7 @@ module _ (net : Net) (initial first second room work : List ℕ) where
       let l = logs-met (net .transitions) first second (a .1) in
       record {
         sized = m .sized;
+        light = m .light;
         marked = m .marked;
         roomy = f .0;
         bytes = f .1;
@@ -137,7 +138,7 @@ module _ (net : Net) (initial first second room work : List ℕ) where
   of-allowed a =
       sound-or _ _
       (met-marked net initial (roomsFit first second room work)
-      (record { sized = a .sized; marked = a .marked; fitting = of-fits first second room work (a .roomy, a .bytes); fine = a .fine; wired = a .wired }))
+      (record { sized = a .sized; light = a .light; marked = a .marked; fitting = of-fits first second room work (a .roomy, a .bytes); fine = a .fine; wired = a .wired }))
       (met-logs (net .transitions) first second (a .short-first) (a .short-second) (a .letters-first) (a .letters-second))
 
   order-chain : Chain (orderFault net initial first second (roomsFit first second room work)) (Refusal net initial first second room work)

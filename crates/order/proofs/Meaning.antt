@@ -68,6 +68,7 @@ module _ (net : Net) (initial first second room work : List ℕ) (r : LogOrder) 
   replayable a order tokens o l =
       record {
         sized = a .sized;
+        light = a .light;
         marked = a .marked;
         roomy = l;
         inside = refl;

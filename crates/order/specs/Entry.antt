@@ -1,4 +1,4 @@
--- To be believed: two logs put into an order that fires: refusals 1 2 3 17 4 15 5, else the order that is given, or none.
+-- To be believed: two logs put into an order that fires: refusals 1 2 18 3 17 4 15 5, else the order that is given, or none.
 use Prim.Native.Nat.{ℕ, _+_, _≤_, _<_}
 use mathlib.Core.Path.{_≡_}
 use mathlib.Core.Bool.{Bool, true, _&&_}
@@ -6,7 +6,7 @@ use mathlib.Core.List.{List, [], _∷_}
 use lib.ListN.{length, getD, replicate}
 use lib.Dec.{eqb}
 use Rattle.ground.specs.Limits.{wordLimit}
-use Rattle.net.specs.Net.{Net, Sized}
+use Rattle.net.specs.Net.{Net, Sized, Light}
 use Rattle.wiring.specs.Wired.{Wired}
 use Rattle.refusals.specs.Given.{orElse, markedFault, wordFault, Fine, Letters}
 use Rattle.refusals.specs.First.{First, GivenAt, MarkedFirst}
@@ -22,7 +22,7 @@ use Rattle.order.specs.declared.LogOrder.the-variants.{Found, NoneFires,
 unfoldable pub logsFault : ℕ → List ℕ → List ℕ → Fault
 logsFault T first second = orElse (longFault (length first) (length second)) (orElse (wordFault T first) (wordFault T second))
 
--- 1, 2, 3, 17, then those of the logs; `fits` tells whether the lengths of room and work space are right
+-- 1, 2, 18, 3, 17, then those of the logs; `fits` tells whether the lengths of room and work space are right
 unfoldable pub orderFault : Net → List ℕ → List ℕ → List ℕ → Bool → Fault
 orderFault net initial first second fits = orElse (markedFault net initial fits) (logsFault (net .transitions) first second)
 
@@ -65,6 +65,7 @@ pub record Ordered (net : Net) (initial first second room work : List ℕ) (r : 
 -- all that 01 and 02 ask of what is lent: nothing is refused exactly where this holds
 pub record Allowed (net : Net) (initial first second room work : List ℕ) : Type 0 where
   pub sized : Sized net
+  pub light : Light net
   pub marked : length initial ≡ net .places
   pub roomy : length room ≡ length first + length second
   pub bytes : length work ≡ workLength

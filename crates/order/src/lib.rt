@@ -50,7 +50,7 @@ fn logs_fault(transitions: usize, first: &[u8], second: &[u8]) -> Fault
     }
 }
 
-// Refusals 1 to 5, 15 and 17. It is not lent the rooms, so a refusal cannot touch them.
+// Refusals 1 to 5, 15, 17 and 18. It is not lent the rooms, so a refusal cannot touch them.
 fn find_fault(
     places: usize,
     transitions: usize,

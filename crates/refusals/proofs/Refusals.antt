@@ -306,7 +306,7 @@ fine-is caps m f =
     (λ p h. both-false _ _ (le-ltb tokenLimit (getD m p 0) (f .few .at p)) (le-ltb (getD caps p 0) (getD m p 0) (f .within p h))) in
     sound-refuse _ 3 (badToken caps m) (le-ltb (badToken caps m) (length m) (omega arith))
 
--- nothing of 1, 2 and 3 is refused exactly where the net is sized, all lengths agree and the marking is fine
+-- nothing of 1, 2, 18 and 3 is refused exactly where the net is sized and light, all lengths agree and the marking is fine
 pub start-met : (net : Net) (initial : List ℕ) (fits : Bool) → startFault net initial fits ≡ Sound → StartMet net initial fits
 unfolding startFault
 start-met net initial fits e =

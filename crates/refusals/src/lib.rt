@@ -109,9 +109,9 @@ fn weights_fault(
     requires { ⌜ Sized (netOf places transitions (now pre) (now post) (now caps) (now marks)) ⌝ }
     ensures { λ r. ⌜ r ≡ weightsFault (netOf places transitions (now (pre .entry)) (now (post .entry)) (now (caps .entry)) (now (marks .entry))) ⌝ }
 {
-    let t = weights::heavy_transition(places, transitions, pre, post, caps, marks);
-    if t < transitions {
-        Fault::Faulty(18, t)
+    let heavy = weights::heavy_transition(places, transitions, pre, post, caps, marks);
+    if heavy < transitions {
+        Fault::Faulty(18, heavy)
     } else {
         Fault::Sound
     }

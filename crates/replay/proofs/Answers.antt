@@ -8,7 +8,7 @@ use lib.Dec.{leb, eqb}
 use borrow.Author.Tests.{eqb-true, le-leb, lt-leb}
 use Rattle.ground.specs.Limits.{wordLimit}
 use Rattle.ground.proofs.Tests.{never, and-true}
-use Rattle.net.specs.Net.{Net, Sized}
+use Rattle.net.specs.Net.{Net, Sized, Light}
 use Rattle.wiring.specs.Wired.{Wired}
 use Rattle.refusals.specs.Given.{orElse, countsFault, markedFault, wordFault, stretch, inside, Fine, Letters}
 use Rattle.refusals.specs.declared.Fault.{Fault}
@@ -35,6 +35,7 @@ pub ruleset replay-faults = (replay-first, replay-word)
 -- nothing is refused exactly where all this holds
 pub record Sane (net : Net) (initial w : List ℕ) (fits : Bool) : Type 0 where
   pub sized : Sized net
+  pub light : Light net
   pub marked : length initial ≡ net .places
   pub fitting : fits ≡ true
   pub fine : Fine (net .caps) initial
@@ -48,13 +49,13 @@ sane-of net initial w fits e =
     let a = or-sound (markedFault net initial fits) (wordFault (net .transitions) w) e in
     let f = marked-met net initial fits (a .0) in
     let l = word-met (net .transitions) w (a .1) in
-    record { sized = f .sized; marked = f .marked; fitting = f .fitting; fine = f .fine; wired = f .wired; short = l .short; letters = l .letters }
+    record { sized = f .sized; light = f .light; marked = f .marked; fitting = f .fitting; fine = f .fine; wired = f .wired; short = l .short; letters = l .letters }
 
 pub sane-is : (net : Net) (initial w : List ℕ) (fits : Bool) → Sane net initial w fits → replayFault net initial w fits ≡ Sound
 unfolding replayFault
 sane-is net initial w fits s =
     sound-or _ _
-    (met-marked net initial fits (record { sized = s .sized; marked = s .marked; fitting = s .fitting; fine = s .fine; wired = s .wired }))
+    (met-marked net initial fits (record { sized = s .sized; light = s .light; marked = s .marked; fitting = s .fitting; fine = s .fine; wired = s .wired }))
     (met-word (net .transitions) w (record { short = s .short; letters = s .letters }))
 
 -- where the room or the stretch does not fit, the letters do not matter

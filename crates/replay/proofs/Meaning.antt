@@ -11,7 +11,7 @@ use lib.Dec.{eqb}
 use borrow.Author.Tests.{eqb-true, eq-eqb}
 use Rattle.ground.specs.Limits.{replayLimit}
 use Rattle.ground.proofs.Tests.{and-true}
-use Rattle.net.specs.Net.{Net, Light}
+use Rattle.net.specs.Net.{Net}
 use Rattle.net.specs.Firing.{Fires, Reachable, Within, Names, causeNumber, causeValues}
 use Rattle.net.specs.Letter.{Small}
 use Rattle.net.specs.declared.Cause.{Cause}
@@ -68,12 +68,12 @@ module _ (net : Net) (initial w : List ℕ) (within : Bool) (room : List ℕ) wh
   allowed-of e =
       let s = sane-of net initial w (eqb (length room) (net .places) && within) e in
       let f = and-true (eqb (length room) (net .places)) within (s .fitting) in
-      record { sized = s .sized; marked = s .marked; roomy = eqb-true _ _ (f .0); inside = f .1; fine = s .fine; wired = s .wired; short = s .short; letters = s .letters }
+      record { sized = s .sized; light = s .light; marked = s .marked; roomy = eqb-true _ _ (f .0); inside = f .1; fine = s .fine; wired = s .wired; short = s .short; letters = s .letters }
 
   of-allowed : Allowed net initial w within room → replayFault net initial w (eqb (length room) (net .places) && within) ≡ Sound
   of-allowed a =
       sane-is net initial w (eqb (length room) (net .places) && within)
-      (record { sized = a .sized; marked = a .marked; fitting = rw (eq-eqb _ _ (a .roomy)) (a .inside); fine = a .fine; wired = a .wired; short = a .short; letters = a .letters })
+      (record { sized = a .sized; light = a .light; marked = a .marked; fitting = rw (eq-eqb _ _ (a .roomy)) (a .inside); fine = a .fine; wired = a .wired; short = a .short; letters = a .letters })
 
   module _ (r : Replay) (room′ : List ℕ) (p : Replayed net initial w within room r room′) where
     answer-is : r ≡ replayOf net initial w within room .answer
@@ -154,12 +154,12 @@ module _ (net : Net) (initial w : List ℕ) (within : Bool) (room : List ℕ) wh
               let q : 0 + k ≡ k = omega arith in
               rw (x, y, q) (h, n)
 
-      -- the marking left is reachable, within capacities, and at most what 01 says a replay reaches
+      -- the marking left is reachable, within capacities, and at most what 02 says a replay reaches (E6)
       pub left-reachable : Reachable net initial room′
       left-reachable = record { word = take (lettersFired r) w; fires = fired-longest .fires }
 
       pub left-within : Within net room′
       left-within = within-stays (fired-longest .fires) (record { long = allowed .marked; at = λ p h c. allowed .fine .within p (omega (arith, allowed .marked)) })
 
-      pub left-small : Light net → Small replayLimit room′
-      left-small light = replay-reaches light (fired-longest .fires) (allowed .fine .few) (omega (arith, length-take (lettersFired r) w, allowed .short))
+      pub left-small : Small replayLimit room′
+      left-small = replay-reaches (allowed .light) (fired-longest .fires) (allowed .fine .few) (omega (arith, length-take (lettersFired r) w, allowed .short))

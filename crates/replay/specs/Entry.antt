@@ -1,4 +1,4 @@
--- To be believed: the public replay: refusals 1, 2, 3, 17, 4 and 5 in order, else the replay from the initial marking.
+-- To be believed: the public replay: refusals 1, 2, 18, 3, 17, 4 and 5 in order, else the replay from the initial marking.
 use Prim.Native.Nat.{ℕ, _≤_, _<_}
 use mathlib.Core.Path.{_≡_}
 use mathlib.Core.Bool.{Bool, true, _&&_}
@@ -6,7 +6,7 @@ use mathlib.Core.List.{List, [], _∷_}
 use lib.ListN.{length, take}
 use lib.Dec.{eqb}
 use Rattle.ground.specs.Limits.{wordLimit}
-use Rattle.net.specs.Net.{Net, Sized}
+use Rattle.net.specs.Net.{Net, Sized, Light}
 use Rattle.net.specs.Firing.{Fires, causeNumber, causeValues}
 use Rattle.wiring.specs.Wired.{Wired}
 use Rattle.refusals.specs.Given.{orElse, markedFault, wordFault, Fine, Letters}
@@ -17,7 +17,7 @@ use Rattle.replay.specs.Replay.{Ran, playFrom}
 use Rattle.replay.specs.declared.Replay.{Replay}
 use Rattle.replay.specs.declared.Replay.the-variants.{Fired, Blocked, Refused}
 
--- 1, 2, 3 and 17, then 4 and 5; `fits` tells whether the room's length and the stretch's ends are right
+-- 1, 2, 18, 3 and 17, then 4 and 5; `fits` tells whether the room's length and the stretch's ends are right
 unfoldable pub replayFault : Net → List ℕ → List ℕ → Bool → Fault
 replayFault net initial w fits = orElse (markedFault net initial fits) (wordFault (net .transitions) w)
 
@@ -46,6 +46,7 @@ pub record Replayed (net : Net) (initial w : List ℕ) (within : Bool) (room : L
 -- all that document 01 asks of what a replay is lent: nothing is refused exactly where this holds
 pub record Allowed (net : Net) (initial w : List ℕ) (within : Bool) (room : List ℕ) : Type 0 where
   pub sized : Sized net
+  pub light : Light net
   pub marked : length initial ≡ net .places
   pub roomy : length room ≡ net .places
   pub inside : within ≡ true

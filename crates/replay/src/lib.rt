@@ -67,7 +67,7 @@ fn play_word(
     Replay::Fired(i)
 }
 
-// Refusals 1 to 5 and 17. It is not lent the room, so a refusal cannot touch it.
+// Refusals 1 to 5, 17 and 18. It is not lent the room, so a refusal cannot touch it.
 fn find_fault(
     places: usize,
     transitions: usize,

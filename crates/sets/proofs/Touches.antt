@@ -1,18 +1,16 @@
 -- Laws of the tests and answers for sets, from what the code has found. Assumes nothing.
 use Prim.Native.Nat.{ℕ, _+_, _≤_, _<_}
-use mathlib.Core.Path.{_≡_, refl, sym, ap, _∙_}
-use mathlib.Core.Bool.{Bool, true, false, not, _&&_}
+use mathlib.Core.Path.{_≡_, sym}
+use mathlib.Core.Bool.{Bool, true, false, not}
 use mathlib.Core.List.{List}
-use native.Mathlib.Omega.{arith}
 use lib.ListN.{length, getD}
-use lib.Dec.{ltb, leb}
-use borrow.Author.Tests.{lt-ltb, le-ltb, ltb-true, ltb-false, le-leb, lt-leb, not-true, not-false}
-use Rattle.ground.specs.Lists.{first}
+use lib.Dec.{ltb}
+use borrow.Author.Tests.{lt-ltb, le-ltb, le-leb, lt-leb}
 use Rattle.ground.proofs.Scan.{Below, scan-hit, scan-end}
 use Rattle.net.specs.Net.{Net, Pre, Post, Sized}
 use Rattle.refusals.specs.declared.Fault.{Fault}
 use Rattle.refusals.specs.declared.Fault.the-variants.{Sound, Faulty}
-use Rattle.sets.specs.Answer.{meets, touches, escapes, lowestEscape, turned, noPlaces, judgedSet, setAnswer, setNumbers}
+use Rattle.sets.specs.Answer.{meets, touches, escapes, lowestEscape, turned, lowestMember, noPlaces, judgedSet, setAnswer, setNumbers}
 use Rattle.sets.specs.declared.SetAnswer.{SetAnswer}
 use Rattle.sets.specs.declared.SetAnswer.the-variants.{Yes, No, Refused}
 
@@ -52,34 +50,13 @@ module _ (net : Net) (s : List ℕ) (t : ℕ) (a b : Bool) (ea : a ≡ touches s
 
 pub ruleset escaping = (escape-asked, escape-none)
 
--- a set as its own row has an arc at each of its places
-own-touches : (s : List ℕ) → touches s (λ p. getD s (0 + p) 0) ≡ not (noPlaces s)
-unfolding touches
-own-touches s =
-    ap (λ (f : ℕ → Bool). ltb (first f (length s)) (length s)) (λ j p. same p j)
-    ∙ turn (first (λ p. ltb 0 (getD s p 0)) (length s)) (length s)
-  where
-    twice : (b : Bool) → (b && b) ≡ b
-    twice true = refl
-    twice false = refl
+-- whether a set has a place, from the lowest one that was found
+module _ (s : List ℕ) (k : ℕ) (e : k ≡ lowestMember s) where
+  pub some-found : k < length s → noPlaces s ≡ false
+  some-found h = rw (← e) (lt-leb (length s) k h)
 
-    same : (p : ℕ) → meets (getD s (0 + p) 0) (getD s p 0) ≡ ltb 0 (getD s p 0)
-    same p = ap (λ (k : ℕ). meets (getD s k 0) (getD s p 0)) (omega arith) ∙ twice (ltb 0 (getD s p 0))
-
-    turn : (a b : ℕ) → ltb a b ≡ not (leb b a)
-    turn a b = go (ltb a b) refl
-      where
-        go : (t : Bool) → ltb a b ≡ t → ltb a b ≡ not (leb b a)
-        go true e = e ∙ sym (ap not (lt-leb b a (ltb-true a b e)))
-        go false e = e ∙ sym (ap not (le-leb b a (ltb-false a b e)))
-
--- whether it has none, from the test a of its own row
-module _ (s : List ℕ) (a : Bool) (e : a ≡ touches s (λ p. getD s (0 + p) 0)) where
-  pub some-found : a ≡ true → noPlaces s ≡ false
-  some-found q = not-true (noPlaces s) (sym (own-touches s) ∙ sym e ∙ q)
-
-  pub none-found : a ≡ false → noPlaces s ≡ true
-  none-found q = not-false (noPlaces s) (sym (own-touches s) ∙ sym e ∙ q)
+  pub none-found : length s ≤ k → noPlaces s ≡ true
+  none-found h = rw (← e) (le-leb (length s) k h)
 
 pub ruleset places-found = (some-found, none-found)
 

@@ -3,7 +3,7 @@ use Prim.Native.Nat.{ℕ}
 use mathlib.Core.Path.{_≡_}
 use mathlib.Core.List.{List}
 use lib.ListN.{length}
-use Rattle.net.specs.Net.{Net, Sized}
+use Rattle.net.specs.Net.{Net, Light, Sized}
 use Rattle.wiring.specs.Wired.{Wired}
 use Rattle.refusals.specs.First.{First, Given, NetFirst}
 use Rattle.sets.specs.Sets.{In}
@@ -15,6 +15,7 @@ SomePlace s = ((p : ℕ) → In s p → ⊥) → ⊥
 -- a set that no refusal meets
 pub record Allowed (net : Net) (s : List ℕ) : Type 0 where
   pub sized : Sized net
+  pub light : Light net
   pub long : length s ≡ net .places
   pub wired : Wired net
   pub some : SomePlace s

@@ -33,11 +33,15 @@ lowestEscape net s = first (escapes net s) (net .transitions)
 abbrev pub turned : Net → Net
 turned net = netOf (net .places) (net .transitions) (net .post) (net .pre) (net .caps) (net .marks)
 
+-- the lowest place in the set, or the number of places
+abbrev pub lowestMember : List ℕ → ℕ
+lowestMember s = first (λ p. ltb 0 (getD s p 0)) (length s)
+
 -- 8: "a set without places"
 abbrev pub noPlaces : List ℕ → Bool
-noPlaces s = leb (length s) (first (λ p. ltb 0 (getD s p 0)) (length s))
+noPlaces s = leb (length s) (lowestMember s)
 
--- refusals 1, 2 and 17, then 8
+-- refusals 1, 2, 18 and 17, then 8
 unfoldable pub setFault : Net → List ℕ → Fault
 setFault net s = orElse (netFault net (eqb (length s) (net .places))) (refuse (noPlaces s) 8 0)
 

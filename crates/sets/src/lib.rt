@@ -3,9 +3,10 @@ use ground::Weight;
 use refusals::Fault;
 ghost use mathlib.Core.Path.{_≡_};
 ghost use Prim.Native.Nat.{_+_, _≤_, _<_};
+ghost use lib.Dec.{ltb};
 ghost use lib.ListN.{length, getD};
 ghost use Rattle.net.specs.Net.{netOf, Sized};
-ghost use Rattle.sets.specs.Answer.{meets, touches, escapes, lowestEscape, setFault, judgedSet, siphonOf, trapOf, setNumbers};
+ghost use Rattle.sets.specs.Answer.{meets, touches, escapes, lowestEscape, lowestMember, setFault, judgedSet, siphonOf, trapOf, setNumbers};
 
 // The answer for a set: it is one; it is none, with the lowest failing transition; or refused,
 // with document 01's number and position.
@@ -87,7 +88,28 @@ fn lowest_escape(
     t
 }
 
-// Refusals 1, 2, 17 and 8 for a set. A set as its own row of arcs has one at each of its places.
+// Whether a place is in the set.
+fn is_member(member: u8) -> bool
+    ensures { λ r. ⌜ r ≡ ltb 0 member ⌝ }
+{
+    0 < member
+}
+
+// The lowest place in the set, or the number of places.
+fn lowest_member(set: &[u8]) -> usize
+    ensures { λ r. ⌜ r ≡ lowestMember (now (set .entry)) ⌝ }
+{
+    let mut p = 0;
+    while p < set.len() {
+        if is_member(set[p]) {
+            return p;
+        }
+        p += 1;
+    }
+    p
+}
+
+// Refusals 1, 2, 18, 17 and 8 for a set.
 fn set_fault(
     places: usize,
     transitions: usize,
@@ -104,7 +126,7 @@ fn set_fault(
     match found {
         Fault::Faulty(number, at) => Fault::Faulty(number, at),
         Fault::Sound => {
-            if is_touching(set, 0, set) {
+            if lowest_member(set) < set.len() {
                 Fault::Sound
             } else {
                 Fault::Faulty(8, 0)

@@ -8,7 +8,7 @@ use lib.Dec.{leb}
 use borrow.Author.Tests.{le-leb, lt-leb}
 use Rattle.ground.specs.Limits.{wordLimit}
 use Rattle.ground.proofs.Tests.{never}
-use Rattle.net.specs.Net.{Net, Sized}
+use Rattle.net.specs.Net.{Net, Light, Sized}
 use Rattle.wiring.specs.Wired.{Wired}
 use Rattle.refusals.specs.Given.{outside, countsFault, netFault, wordFault, stretch, inside, Letters}
 use Rattle.refusals.specs.declared.Fault.{Fault}
@@ -37,6 +37,7 @@ pub ruleset empties = (empty-refused, empty-done)
 -- nothing is refused exactly where all this holds
 pub record Sane (net : Net) (w : List ℕ) (within : Bool) : Type 0 where
   pub sized : Sized net
+  pub light : Light net
   pub fitting : within ≡ true
   pub wired : Wired net
   pub short : length w ≤ wordLimit
@@ -48,12 +49,12 @@ sane-of net w within e =
     let a = or-sound (netFault net within) (wordFault (net .transitions) w) e in
     let f = net-met net within (a .0) in
     let l = word-met (net .transitions) w (a .1) in
-    record { sized = f .sized; fitting = f .fitting; wired = f .wired; short = l .short; letters = l .letters }
+    record { sized = f .sized; light = f .light; fitting = f .fitting; wired = f .wired; short = l .short; letters = l .letters }
 
 pub sane-is : (net : Net) (w : List ℕ) (within : Bool) → Sane net w within → partFault net w within ≡ Sound
 unfolding partFault
 sane-is net w within s =
-    sound-or _ _ (met-net net within (record { sized = s .sized; fitting = s .fitting; wired = s .wired })) (met-word (net .transitions) w (record { short = s .short; letters = s .letters }))
+    sound-or _ _ (met-net net within (record { sized = s .sized; light = s .light; fitting = s .fitting; wired = s .wired })) (met-word (net .transitions) w (record { short = s .short; letters = s .letters }))
 
 -- the summary of a word, from what the code has
 pub word-made : (net : Net) (w : List ℕ) (slots : List Slot) → slots ≡ slotsOf net w → _≡_ {A = Summary} (record { places = net .places; letters = length w; slots = slots }) (summaryOf net w)

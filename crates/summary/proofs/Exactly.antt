@@ -51,10 +51,10 @@ module _ (net : Net) (w : List ℕ) (r : Summed) (p : Answers (wordAnswer net w 
   word-answers = is-summed (partFault net w true) (summaryOf net w) r p
 
   of-word-allowed : WordAllowed net w → partFault net w true ≡ Sound
-  of-word-allowed a = sane-is net w true (record { sized = a .sized; fitting = refl; wired = a .wired; short = a .short; letters = a .letters })
+  of-word-allowed a = sane-is net w true (record { sized = a .sized; light = a .light; fitting = refl; wired = a .wired; short = a .short; letters = a .letters })
 
   word-allowed-of : partFault net w true ≡ Sound → WordAllowed net w
-  word-allowed-of e = let s = sane-of net w true e in record { sized = s .sized; wired = s .wired; short = s .short; letters = s .letters }
+  word-allowed-of e = let s = sane-of net w true e in record { sized = s .sized; light = s .light; wired = s .wired; short = s .short; letters = s .letters }
 
   pub word-refused-exactly : (n at : ℕ) → (r ≡ refusal n at) ↔ WordRefusal net w n at
   word-refused-exactly = exactly-refused word-answers refusal-one (part-chain net w true (λ e. tt) (λ u. refl))
@@ -79,12 +79,12 @@ module _ (net : Net) (w : List ℕ) (a b : ℕ) (r : Summed) (p : Answers (wordA
   true-inside i = rw (le-leb a b (i .forward)) (le-leb b (length w) (i .within))
 
   of-stretch-allowed : StretchAllowed net w a b → partFault net (stretch w a b) (inside w a b) ≡ Sound
-  of-stretch-allowed s = sane-is net (stretch w a b) (inside w a b) (record { sized = s .sized; fitting = true-inside (s .inside); wired = s .wired; short = s .short; letters = s .letters })
+  of-stretch-allowed s = sane-is net (stretch w a b) (inside w a b) (record { sized = s .sized; light = s .light; fitting = true-inside (s .inside); wired = s .wired; short = s .short; letters = s .letters })
 
   stretch-allowed-of : partFault net (stretch w a b) (inside w a b) ≡ Sound → StretchAllowed net w a b
   stretch-allowed-of e =
       let s = sane-of net (stretch w a b) (inside w a b) e in
-      record { sized = s .sized; inside = inside-true (s .fitting); wired = s .wired; short = s .short; letters = s .letters }
+      record { sized = s .sized; light = s .light; inside = inside-true (s .fitting); wired = s .wired; short = s .short; letters = s .letters }
 
   pub stretch-refused-exactly : (n at : ℕ) → (r ≡ refusal n at) ↔ StretchRefusal net w a b n at
   stretch-refused-exactly = exactly-refused stretch-answers refusal-one (part-chain net (stretch w a b) (inside w a b) inside-true true-inside)

@@ -3,7 +3,7 @@ use Prim.Native.Nat.{ℕ, _≤_}
 use mathlib.Core.List.{List}
 use lib.ListN.{length}
 use Rattle.ground.specs.Limits.{wordLimit}
-use Rattle.net.specs.Net.{Net, Sized}
+use Rattle.net.specs.Net.{Net, Light, Sized}
 use Rattle.wiring.specs.Wired.{Wired}
 use Rattle.refusals.specs.Given.{stretch, Letters}
 use Rattle.refusals.specs.First.{First, Given, NetFirst, WordFirst}
@@ -19,6 +19,7 @@ EmptyRefusal P n at = First (Count P) (Given 1 0 n at) ⊥
 -- ---- a word's summary
 pub record WordAllowed (net : Net) (w : List ℕ) : Type 0 where
   pub sized : Sized net
+  pub light : Light net
   pub wired : Wired net
   pub short : length w ≤ wordLimit
   pub letters : Letters (net .transitions) w
@@ -36,6 +37,7 @@ pub record Inside (w : List ℕ) (a b : ℕ) : Type 0 where
 -- "refusals 4 and 5 look at the stretch only"
 pub record StretchAllowed (net : Net) (w : List ℕ) (a b : ℕ) : Type 0 where
   pub sized : Sized net
+  pub light : Light net
   pub inside : Inside w a b
   pub wired : Wired net
   pub short : length (stretch w a b) ≤ wordLimit

@@ -12,7 +12,7 @@ use Rattle.summary_form.specs.Summary.{summed, summaryOf, emptySummary}
 abbrev pub emptyAnswer : ℕ → Summed
 emptyAnswer P = summed (refuse (outside P) 1 0) (emptySummary P)
 
--- a word's refusals, 1, 2, then 4 and 5; `within` tells whether it is a stretch inside its word
+-- a word's refusals, 1, 2, 18 and 17, then 4 and 5; `within` tells whether it is a stretch inside its word
 unfoldable pub partFault : Net → List ℕ → Bool → Fault
 partFault net w within = orElse (netFault net within) (wordFault (net .transitions) w)
 

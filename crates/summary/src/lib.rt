@@ -25,7 +25,7 @@ pub fn empty_summary(places: usize) -> Summed
     }
 }
 
-// Refusals 1, 2, 17, 4 and 5 for a net and a word.
+// Refusals 1, 2, 18, 17, 4 and 5 for a net and a word.
 fn find_fault(
     places: usize,
     transitions: usize,

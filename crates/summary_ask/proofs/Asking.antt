@@ -78,7 +78,7 @@ module _ (net : Net) (m : List ℕ) (s : Summary) (room : List ℕ) where
       let b = or-sound (markedFault net m (eqb (length room) (net .places) && eqb (s .places) (net .places))) (shapeFault s) (a .1) in
       let f = marked-met net m (eqb (length room) (net .places) && eqb (s .places) (net .places)) (b .0) in
       let g = fits-of (f .fitting) in
-      record { sized = f .sized; marked = f .marked; roomy = g .0; counted = g .1; fine = f .fine; wired = f .wired; formed = formed-of s (b .1) }
+      record { sized = f .sized; light = f .light; marked = f .marked; roomy = g .0; counted = g .1; fine = f .fine; wired = f .wired; formed = formed-of s (b .1) }
 
   pub of-ask-allowed : AskAllowed net m s room → askFault net m s (eqb (length room) (net .places)) ≡ Sound
   unfolding askFault
@@ -86,7 +86,7 @@ module _ (net : Net) (m : List ℕ) (s : Summary) (room : List ℕ) where
       let c : outside (s .places) ≡ false = rw (a .counted) (inside-is (net .places) (a .sized .some-places) (a .sized .few-places)) in
       sound-or (refuse (outside (s .places)) 1 0) _ (sound-refuse (outside (s .places)) 1 0 c)
       (sound-or (markedFault net m (eqb (length room) (net .places) && eqb (s .places) (net .places))) (shapeFault s)
-      (met-marked net m (eqb (length room) (net .places) && eqb (s .places) (net .places)) (record { sized = a .sized; marked = a .marked; fitting = of-fits (a .roomy, a .counted); fine = a .fine; wired = a .wired })) (of-formed s (a .formed)))
+      (met-marked net m (eqb (length room) (net .places) && eqb (s .places) (net .places)) (record { sized = a .sized; light = a .light; marked = a .marked; fitting = of-fits (a .roomy, a .counted); fine = a .fine; wired = a .wired })) (of-formed s (a .formed)))
 
 -- the answer, from the fault that was found
 module _ (net : Net) (m : List ℕ) (s : Summary) (room : List ℕ) (roomy : Bool) (found : Fault)

@@ -12,7 +12,7 @@ use Rattle.ground.specs.Limits.{countLimit}
 use Rattle.ground.specs.Parts.{up}
 use Rattle.ground.proofs.Fill.{table-length, table-at}
 use Rattle.ground.proofs.Parts.{parts-eq, up-sum, dn-sum}
-use Rattle.net.specs.Net.{Net, tokens, Light}
+use Rattle.net.specs.Net.{Net, tokens}
 use Rattle.net.specs.Firing.{Fires, Within}
 use Rattle.net.proofs.Meaning.{within-stays}
 use Rattle.refusals.specs.Given.{Letters}
@@ -86,17 +86,18 @@ module _ (net : Net) (m : List ℕ) (s : Summary) (room : List ℕ) (allowed : A
   ask-no e = no-means (s .slots) (net .caps) m room r room′ (slots-asked net m s room allowed r room′ p) e .0
 
 -- of a word's summary: yes exactly where the word fires, with the same end marking
-module _ (net : Net) (light : Light net) (m w room : List ℕ) (allowed : Allowed net m w true room) where
+module _ (net : Net) (m w room : List ℕ) (allowed : Allowed net m w true room) where
   ask-allowed : AskAllowed net m (summaryOf net w) room
   ask-allowed =
       record {
         sized = allowed .sized;
+        light = allowed .light;
         marked = allowed .marked;
         roomy = allowed .roomy;
         counted = refl;
         fine = allowed .fine;
         wired = allowed .wired;
-        formed = word-well-formed net w (allowed .sized) light (allowed .short) .formed;
+        formed = word-well-formed net w (allowed .sized) (allowed .light) (allowed .short) .formed;
       }
 
   within-given : Within net m

@@ -3,7 +3,7 @@ use Prim.Native.Nat.{ℕ}
 use mathlib.Core.Path.{_≡_}
 use mathlib.Core.List.{List}
 use lib.ListN.{length}
-use Rattle.net.specs.Net.{Net, Sized}
+use Rattle.net.specs.Net.{Net, Light, Sized}
 use Rattle.wiring.specs.Wired.{Wired}
 use Rattle.refusals.specs.Given.{Fine}
 use Rattle.refusals.specs.First.{First, Given, MarkedFirst}
@@ -14,6 +14,7 @@ use Rattle.summary_form.specs.Allowed.{FormedFirst}
 -- ---- a summary asked against a marking, with a room for the end marking
 pub record AskAllowed (net : Net) (m : List ℕ) (s : Summary) (room : List ℕ) : Type 0 where
   pub sized : Sized net
+  pub light : Light net
   pub marked : length m ≡ net .places
   pub roomy : length room ≡ net .places
   pub counted : s .places ≡ net .places

@@ -23,7 +23,7 @@ pub record Reply : Type 0 where
   pub answer : Asked
   pub left : List ℕ
 
--- 1 for the summary's own place count; 1, 2, 3 and 17 for the net and the marking, with the room's length and the summary's place count; then 6
+-- 1 for the summary's own place count; 1, 2, 18, 3 and 17 for the net and the marking, with the room's length and the summary's place count; then 6
 unfoldable pub askFault : Net → List ℕ → Summary → Bool → Fault
 askFault net m s roomy =
     orElse (refuse (outside (s .places)) 1 0)

@@ -22,8 +22,8 @@ pub enum Asked {
     Refused(u8, usize),
 }
 
-// Refusals 1, 2, 3, 17 and 6 for a net, its marking and a summary; `roomy` tells whether the room's
-// length is right. It is not lent the room, so a refusal cannot touch it.
+// Refusals 1, 2, 18, 3, 17 and 6 for a net, its marking and a summary; `roomy` tells whether the
+// room's length is right. It is not lent the room, so a refusal cannot touch it.
 fn ask_fault(
     places: usize,
     transitions: usize,

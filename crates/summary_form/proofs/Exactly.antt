@@ -23,8 +23,8 @@ pub formed-reads : (s : Summary) → Reads (shapeFault s) (FormedFirst s)
 unfolding shapeFault
 formed-reads s =
     reads-both (reads-test (tells-test _ 6 0 (λ e. ltb-false wordLimit (s .letters) e) (λ h. le-ltb wordLimit (s .letters) h)))
-    (reads-test (tells-as (λ h. record { each = h }) (λ (f : SlotsFormed s). f .each)
-    (tells-scan (λ p. badAt (s .places) (weightLimit * s .letters) p (getD (s .slots) p nil)) countLimit 6 {D = FormedAt s}
+    (reads-test (tells-as (λ h. record { each = h }) (λ (f : SlotsFormed weightLimit s). f .each)
+    (tells-scan (λ p. badAt (s .places) (weightLimit * s .letters) p (getD (s .slots) p nil)) countLimit 6 {D = FormedAt weightLimit s}
     (λ p e. formed-at s p (not-bad _ _ e)) (λ p f. well-not _ _ (at-formed s p f)))))
 
 -- ---- an answer that carries a summary: f is its first fault, s the summary where there is none

@@ -40,7 +40,7 @@ zero-well s w =
 
 -- a slot is well formed by its parts exactly where it is as published
 module _ (s : Summary) (p : ℕ) where
-  pub formed-at : Well (bound (s .places) (s .letters) p) (getD (s .slots) p nil) → FormedAt s p
+  pub formed-at : Well (bound (s .places) (s .letters) p) (getD (s .slots) p nil) → FormedAt weightLimit s p
   formed-at w =
       record {
         at = λ h. let v = here h in record { need = v .need; climb = v .climb; low = neg-le _ _ .1 (v .down); high = le-pos _ _ .1 (v .top) };
@@ -53,7 +53,7 @@ module _ (s : Summary) (p : ℕ) where
       there : s .places ≤ p → Well 0 (getD (s .slots) p nil)
       there h = rw (le-ltb p (s .places) h) at w
 
-  pub at-formed : FormedAt s p → Well (bound (s .places) (s .letters) p) (getD (s .slots) p nil)
+  pub at-formed : FormedAt weightLimit s p → Well (bound (s .places) (s .letters) p) (getD (s .slots) p nil)
   at-formed f = go (decLt p (s .places))
     where
       go : Dec (p < s .places) → Well (bound (s .places) (s .letters) p) (getD (s .slots) p nil)

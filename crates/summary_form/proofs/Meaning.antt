@@ -1,16 +1,17 @@
 -- What a summary means: its numbers are the published ones, and it is well formed exactly where refusal 6 is not given. Assumes nothing.
-use Prim.Native.Nat.{ℕ, _-_, _≤_, _<_}
+use Prim.Native.Nat.{ℕ, _-_, _*_, _≤_, _<_}
 use mathlib.Core.Path.{_≡_, refl, sym, ap, _∙_}
 use mathlib.Core.Bool.{Bool, true, false, cond}
 use mathlib.Core.List.{List, []}
 use mathlib.Core.Logic.{_↔_}
+use native.Mathlib.Nat.{le-trans, mul-le-mul-right}
 use native.Mathlib.Decide.{decLt}
 use native.Mathlib.Omega.{arith}
 use lib.ListN.{length, getD, replicate, length-replicate, getD-replicate}
 use lib.Dec.{ltb, eqb}
 use lib.Seq.{ext-getD}
 use borrow.Author.Tests.{lt-ltb, eqb-true, eqb-false}
-use Rattle.ground.specs.Limits.{countLimit, wordLimit, noCapacity}
+use Rattle.ground.specs.Limits.{countLimit, weightLimit, wordLimit, noCapacity}
 use Rattle.ground.specs.Lists.{most}
 use Rattle.ground.proofs.Fill.{table-length, table-at}
 use Rattle.net.specs.Net.{Net, Pre, Post, capacity, Capped, mark, Pocket, inForce, Light, Sized}
@@ -18,8 +19,9 @@ use Rattle.net.proofs.Rule.{leaves-plain, leaves-pocket, force-capped, force-un
 use Rattle.refusals.specs.declared.Fault.the-variants.{Sound}
 use Rattle.summary_place.specs.Place.{Move, letterAt, need, climb, change, prefixClimb, pocketClimb, publishedClimb}
 use Rattle.summary_place.specs.Slots.{nil, slotOf, slotAt, slotsOf}
+use Rattle.summary_place.specs.declared.Slot.{Slot}
 use Rattle.summary_place.proofs.Words.{climb-prefix, climb-puts}
-use Rattle.summary_form.specs.Summary.{summaryOf, emptySummary, shapeFault, WellFormed, Count, Held}
+use Rattle.summary_form.specs.Summary.{summaryOf, emptySummary, shapeFault, WellAt, FormedAt, WellFormedBy, WellFormed, Count, Held}
 use Rattle.summary_form.specs.declared.Summary.{Summary}
 use Rattle.summary_form.proofs.Formed.{Shaped, formed-of, of-formed, word-shaped, empty-shaped}
 
@@ -97,6 +99,23 @@ empty-word net = λ i. record { places = net .places; letters = 0; slots = same 
 -- refusal 6 is not given exactly where a summary is well formed as published
 pub well-formed-iff : (s : Summary) → (shapeFault s ≡ Sound) ↔ WellFormed s
 well-formed-iff s = (formed-of s, of-formed s)
+
+-- "so every stored summary stays well formed" (document 02, E6): what is well formed by one limit of weights is so by every larger one
+pub still-well-formed : (a b : ℕ) → a ≤ b → (s : Summary) → WellFormedBy a s → WellFormedBy b s
+still-well-formed a b h s w = record { few = w .few; slots = record { each = λ p l. formed p (w .slots .each p l) } }
+  where
+    more : a * s .letters ≤ b * s .letters
+    more = mul-le-mul-right (s .letters) h
+
+    well : (x : Slot) → WellAt a (s .letters) x → WellAt b (s .letters) x
+    well x v = record { need = le-trans (v .need) more; climb = le-trans (v .climb) more; low = v .low; high = v .high }
+
+    formed : (p : ℕ) → FormedAt a s p → FormedAt b s p
+    formed p f = record { at = λ k. well (getD (s .slots) p nil) (f .at k); past = f .past }
+
+-- so one that was stored under any limit up to the one of now, as 01's is, is not refused with 6
+pub stored-stays : (limit : ℕ) → limit ≤ weightLimit → (s : Summary) → WellFormedBy limit s → shapeFault s ≡ Sound
+stored-stays limit h s w = of-formed s (still-well-formed limit weightLimit h s w)
 
 pub word-well-formed : (net : Net) (w : List ℕ) → Sized net → Light net → length w ≤ wordLimit → Held (net .places) (summaryOf net w)
 word-well-formed net w sized light h =

@@ -56,25 +56,31 @@ badOf s = badSlot (s .places) (weightLimit * s .letters) (s .slots)
 unfoldable pub shapeFault : Summary → Fault
 shapeFault s = orElse (refuse (ltb wordLimit (s .letters)) 6 0) (refuse (ltb (badOf s) countLimit) 6 (badOf s))
 
--- at one place: "0 <= need <= 255n, 0 <= climb <= 255n, -need <= change <= climb"
-pub record WellAt (n : ℕ) (s : Slot) : Type 0 where
-  pub need : s .need ≤ weightLimit * n
-  pub climb : s .climb ≤ weightLimit * n
+-- When a summary is well formed, where `limit` is the largest weight; document 02 (E6) puts another in place of 01's, "so every stored summary stays well
+-- formed" (`still-well-formed` in proofs/Meaning.antt).
+-- at one place: "0 <= need <= .., 0 <= climb <= .., -need <= change <= climb", where limit times n stands for the dots
+pub record WellAt (limit n : ℕ) (s : Slot) : Type 0 where
+  pub need : s .need ≤ limit * n
+  pub climb : s .climb ≤ limit * n
   pub low : negℤ (pos (s .need)) ≤ℤ s .change
   pub high : s .change ≤ℤ pos (s .climb)
 
 -- slot p of a summary: at a place as above; "slots past the place count, if the form has any, are zero"
-pub record FormedAt (s : Summary) (p : ℕ) : Type 0 where
-  pub at : p < s .places → WellAt (s .letters) (getD (s .slots) p nil)
+pub record FormedAt (limit : ℕ) (s : Summary) (p : ℕ) : Type 0 where
+  pub at : p < s .places → WellAt limit (s .letters) (getD (s .slots) p nil)
   pub past : s .places ≤ p → getD (s .slots) p nil ≡ nil
 
-pub record SlotsFormed (s : Summary) : Type 0 where
-  pub each : (p : ℕ) → p < countLimit → FormedAt s p
+pub record SlotsFormed (limit : ℕ) (s : Summary) : Type 0 where
+  pub each : (p : ℕ) → p < countLimit → FormedAt limit s p
 
 -- "It is well formed if n <= 65,535 and at each place .."
-pub record WellFormed (s : Summary) : Type 0 where
+pub record WellFormedBy (limit : ℕ) (s : Summary) : Type 0 where
   pub few : s .letters ≤ wordLimit
-  pub slots : SlotsFormed s
+  pub slots : SlotsFormed limit s
+
+-- by the limit in force
+abbrev pub WellFormed : Summary → Type 0
+WellFormed s = WellFormedBy weightLimit s
 
 -- a place count of 1 to 64
 pub record Count (P : ℕ) : Type 0 where

@@ -40,7 +40,8 @@ joined a b =
 abbrev pub joinedAll : List Slot → List Slot → List Slot
 joinedAll a b = mapAt (λ k x. joined x (getD b k nil)) a
 
--- not "0 <= need <= 255n, 0 <= climb <= 255n, -need <= change <= climb", where cap is 255n; at cap 0 only the zero slot is well formed
+-- not "0 <= need <= .., 0 <= climb <= .., -need <= change <= climb", where cap stands for the dots: the largest weight times n; at cap 0 only the zero
+-- slot is well formed
 unfoldable pub slotBad : ℕ → Slot → Bool
 slotBad cap s =
     ltb cap (s .need) || (ltb cap (s .climb) || (ltb (s .need) (dn (s .change)) || ltb (s .climb) (up (s .change))))

@@ -22,12 +22,12 @@ module _ (net : Net) (n : ℕ) (y : List ℤ) where
   allowed-of e =
       let a = or-sound (netFault net (eqb (length y) n)) (refuse (allZero y) 8 0) e in
       let m = net-met net (eqb (length y) n) (a .0) in
-      record { sized = m .sized; long = eqb-true (length y) n (m .fitting); wired = m .wired; some = some-of y (refuse-sound (allZero y) 8 0 (a .1)) }
+      record { sized = m .sized; light = m .light; long = eqb-true (length y) n (m .fitting); wired = m .wired; some = some-of y (refuse-sound (allZero y) 8 0 (a .1)) }
 
   pub of-allowed : Allowed net n y → weightingFault net n y ≡ Sound
   of-allowed a =
       sound-or (netFault net (eqb (length y) n)) (refuse (allZero y) 8 0)
-      (met-net net (eqb (length y) n) (record { sized = a .sized; fitting = eq-eqb (length y) n (a .long); wired = a .wired }))
+      (met-net net (eqb (length y) n) (record { sized = a .sized; light = a .light; fitting = eq-eqb (length y) n (a .long); wired = a .wired }))
       (sound-refuse (allZero y) 8 0 (of-some y (a .some)))
 
   pub weighting-chain : Chain (weightingFault net n y) (Refusal net n y)

@@ -4,7 +4,7 @@ use mathlib.Core.Path.{_≡_}
 use mathlib.Core.List.{List}
 use lib.ListN.{length}
 use lib.IntN.{ℤ}
-use Rattle.net.specs.Net.{Net, Sized}
+use Rattle.net.specs.Net.{Net, Light, Sized}
 use Rattle.wiring.specs.Wired.{Wired}
 use Rattle.refusals.specs.First.{First, Given, NetFirst}
 use Rattle.weighting_sums.specs.Allowed.{SomeEntry}
@@ -12,6 +12,7 @@ use Rattle.weighting_sums.specs.Allowed.{SomeEntry}
 -- a weighting of n entries, one for each place or each transition, that no refusal meets
 pub record Allowed (net : Net) (n : ℕ) (y : List ℤ) : Type 0 where
   pub sized : Sized net
+  pub light : Light net
   pub long : length y ≡ n
   pub wired : Wired net
   pub some : SomeEntry y

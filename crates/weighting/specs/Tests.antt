@@ -9,6 +9,6 @@ use Rattle.refusals.specs.Given.{refuse, orElse, netFault}
 use Rattle.refusals.specs.declared.Fault.{Fault}
 use Rattle.weighting_sums.specs.Tests.{allZero}
 
--- refusals 1, 2 and 17, then 8, for a weighting that has n entries
+-- refusals 1, 2, 18 and 17, then 8, for a weighting that has n entries
 abbrev pub weightingFault : Net → ℕ → List ℤ → Fault
 weightingFault net n y = orElse (netFault net (eqb (length y) n)) (refuse (allZero y) 8 0)

@@ -25,7 +25,7 @@ pub enum TransitionWeighting {
     Refused(u8, usize),
 }
 
-// Refusals 1, 2, 17 and 8 for a weighting of so many entries.
+// Refusals 1, 2, 18, 17 and 8 for a weighting of so many entries.
 fn weighting_fault(
     places: usize,
     transitions: usize,

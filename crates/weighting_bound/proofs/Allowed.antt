@@ -25,6 +25,7 @@ module _ (net : Net) (initial : List ℕ) (y : List ℤ) (p : ℕ) where
       let m = marked-met net initial (eqb (length y) (net .places)) (a .0) in
       record {
         sized = m .sized;
+        light = m .light;
         marked = m .marked;
         long = eqb-true (length y) (net .places) (m .fitting);
         fine = m .fine;
@@ -36,7 +37,7 @@ module _ (net : Net) (initial : List ℕ) (y : List ℤ) (p : ℕ) where
   pub of-bound-allowed : BoundAllowed net initial y p → boundFault net initial y p ≡ Sound
   of-bound-allowed a =
       sound-or (markedFault net initial (eqb (length y) (net .places))) (orElse (refuse (allZero y) 8 0) (refuse (leb (net .places) p) 13 0))
-      (met-marked net initial (eqb (length y) (net .places)) (record { sized = a .sized; marked = a .marked; fitting = eq-eqb (length y) (net .places) (a .long); fine = a .fine; wired = a .wired }))
+      (met-marked net initial (eqb (length y) (net .places)) (record { sized = a .sized; light = a .light; marked = a .marked; fitting = eq-eqb (length y) (net .places) (a .long); fine = a .fine; wired = a .wired }))
       (sound-or (refuse (allZero y) 8 0) (refuse (leb (net .places) p) 13 0) (sound-refuse (allZero y) 8 0 (of-some y (a .some))) (sound-refuse (leb (net .places) p) 13 0 (lt-leb (net .places) p (a .below))))
 
   pub bound-chain : Chain (boundFault net initial y p) (BoundRefusal net initial y p)

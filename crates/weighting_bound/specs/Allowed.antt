@@ -4,7 +4,7 @@ use mathlib.Core.Path.{_≡_}
 use mathlib.Core.List.{List}
 use lib.ListN.{length}
 use lib.IntN.{ℤ}
-use Rattle.net.specs.Net.{Net, Sized}
+use Rattle.net.specs.Net.{Net, Light, Sized}
 use Rattle.wiring.specs.Wired.{Wired}
 use Rattle.refusals.specs.Given.{Fine}
 use Rattle.refusals.specs.First.{First, Given, MarkedFirst}
@@ -13,6 +13,7 @@ use Rattle.weighting_sums.specs.Allowed.{SomeEntry}
 -- a marking, a weighting and a place that no refusal meets, where a bound is asked
 pub record BoundAllowed (net : Net) (initial : List ℕ) (y : List ℤ) (p : ℕ) : Type 0 where
   pub sized : Sized net
+  pub light : Light net
   pub marked : length initial ≡ net .places
   pub long : length y ≡ net .places
   pub fine : Fine (net .caps) initial

@@ -18,7 +18,7 @@ use Rattle.weighting_bound.specs.declared.Bound.the-variants.{Bounded, N
 use lib.ListN.{length}
 use Rattle.refusals.specs.Given.{refuse, orElse, markedFault}
 
--- refusals 1, 2, 3 and 17, then 8, then 13 for a bound: "a place number not below P"
+-- refusals 1, 2, 18, 3 and 17, then 8, then 13 for a bound: "a place number not below P"
 abbrev pub boundFault : Net → List ℕ → List ℤ → ℕ → Fault
 boundFault net initial y p =
     orElse (markedFault net initial (eqb (length y) (net .places))) (orElse (refuse (allZero y) 8 0) (refuse (leb (net .places) p) 13 0))

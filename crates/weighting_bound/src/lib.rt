@@ -22,7 +22,7 @@ pub enum Bound {
     Refused(u8, usize),
 }
 
-// Refusals 1, 2, 3, 17, 8 and 13 for a bound.
+// Refusals 1, 2, 18, 3, 17, 8 and 13 for a bound.
 fn bound_fault(
     places: usize,
     transitions: usize,

@@ -6,3 +6,4 @@ pub mod Lowest
 pub mod Zero
 pub mod Numbers
 pub mod Meaning
+pub mod Largest

@@ -29,7 +29,7 @@ fn share_of(x: i16, takes: Weight, puts: Weight) -> u64
 {
     let up = up_entry(x);
     let down = down_entry(x);
-    times(up, puts as u16) + times(down, takes as u16)
+    times(up, puts) + times(down, takes)
 }
 
 // What one line of the tables adds to a weighted sum, as two unsigned numbers: its sum is what is

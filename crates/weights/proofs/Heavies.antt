@@ -30,8 +30,6 @@ module _ (limit takes puts : ℕ) where
   pub over-none : takes ≤ limit → puts ≤ limit → 0 ≡ bit (ltb limit takes || ltb limit puts)
   over-none h l = rw (le-ltb limit takes h, le-ltb limit puts l)
 
-pub ruleset overs = (over-taken, over-put, over-none)
-
 -- the pass over a row has come to its end
 pub row-told : (limit : ℕ) (takes puts : List ℕ) (i n : ℕ) → n ≡ tally (overAt limit takes puts) i → i ≤ length takes → length takes ≤ i → ltb 0 n ≡ rowOver limit takes puts
 unfolding rowOver
@@ -80,20 +78,27 @@ module _ (net : Net) (t : ℕ) (sized : Sized net) (h : t < net .transitions) wh
   long : length (row (net .places) t (net .pre)) ≡ net .places
   long = row-length (net .places) t (net .pre) (pre-end net (net .caps) t sized h)
 
-  -- the two rows are as long as each other, and not too long for a pass
-  pub rows-long : (length (row (net .places) t (net .post)) ≡ length (row (net .places) t (net .pre))) × (length (row (net .places) t (net .pre)) ≤ countLimit)
-  rows-long = (row-length (net .places) t (net .post) (post-end net (net .caps) t sized h) ∙ sym long, rw long (sized .few-places))
+  -- each of the two rows has an entry for each place, and these are not too many for a pass
+  pub rows-long : (length (row (net .places) t (net .pre)) ≡ net .places) × ((length (row (net .places) t (net .post)) ≡ net .places) × (net .places ≤ countLimit))
+  rows-long = (long, (row-length (net .places) t (net .post) (post-end net (net .caps) t sized h), sized .few-places))
 
   pub rows-heavy : rowOver weightLimit (row (net .places) t (net .pre)) (row (net .places) t (net .post)) ≡ heavy net t
   unfolding rowOver heavy
   rows-heavy =
-      rw (long, tally-alike (overAt weightLimit (row (net .places) t (net .pre)) (row (net .places) t (net .post)))
-      (λ p. ltb weightLimit (Pre net p t) || ltb weightLimit (Post net p t)) (net .places)
-      (λ p l. rw (row-at (net .places) t (net .pre) p l, row-at (net .places) t (net .post) p l)))
+      rw (
+        long,
+        tally-alike (overAt weightLimit (row (net .places) t (net .pre)) (row (net .places) t (net .post)))
+            (λ p. ltb weightLimit (Pre net p t) || ltb weightLimit (Post net p t)) (net .places)
+            (λ p l. rw (row-at (net .places) t (net .pre) p l, row-at (net .places) t (net .post) p l)),
+      )
 
 -- an entry of a table with T rows of P entries is one of a row
 entry-row : (P T k : ℕ) → 1 ≤ P → k < T * P → (k / P < T) × ((k % P < P) × (k / P * P + k % P ≡ k))
 entry-row P T k h l = (div-lt-iff-lt-mul h .1 l, (mod-lt k h, div-add-mod' k P))
+
+-- each transition of a light net is light
+pub light-each : (net : Net) → Light net → (t : ℕ) → LightAt net t
+light-each net l t = record { pre = λ p h. l .pre (t * net .places + p); post = λ p h. l .post (t * net .places + p) }
 
 -- no transition is found exactly where the net is light
 pub light-of : (net : Net) → Sized net → lowestHeavy net ≡ net .transitions → Light net
@@ -115,6 +120,4 @@ light-of net sized e = record { pre = λ k. pres k (decLt k (net .transitions * 
     posts k (no n) = rw (List·getD-eq-default (net .post) 0 {n = k} (omega (arith, sized .posts))) zero-le
 
 pub of-light : (net : Net) → Sized net → Light net → lowestHeavy net ≡ net .transitions
-of-light net sized l =
-    first-none (heavy net) (net .transitions)
-    (λ t h. at-light net t (record { pre = λ p k. l .pre (t * net .places + p); post = λ p k. l .post (t * net .places + p) }))
+of-light net sized l = first-none (heavy net) (net .transitions) (λ t h. at-light net t (light-each net l t))

@@ -14,7 +14,7 @@ ghost use Rattle.weights.specs.Heavy.{rowOver, heavy, lowestHeavy};
 
 // 1 where a weight taken or put is over the limit, else 0: a number, so that a pass over a row only
 // adds.
-fn over_at(limit: u32, takes: Weight, puts: Weight) -> u32
+pub fn over_at(limit: u32, takes: Weight, puts: Weight) -> u32
     ensures { λ r. ⌜ r ≡ bit (ltb limit takes || ltb limit puts) ⌝ }
 {
     if limit < takes as u32 {

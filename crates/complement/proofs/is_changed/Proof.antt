@@ -34,11 +34,17 @@ mul-at c = omega (arith, cell c)
 add-at : tie.Need-add-at Inv-loop μ-loop
 add-at c = omega (arith, cell c)
 
+mul-takes : tie.Need-mul-takes Inv-loop μ-loop
+mul-takes c = let i : tie.In-loop Inv-loop μ-loop = search needs in omega (arith, cell i)
+
 shared-slice-read-takes : tie.Need-shared-slice-read-takes Inv-loop μ-loop
-shared-slice-read-takes c = omega (arith, cell (c .before))
+shared-slice-read-takes c = let i : tie.In-loop Inv-loop μ-loop = search needs in omega (arith, cell i)
+
+mul-puts : tie.Need-mul-puts Inv-loop μ-loop
+mul-puts c = let i : tie.In-loop Inv-loop μ-loop = search needs in omega (arith, cell i)
 
 shared-slice-read-puts : tie.Need-shared-slice-read-puts Inv-loop μ-loop
-shared-slice-read-puts c = omega (arith, cell (c .before .before))
+shared-slice-read-puts c = let i : tie.In-loop Inv-loop μ-loop = search needs in omega (arith, cell i)
 
 is-change-requires : tie.Need-is-change-requires Inv-loop μ-loop
 is-change-requires c κs = search needs
@@ -67,7 +73,9 @@ is-changed-spec =
     loop-holds
     mul-at
     add-at
+    mul-takes
     shared-slice-read-takes
+    mul-puts
     shared-slice-read-puts
     is-change-requires
     returns

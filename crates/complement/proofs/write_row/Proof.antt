@@ -36,14 +36,20 @@ mul-p c = search needs
 shared-slice-read-p : tie.Need-shared-slice-read-p Inv-loop μ-loop
 shared-slice-read-p c = omega (arith, c .before .loop-test .taken)
 
+mul-taken : tie.Need-mul-taken Inv-loop μ-loop
+mul-taken c = let i : Turn = search needs in omega (arith, i .loop-test .taken, start i .pre .0, inside i)
+
 shared-slice-read-taken : tie.Need-shared-slice-read-taken Inv-loop μ-loop
-shared-slice-read-taken c = let i : Turn = c .before .before in omega (arith, i .loop-test .taken, start i .pre .0, inside i)
+shared-slice-read-taken c = let i : Turn = search needs in omega (arith, i .loop-test .taken, start i .pre .0, inside i)
+
+mul-put : tie.Need-mul-put Inv-loop μ-loop
+mul-put c = let i : Turn = search needs in omega (arith, i .loop-test .taken, start i .pre .0, inside i)
 
 shared-slice-read-put : tie.Need-shared-slice-read-put Inv-loop μ-loop
-shared-slice-read-put c = let i : Turn = c .before .before .before in omega (arith, i .loop-test .taken, start i .pre .0, inside i)
+shared-slice-read-put c = let i : Turn = search needs in omega (arith, i .loop-test .taken, start i .pre .0, inside i)
 
 shared-slice-read-mark : tie.Need-shared-slice-read-mark Inv-loop μ-loop
-shared-slice-read-mark c = let i : Turn = c .before .before .before .before in omega (arith, i .loop-test .taken, start i .pre .1 .0, inside i)
+shared-slice-read-mark c = let i : Turn = search needs in omega (arith, i .loop-test .taken, start i .pre .1 .0, inside i)
 
 taken-from-requires : tie.Need-taken-from-requires Inv-loop μ-loop
 taken-from-requires c κs = search needs
@@ -51,8 +57,11 @@ taken-from-requires c κs = search needs
 add-pre2 : tie.Need-add-pre2 Inv-loop μ-loop
 add-pre2 c = search needs
 
+mul-pre2 : tie.Need-mul-pre2 Inv-loop μ-loop
+mul-pre2 c = search needs
+
 slice-write-pre2 : tie.Need-slice-write-pre2 Inv-loop μ-loop
-slice-write-pre2 c = let i : Turn = c .before .before .before .before .before in omega (arith, i .loop-test .taken, start i .pre .1 .1 .1 .0, i .before .loop .inv .0 .long)
+slice-write-pre2 c = let i : Turn = search needs in omega (arith, i .loop-test .taken, start i .pre .1 .1 .1 .0, i .before .loop .inv .0 .long)
 
 put-to-requires : tie.Need-put-to-requires Inv-loop μ-loop
 put-to-requires c κs = search needs
@@ -60,14 +69,17 @@ put-to-requires c κs = search needs
 add-post2 : tie.Need-add-post2 Inv-loop μ-loop
 add-post2 c = search needs
 
+mul-post2 : tie.Need-mul-post2 Inv-loop μ-loop
+mul-post2 c = search needs
+
 slice-write-post2 : tie.Need-slice-write-post2 Inv-loop μ-loop
-slice-write-post2 c = let i : Turn = c .before .before .before .before .before .before in omega (arith, i .loop-test .taken, start i .pre .1 .1 .1 .1, i .before .loop .inv .1 .long)
+slice-write-post2 c = let i : Turn = search needs in omega (arith, i .loop-test .taken, start i .pre .1 .1 .1 .1, i .before .loop .inv .1 .long)
 
 add-q : tie.Need-add-q Inv-loop μ-loop
 add-q c = search needs
 
 loop-less : tie.Need-loop-less Inv-loop μ-loop
-loop-less c = let i : Turn = c .before .before .before .before .before .before in omega (arith, i .loop-test .taken)
+loop-less c = let i : Turn = search needs in omega (arith, i .loop-test .taken)
 
 loop-again : tie.Need-loop-again Inv-loop μ-loop
 loop-again c =
@@ -104,14 +116,18 @@ write-row-spec =
     loop-holds
     mul-p
     shared-slice-read-p
+    mul-taken
     shared-slice-read-taken
+    mul-put
     shared-slice-read-put
     shared-slice-read-mark
     taken-from-requires
     add-pre2
+    mul-pre2
     slice-write-pre2
     put-to-requires
     add-post2
+    mul-post2
     slice-write-post2
     add-q
     loop-less

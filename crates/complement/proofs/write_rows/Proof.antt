@@ -76,6 +76,9 @@ mul-a c = omega (arith, pre-end c)
 add-e : tie.Need-add-e Inv-loop μ-loop
 add-e c = omega (arith, pre-end c)
 
+mul-write-row : tie.Need-mul-write-row Inv-loop μ-loop
+mul-write-row c = let i : Turn = search needs in omega (arith, pre-end i)
+
 sub-write-row : tie.Need-sub-write-row Inv-loop μ-loop
 sub-write-row c = search needs
 
@@ -85,6 +88,9 @@ part-write-row-start c = search needs
 part-write-row-end : tie.Need-part-write-row-end Inv-loop μ-loop
 part-write-row-end c = omega (arith, pre-end c)
 
+mul-write-row-2 : tie.Need-mul-write-row-2 Inv-loop μ-loop
+mul-write-row-2 c = let i : Turn = search needs in omega (arith, post-end i)
+
 sub-write-row-2 : tie.Need-sub-write-row-2 Inv-loop μ-loop
 sub-write-row-2 c = search needs
 
@@ -92,10 +98,10 @@ part-write-row-start-2 : tie.Need-part-write-row-start-2 Inv-loop μ-loop
 part-write-row-start-2 c = search needs
 
 part-write-row-end-2 : tie.Need-part-write-row-end-2 Inv-loop μ-loop
-part-write-row-end-2 c = omega (arith, post-end (c .before))
+part-write-row-end-2 c = let i : Turn = search needs in omega (arith, post-end i)
 
-mul-write-row : tie.Need-mul-write-row Inv-loop μ-loop
-mul-write-row c = omega (arith, pre-room (c .before .before), pre-same (c .before .before))
+mul-write-row-3 : tie.Need-mul-write-row-3 Inv-loop μ-loop
+mul-write-row-3 c = let i : Turn = search needs in omega (arith, pre-room i, pre-same i)
 
 write-row-requires : tie.Need-write-row-requires Inv-loop μ-loop
 write-row-requires c κs =
@@ -152,13 +158,15 @@ write-rows-spec =
     loop-holds
     mul-a
     add-e
+    mul-write-row
     sub-write-row
     part-write-row-start
     part-write-row-end
+    mul-write-row-2
     sub-write-row-2
     part-write-row-start-2
     part-write-row-end-2
-    mul-write-row
+    mul-write-row-3
     write-row-requires
     add-t
     loop-less

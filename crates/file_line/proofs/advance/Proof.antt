@@ -1,6 +1,6 @@
 use native.Mathlib.Omega.{arith}
 use mathlib.Core.Path.{sym, _∙_}
-use Rattle.file_line.proofs.Accept.{both, advanced-01, advanced-04, advanced-05, advanced-rest}
+use Rattle.file_line.proofs.Accept.{both, advanced-01, advanced-row, advanced-05, advanced-rest}
 use borrow.Author.Needs.{needs}
 use Rattle.file_line.proofs.advance.Statement.{statement}
 use Rattle.file_line.proofs.advance.Tie as tie
@@ -52,7 +52,7 @@ returns c =
 returns-2 : tie.Need-returns-2
 returns-2 c =
     let s = c .before .before .before .before .before .before in
-    both _ _ _ (s .pre .0) (s .pre .1) (advanced-04 _ _ _ _ (c .before .before .before .before .byte-at .ensures) (c .before .before .before .phase-after .ensures) (c .before .before .match .keys2))
+    both _ _ _ (s .pre .0) (s .pre .1) (advanced-row _ _ _ _ (c .before .before .before .before .byte-at .ensures) (c .before .before .before .phase-after .ensures) (c .before .before .match .keys2))
 
 returns-3 : tie.Need-returns-3
 returns-3 c =

@@ -24,14 +24,17 @@ mul-result-2 c = search needs
 add-result-2 : tie.Need-add-result-2
 add-result-2 c = search needs
 
-is-row-requires : tie.Need-is-row-requires
-is-row-requires c κs = search needs
+is-narrow-row-requires : tie.Need-is-narrow-row-requires
+is-narrow-row-requires c κs = search needs
 
 is-block-requires : tie.Need-is-block-requires
 is-block-requires c κs = search needs
 
 is-pockets-requires : tie.Need-is-pockets-requires
 is-pockets-requires c κs = search needs
+
+is-wide-row-requires : tie.Need-is-wide-row-requires
+is-wide-row-requires c κs = search needs
 
 returns-2 : tie.Need-returns-2
 returns-2 c = search (forms, needs)
@@ -54,6 +57,9 @@ returns-7 c = search (forms, needs)
 returns-8 : tie.Need-returns-8
 returns-8 c = search (forms, needs)
 
+returns-9 : tie.Need-returns-9
+returns-9 c = search (forms, needs)
+
 pub is-formed-spec : {M : Type 1} → statement M
 is-formed-spec =
     tie.close
@@ -65,13 +71,15 @@ is-formed-spec =
     add-result
     mul-result-2
     add-result-2
-    is-row-requires
+    is-narrow-row-requires
     is-block-requires
     is-pockets-requires
+    is-wide-row-requires
     returns-2
     returns-3
     returns-4
     returns-5
     returns-6
     returns-7
-    returns-8)
+    returns-8
+    returns-9)

@@ -5,8 +5,8 @@ use mathlib.Core.Bool.{true}
 use borrow.Author.Tests.{not-true, not-false}
 use Rattle.file_line.specs.Read.{ruleOf, formedOf}
 use Rattle.file_line.proofs.Turns.{rule-says}
-use Rattle.file_line.proofs.Order.{formed-of, formed-01, formed-03}
-use Rattle.file_line.proofs.Judging.{judge-rule, judge-form, judge-01, judge-03, judge-05, judge-rest}
+use Rattle.file_line.proofs.Order.{formed-of, formed-01, formed-03, formed-07}
+use Rattle.file_line.proofs.Judging.{judge-rule, judge-form, judge-01, judge-03, judge-05, judge-07, judge-rest}
 use borrow.Author.Needs.{needs}
 use Rattle.file_line.proofs.judge.Statement.{statement}
 use Rattle.file_line.proofs.judge.Tie as tie
@@ -51,6 +51,11 @@ letters-fault-requires c κs =
     let z = rule-says _ (ruled (c .before .before)) in
     (c .before .before .before .before .before .before .before .before .before .pre .0 .letters, z .0)
 
+weights-fault-requires : tie.Need-weights-fault-requires
+weights-fault-requires c κs =
+    let p = c .before .before .before .before .before .before .before .before .before .pre in
+    (p .0 .places, formed-07 _ _ (formed-of _ _ (shaped (c .before .before))) (sym (c .before .byte-at .ensures) ∙ c .match .keys4) .1)
+
 returns-3 : tie.Need-returns-3
 returns-3 c = judge-01 _ _ _ (ruled (c .before .before .before)) (shaped (c .before .before .before)) _ (sym (c .before .before .byte-at .ensures) ∙ c .before .match .keys1) (c .counts-fault .ensures)
 
@@ -61,10 +66,13 @@ returns-5 : tie.Need-returns-5
 returns-5 c = judge-05 _ _ _ (ruled (c .before .before .before)) (shaped (c .before .before .before)) _ (sym (c .before .before .byte-at .ensures) ∙ c .before .match .keys3) (c .letters-fault .ensures)
 
 returns-6 : tie.Need-returns-6
-returns-6 c =
+returns-6 c = judge-07 _ _ _ (ruled (c .before .before .before)) (shaped (c .before .before .before)) _ (sym (c .before .before .byte-at .ensures) ∙ c .before .match .keys4) (c .weights-fault .ensures)
+
+returns-7 : tie.Need-returns-7
+returns-7 c =
     let e = sym (c .before .byte-at .ensures) in
     let r = c .match .rest in
-    judge-rest _ _ _ (ruled (c .before .before)) (shaped (c .before .before)) (λ q. r .0 .0 .1 (sym e ∙ q)) (λ q. r .0 .1 (sym e ∙ q)) (λ q. r .1 (sym e ∙ q))
+    judge-rest _ _ _ (ruled (c .before .before)) (shaped (c .before .before)) (λ q. r .0 .0 .0 .1 (sym e ∙ q)) (λ q. r .0 .0 .1 (sym e ∙ q)) (λ q. r .0 .1 (sym e ∙ q)) (λ q. r .1 (sym e ∙ q))
 
 pub judge-spec : {M : Type 1} → statement M
 judge-spec =
@@ -79,7 +87,9 @@ judge-spec =
     counts-fault-requires
     tokens-fault-requires
     letters-fault-requires
+    weights-fault-requires
     returns-3
     returns-4
     returns-5
-    returns-6)
+    returns-6
+    returns-7)

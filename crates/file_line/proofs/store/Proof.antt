@@ -1,7 +1,7 @@
 use native.Mathlib.Omega.{arith}
 use mathlib.Core.Path.{sym, _∙_}
 use Rattle.file_line.specs.Read.{storedKind}
-use Rattle.file_line.proofs.Accept.{stored-rest}
+use Rattle.file_line.proofs.Accept.{row-room, stored-row, stored-rest}
 use borrow.Author.Needs.{needs}
 use Rattle.file_line.proofs.store.Statement.{statement}
 use Rattle.file_line.proofs.store.Tie as tie
@@ -25,12 +25,18 @@ store-words-requires c κs =
     let a = start k .pre .1 .tokens (sym (k .byte-at .ensures) ∙ c .before .match .keys2) in
     omega (arith, a .1, start k .pre)
 
+mul-row : tie.Need-mul-row
+mul-row c =
+    let k = c .before .before in
+    let z = row-room _ _ (start k .pre .0) (start k .pre .1) _ (k .byte-at .ensures) (c .before .match .keys3) in
+    omega (arith, z .2)
+
 store-row-requires : tie.Need-store-row-requires
 store-row-requires c κs =
-    let k = c .before .before .before in
+    let k = c .before .before .before .before in
     let p = start k .pre in
-    let a = p .1 .row (sym (k .byte-at .ensures) ∙ c .before .before .match .keys3) in
-    (p .0, p .0 .rows (a .0), a .1, p .2 .pre, p .2 .post)
+    let z = row-room _ _ (p .0) (p .1) _ (k .byte-at .ensures) (c .before .before .before .match .keys3) in
+    (z .0, z .1, omega (arith, z .2, p .2 .pre), omega (arith, z .2, p .2 .post))
 
 sub-n : tie.Need-sub-n
 sub-n c = search needs
@@ -81,11 +87,10 @@ same-length-5 : tie.Need-same-length-5
 same-length-5 c = search needs
 
 returns-3 : tie.Need-returns-3
-unfolding storedKind
 returns-3 c =
-    let m = c .before .before .before .before .before .before .before in
     let w = c .before .before .before .before in
-    simp (sym (m .before .byte-at .ensures) ∙ m .match .keys3, w .store-row .ensures .0, w .store-row .ensures .1)
+    let m = w .before .before .before .before in
+    stored-row _ _ _ _ _ _ (m .before .byte-at .ensures) (m .match .keys3) (w .store-row .ensures .0) (w .store-row .ensures .1)
 
 same-length-6 : tie.Need-same-length-6
 same-length-6 c = search needs
@@ -117,6 +122,7 @@ store-spec =
     byte-at-requires
     store-caps-requires
     store-words-requires
+    mul-row
     store-row-requires
     sub-n
     store-bytes-requires

@@ -3,7 +3,7 @@ use Prim.Native.Nat.{_-_}
 use lib.ListN.{length, take}
 use Rattle.file_put.specs.Put.{Put}
 use Rattle.file_put.proofs.Appends.{append-long}
-use Rattle.file_out.proofs.Listed.{listed, bytes-at}
+use Rattle.file_put.proofs.Listed.{listed, bytes-at}
 use borrow.Author.Needs.{needs}
 use Rattle.file_out.proofs.put_bytes.Statement.{statement}
 use Rattle.file_out.proofs.put_bytes.Tie as tie

@@ -45,8 +45,24 @@ add-e c =
     let h = next-fits (at s) (now (s .args .skips)) (now (s .args .listed)) (s .args .t) (s .pre .0) (s .pre .1 .0) (s .pre .1 .1 .0 .0) (s .pre .1 .1 .0 .1) (l .before .loop .p) (l .loop-test .taken) (l .before .loop .inv .0) (f .next-place .result) (f .next-place .ensures) in
     search needs
 
+mul-moved : tie.Need-mul-moved Inv-loop μ-loop
+mul-moved c =
+    let s : tie.Start Inv-loop μ-loop = search needs in
+    let l : tie.In-loop Inv-loop μ-loop = search needs in
+    let f : tie.After-next-place Inv-loop μ-loop = search needs in
+    let h = next-fits (at s) (now (s .args .skips)) (now (s .args .listed)) (s .args .t) (s .pre .0) (s .pre .1 .0) (s .pre .1 .1 .0 .0) (s .pre .1 .1 .0 .1) (l .before .loop .p) (l .loop-test .taken) (l .before .loop .inv .0) (f .next-place .result) (f .next-place .ensures) in
+    search needs
+
 shared-slice-read-moved : tie.Need-shared-slice-read-moved Inv-loop μ-loop
 shared-slice-read-moved c =
+    let s : tie.Start Inv-loop μ-loop = search needs in
+    let l : tie.In-loop Inv-loop μ-loop = search needs in
+    let f : tie.After-next-place Inv-loop μ-loop = search needs in
+    let h = next-fits (at s) (now (s .args .skips)) (now (s .args .listed)) (s .args .t) (s .pre .0) (s .pre .1 .0) (s .pre .1 .1 .0 .0) (s .pre .1 .1 .0 .1) (l .before .loop .p) (l .loop-test .taken) (l .before .loop .inv .0) (f .next-place .result) (f .next-place .ensures) in
+    search needs
+
+mul-moved-2 : tie.Need-mul-moved-2 Inv-loop μ-loop
+mul-moved-2 c =
     let s : tie.Start Inv-loop μ-loop = search needs in
     let l : tie.In-loop Inv-loop μ-loop = search needs in
     let f : tie.After-next-place Inv-loop μ-loop = search needs in
@@ -61,8 +77,8 @@ shared-slice-read-moved-2 c =
     let h = next-fits (at s) (now (s .args .skips)) (now (s .args .listed)) (s .args .t) (s .pre .0) (s .pre .1 .0) (s .pre .1 .1 .0 .0) (s .pre .1 .1 .0 .1) (l .before .loop .p) (l .loop-test .taken) (l .before .loop .inv .0) (f .next-place .result) (f .next-place .ensures) in
     search needs
 
-mul-moved : tie.Need-mul-moved Inv-loop μ-loop
-mul-moved c =
+mul-moved-3 : tie.Need-mul-moved-3 Inv-loop μ-loop
+mul-moved-3 c =
     let s : tie.Start Inv-loop μ-loop = search needs in
     let l : tie.In-loop Inv-loop μ-loop = search needs in
     let f : tie.After-next-place Inv-loop μ-loop = search needs in
@@ -138,9 +154,11 @@ fire-arcs-spec =
     loop-holds
     next-place-requires
     add-e
-    shared-slice-read-moved
-    shared-slice-read-moved-2
     mul-moved
+    shared-slice-read-moved
+    mul-moved-2
+    shared-slice-read-moved-2
+    mul-moved-3
     shared-slice-read-moved-3
     moved-requires
     mul-room

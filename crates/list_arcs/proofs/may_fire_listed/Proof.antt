@@ -46,8 +46,24 @@ add-e c =
     let h = next-fits (at s) (now (s .args .skips)) (now (s .args .listed)) (s .args .t) (s .pre .0) (s .pre .1 .0) (s .pre .1 .1 .0 .0) (s .pre .1 .1 .0 .1) (l .before .loop .p) (l .loop-test .taken) (l .before .loop .inv .0) (f .next-place .result) (f .next-place .ensures) in
     search needs
 
+mul-is-stopped : tie.Need-mul-is-stopped Inv-loop μ-loop
+mul-is-stopped c =
+    let s : tie.Start Inv-loop μ-loop = search needs in
+    let l : tie.In-loop Inv-loop μ-loop = search needs in
+    let f : tie.After-next-place Inv-loop μ-loop = search needs in
+    let h = next-fits (at s) (now (s .args .skips)) (now (s .args .listed)) (s .args .t) (s .pre .0) (s .pre .1 .0) (s .pre .1 .1 .0 .0) (s .pre .1 .1 .0 .1) (l .before .loop .p) (l .loop-test .taken) (l .before .loop .inv .0) (f .next-place .result) (f .next-place .ensures) in
+    search needs
+
 shared-slice-read-is-stopped : tie.Need-shared-slice-read-is-stopped Inv-loop μ-loop
 shared-slice-read-is-stopped c =
+    let s : tie.Start Inv-loop μ-loop = search needs in
+    let l : tie.In-loop Inv-loop μ-loop = search needs in
+    let f : tie.After-next-place Inv-loop μ-loop = search needs in
+    let h = next-fits (at s) (now (s .args .skips)) (now (s .args .listed)) (s .args .t) (s .pre .0) (s .pre .1 .0) (s .pre .1 .1 .0 .0) (s .pre .1 .1 .0 .1) (l .before .loop .p) (l .loop-test .taken) (l .before .loop .inv .0) (f .next-place .result) (f .next-place .ensures) in
+    search needs
+
+mul-is-stopped-2 : tie.Need-mul-is-stopped-2 Inv-loop μ-loop
+mul-is-stopped-2 c =
     let s : tie.Start Inv-loop μ-loop = search needs in
     let l : tie.In-loop Inv-loop μ-loop = search needs in
     let f : tie.After-next-place Inv-loop μ-loop = search needs in
@@ -62,8 +78,8 @@ shared-slice-read-is-stopped-2 c =
     let h = next-fits (at s) (now (s .args .skips)) (now (s .args .listed)) (s .args .t) (s .pre .0) (s .pre .1 .0) (s .pre .1 .1 .0 .0) (s .pre .1 .1 .0 .1) (l .before .loop .p) (l .loop-test .taken) (l .before .loop .inv .0) (f .next-place .result) (f .next-place .ensures) in
     search needs
 
-mul-is-stopped : tie.Need-mul-is-stopped Inv-loop μ-loop
-mul-is-stopped c =
+mul-is-stopped-3 : tie.Need-mul-is-stopped-3 Inv-loop μ-loop
+mul-is-stopped-3 c =
     let s : tie.Start Inv-loop μ-loop = search needs in
     let l : tie.In-loop Inv-loop μ-loop = search needs in
     let f : tie.After-next-place Inv-loop μ-loop = search needs in
@@ -86,8 +102,8 @@ shared-slice-read-is-stopped-4 c =
     let h = next-fits (at s) (now (s .args .skips)) (now (s .args .listed)) (s .args .t) (s .pre .0) (s .pre .1 .0) (s .pre .1 .1 .0 .0) (s .pre .1 .1 .0 .1) (l .before .loop .p) (l .loop-test .taken) (l .before .loop .inv .0) (f .next-place .result) (f .next-place .ensures) in
     search needs
 
-mul-is-stopped-2 : tie.Need-mul-is-stopped-2 Inv-loop μ-loop
-mul-is-stopped-2 c =
+mul-is-stopped-4 : tie.Need-mul-is-stopped-4 Inv-loop μ-loop
+mul-is-stopped-4 c =
     let s : tie.Start Inv-loop μ-loop = search needs in
     let l : tie.In-loop Inv-loop μ-loop = search needs in
     let f : tie.After-next-place Inv-loop μ-loop = search needs in
@@ -149,12 +165,14 @@ may-fire-listed-spec =
     loop-holds
     next-place-requires
     add-e
-    shared-slice-read-is-stopped
-    shared-slice-read-is-stopped-2
     mul-is-stopped
+    shared-slice-read-is-stopped
+    mul-is-stopped-2
+    shared-slice-read-is-stopped-2
+    mul-is-stopped-3
     shared-slice-read-is-stopped-3
     shared-slice-read-is-stopped-4
-    mul-is-stopped-2
+    mul-is-stopped-4
     shared-slice-read-is-stopped-5
     is-stopped-requires
     returns

@@ -27,8 +27,14 @@ sub-j c =
     let l : tie.In-loop Inv-loop μ-loop = search needs in
     omega (arith, row-below (s .args .places) (s .args .k) (s .pre .0 .0), l .loop-test .taken)
 
+mul-has-arc : tie.Need-mul-has-arc Inv-loop μ-loop
+mul-has-arc c = search needs
+
 shared-slice-read-has-arc : tie.Need-shared-slice-read-has-arc Inv-loop μ-loop
 shared-slice-read-has-arc c = search needs
+
+mul-has-arc-2 : tie.Need-mul-has-arc-2 Inv-loop μ-loop
+mul-has-arc-2 c = search needs
 
 shared-slice-read-has-arc-2 : tie.Need-shared-slice-read-has-arc-2 Inv-loop μ-loop
 shared-slice-read-has-arc-2 c = search needs
@@ -74,7 +80,9 @@ skip-at-spec =
     rem-most
     loop-holds
     sub-j
+    mul-has-arc
     shared-slice-read-has-arc
+    mul-has-arc-2
     shared-slice-read-has-arc-2
     has-arc-requires
     cast-result

@@ -27,14 +27,14 @@ mul-counted : tie.Need-mul-counted Inv-loop μ-loop
 mul-counted c =
     let s : tie.Start Inv-loop μ-loop = search needs in
     let f : tie.After-sought-bucket Inv-loop μ-loop = search needs in
-    let h = head-in (s .args .places) (s .args .count) (now (s .args .list)) (now (s .args .heads)) (now (s .args .links)) (now (s .args .marking)) (s .pre .0) (s .pre .1 .0) (s .pre .1 .1) _ (f .sought-bucket .ensures) in
+    let h = head-in (s .args .places) (s .args .count) (now (s .args .list)) (now (s .args .heads)) (now (s .args .links)) (now (s .args .marking)) (s .pre .0) (s .pre .1 .0 .0) (s .pre .1 .1) _ (f .sought-bucket .ensures) in
     search needs
 
 shared-slice-read-counted : tie.Need-shared-slice-read-counted Inv-loop μ-loop
 shared-slice-read-counted c =
     let s : tie.Start Inv-loop μ-loop = search needs in
     let f : tie.After-sought-bucket Inv-loop μ-loop = search needs in
-    let h = head-in (s .args .places) (s .args .count) (now (s .args .list)) (now (s .args .heads)) (now (s .args .links)) (now (s .args .marking)) (s .pre .0) (s .pre .1 .0) (s .pre .1 .1) _ (f .sought-bucket .ensures) in
+    let h = head-in (s .args .places) (s .args .count) (now (s .args .list)) (now (s .args .heads)) (now (s .args .links)) (now (s .args .marking)) (s .pre .0) (s .pre .1 .0 .0) (s .pre .1 .1) _ (f .sought-bucket .ensures) in
     search needs
 
 counted-requires : tie.Need-counted-requires Inv-loop μ-loop
@@ -45,7 +45,7 @@ loop-holds c =
     let s : tie.Start Inv-loop μ-loop = search needs in
     let f : tie.After-sought-bucket Inv-loop μ-loop = search needs in
     let g : tie.After-counted Inv-loop μ-loop = search needs in
-    seek-start (s .args .places) (s .args .count) (now (s .args .list)) (now (s .args .heads)) (now (s .args .links)) (now (s .args .marking)) (s .pre .0) (s .pre .1 .0) (s .pre .1 .1) _ _ (f .sought-bucket .ensures) (g .counted .ensures)
+    seek-start (s .args .places) (s .args .count) (now (s .args .list)) (now (s .args .heads)) (now (s .args .links)) (now (s .args .marking)) (s .pre .0) (s .pre .1 .0 .0) (s .pre .1 .1) _ _ (f .sought-bucket .ensures) (g .counted .ensures)
 
 sub-k : tie.Need-sub-k Inv-loop μ-loop
 sub-k c = search needs
@@ -64,40 +64,40 @@ add-e c =
     let w = l .before .loop .inv in
     omega (arith, list-ends s (l .before .loop .at - 1) (omega (arith, l .loop-test .taken, w .most)), l .loop-test .taken, w .most)
 
-mul-same-marking : tie.Need-mul-same-marking Inv-loop μ-loop
-mul-same-marking c =
+mul-is-same : tie.Need-mul-is-same Inv-loop μ-loop
+mul-is-same c =
     let s : tie.Start Inv-loop μ-loop = search needs in
     let l : tie.In-loop Inv-loop μ-loop = search needs in
     let w = l .before .loop .inv in
     omega (arith, list-ends s (l .before .loop .at - 1) (omega (arith, l .loop-test .taken, w .most)), l .loop-test .taken, w .most)
 
-sub-same-marking : tie.Need-sub-same-marking Inv-loop μ-loop
-sub-same-marking c = search needs
+sub-is-same : tie.Need-sub-is-same Inv-loop μ-loop
+sub-is-same c = search needs
 
-part-same-marking-start : tie.Need-part-same-marking-start Inv-loop μ-loop
-part-same-marking-start c = search needs
+part-is-same-start : tie.Need-part-is-same-start Inv-loop μ-loop
+part-is-same-start c = search needs
 
-part-same-marking-end : tie.Need-part-same-marking-end Inv-loop μ-loop
-part-same-marking-end c =
+part-is-same-end : tie.Need-part-is-same-end Inv-loop μ-loop
+part-is-same-end c =
     let s : tie.Start Inv-loop μ-loop = search needs in
     let l : tie.In-loop Inv-loop μ-loop = search needs in
     let w = l .before .loop .inv in
     omega (arith, list-ends s (l .before .loop .at - 1) (omega (arith, l .loop-test .taken, w .most)), l .loop-test .taken, w .most)
 
-same-marking-requires : tie.Need-same-marking-requires Inv-loop μ-loop
-same-marking-requires c κs =
+is-same-requires : tie.Need-is-same-requires Inv-loop μ-loop
+is-same-requires c κs =
     let s : tie.Start Inv-loop μ-loop = search needs in
     let l : tie.In-loop Inv-loop μ-loop = search needs in
     let w = l .before .loop .inv in
     let q = marking-long (s .args .places) (s .args .count) (now (s .args .list)) (l .before .loop .at - 1) (s .pre .0) (omega (arith, l .loop-test .taken, w .most)) in
-    simp add-sub-cancel-left (q ∙ sym (s .pre .1 .0))
+    (simp add-sub-cancel-left (q ∙ sym (s .pre .1 .0 .0)), omega (arith, s .pre .1 .0))
 
 returns : tie.Need-returns Inv-loop μ-loop
 returns c =
     let s : tie.Start Inv-loop μ-loop = search needs in
     let l : tie.In-loop Inv-loop μ-loop = search needs in
-    let f : tie.After-same-marking Inv-loop μ-loop = search needs in
-    let e = simp add-sub-cancel-left at (f .same-marking .ensures) in
+    let f : tie.After-is-same Inv-loop μ-loop = search needs in
+    let e = simp add-sub-cancel-left at (f .is-same .ensures) in
     seek-hit (s .args .places) (s .args .count) (now (s .args .list)) (now (s .args .marking)) (l .before .loop .at) (l .before .loop .inv) _ e (search needs) (omega (arith, l .loop-test .taken))
 
 mul-counted-2 : tie.Need-mul-counted-2 Inv-loop μ-loop
@@ -124,17 +124,17 @@ loop-less c =
     let s : tie.Start Inv-loop μ-loop = search needs in
     let l : tie.In-loop Inv-loop μ-loop = search needs in
     let g : tie.After-counted2 Inv-loop μ-loop = search needs in
-    let h = seek-less (s .args .places) (s .args .count) (now (s .args .list)) (now (s .args .heads)) (now (s .args .links)) (now (s .args .marking)) (s .pre .0) (s .pre .1 .0) (s .pre .1 .1) (l .before .loop .at) (g .counted2 .result) (l .before .loop .inv) (omega (arith, l .loop-test .taken)) (g .counted2 .ensures) in
+    let h = seek-less (s .args .places) (s .args .count) (now (s .args .list)) (now (s .args .heads)) (now (s .args .links)) (now (s .args .marking)) (s .pre .0) (s .pre .1 .0 .0) (s .pre .1 .1) (l .before .loop .at) (g .counted2 .result) (l .before .loop .inv) (omega (arith, l .loop-test .taken)) (g .counted2 .ensures) in
     omega (arith, h)
 
 loop-again : tie.Need-loop-again Inv-loop μ-loop
 loop-again c =
     let s : tie.Start Inv-loop μ-loop = search needs in
     let l : tie.In-loop Inv-loop μ-loop = search needs in
-    let f : tie.After-same-marking Inv-loop μ-loop = search needs in
-    let e = simp add-sub-cancel-left at (f .same-marking .ensures) in
+    let f : tie.After-is-same Inv-loop μ-loop = search needs in
+    let e = simp add-sub-cancel-left at (f .is-same .ensures) in
     let g : tie.After-counted2 Inv-loop μ-loop = search needs in
-    seek-next (s .args .places) (s .args .count) (now (s .args .list)) (now (s .args .heads)) (now (s .args .links)) (now (s .args .marking)) (s .pre .0) (s .pre .1 .0) (s .pre .1 .1) (l .before .loop .at) _ (l .before .loop .inv) (omega (arith, l .loop-test .taken)) (g .counted2 .ensures) _ e (search needs)
+    seek-next (s .args .places) (s .args .count) (now (s .args .list)) (now (s .args .heads)) (now (s .args .links)) (now (s .args .marking)) (s .pre .0) (s .pre .1 .0 .0) (s .pre .1 .1) (l .before .loop .at) _ (l .before .loop .inv) (omega (arith, l .loop-test .taken)) (g .counted2 .ensures) _ e (search needs)
 
 returns-2 : tie.Need-returns-2 Inv-loop μ-loop
 returns-2 c =
@@ -155,11 +155,11 @@ find-spec =
     sub-k
     mul-a
     add-e
-    mul-same-marking
-    sub-same-marking
-    part-same-marking-start
-    part-same-marking-end
-    same-marking-requires
+    mul-is-same
+    sub-is-same
+    part-is-same-start
+    part-is-same-end
+    is-same-requires
     returns
     mul-counted-2
     shared-slice-read-counted-2

@@ -24,17 +24,23 @@ loop-holds c = search (makes, needs)
 add-moved : tie.Need-add-moved Inv-loop μ-loop
 add-moved c = search needs
 
+mul-moved : tie.Need-mul-moved Inv-loop μ-loop
+mul-moved c = search needs
+
 shared-slice-read-moved : tie.Need-shared-slice-read-moved Inv-loop μ-loop
 shared-slice-read-moved c = search needs
 
 add-moved-2 : tie.Need-add-moved-2 Inv-loop μ-loop
 add-moved-2 c = search needs
 
+mul-moved-2 : tie.Need-mul-moved-2 Inv-loop μ-loop
+mul-moved-2 c = search needs
+
 shared-slice-read-moved-2 : tie.Need-shared-slice-read-moved-2 Inv-loop μ-loop
 shared-slice-read-moved-2 c = search needs
 
-mul-moved : tie.Need-mul-moved Inv-loop μ-loop
-mul-moved c = search needs
+mul-moved-3 : tie.Need-mul-moved-3 Inv-loop μ-loop
+mul-moved-3 c = search needs
 
 shared-slice-read-moved-3 : tie.Need-shared-slice-read-moved-3 Inv-loop μ-loop
 shared-slice-read-moved-3 c = search needs
@@ -75,10 +81,12 @@ fire-any-spec =
     mul-a
     loop-holds
     add-moved
+    mul-moved
     shared-slice-read-moved
     add-moved-2
+    mul-moved-2
     shared-slice-read-moved-2
-    mul-moved
+    mul-moved-3
     shared-slice-read-moved-3
     moved-requires
     mul-room

@@ -18,7 +18,7 @@ fire-listed-requires c κs =
 find-requires : tie.Need-find-requires
 find-requires c κs =
     let s : tie.Start = search needs in
-    (s .pre .0 .long, (search needs, s .pre .1 .1 .1 .0))
+    (s .pre .0 .long, ((search needs, s .pre .0 .sized .few-places), s .pre .1 .1 .1 .0))
 
 same-length : tie.Need-same-length
 same-length c = search needs

@@ -22,11 +22,14 @@ loop-holds c = search (scans, needs)
 add-is-lacking : tie.Need-add-is-lacking Inv-loop μ-loop
 add-is-lacking c = search needs
 
+mul-is-lacking : tie.Need-mul-is-lacking Inv-loop μ-loop
+mul-is-lacking c = search needs
+
 shared-slice-read-is-lacking : tie.Need-shared-slice-read-is-lacking Inv-loop μ-loop
 shared-slice-read-is-lacking c = search needs
 
-mul-is-lacking : tie.Need-mul-is-lacking Inv-loop μ-loop
-mul-is-lacking c = search needs
+mul-is-lacking-2 : tie.Need-mul-is-lacking-2 Inv-loop μ-loop
+mul-is-lacking-2 c = search needs
 
 shared-slice-read-is-lacking-2 : tie.Need-shared-slice-read-is-lacking-2 Inv-loop μ-loop
 shared-slice-read-is-lacking-2 c = search needs
@@ -58,8 +61,9 @@ may-fire-any-spec =
     mul-a
     loop-holds
     add-is-lacking
-    shared-slice-read-is-lacking
     mul-is-lacking
+    shared-slice-read-is-lacking
+    mul-is-lacking-2
     shared-slice-read-is-lacking-2
     is-lacking-requires
     returns

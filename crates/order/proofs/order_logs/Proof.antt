@@ -1,6 +1,5 @@
-use native.Mathlib.Omega.{arith}
 use denote.Ref.{now}
-use Rattle.net.specs.Net.{Net, netOf, Light}
+use Rattle.net.specs.Net.{Net, netOf}
 use Rattle.order.proofs.Answers.{ordered-refused, found-begins, ordered-found, ordered-none}
 use borrow.Author.Needs.{needs}
 use Rattle.order.proofs.order_logs.Statement.{statement}
@@ -24,11 +23,9 @@ enum-told c = search needs
 find-order-requires : tie.Need-find-order-requires
 find-order-requires c κs =
     let s : tie.Start = search needs in
-    let k : tie.After-shared-slice-known2 = search needs in
     let i : tie.After-is-fitting = search needs in
     let f : tie.After-find-fault = search needs in
-    let light : Light (net s) = record { pre = λ i. omega (arith, k .before .shared-slice-known .given i); post = λ i. omega (arith, k .shared-slice-known2 .given i) } in
-    found-begins (net s) (now (s .args .initial)) (now (s .args .first)) (now (s .args .second)) (now (s .args .room)) (now (s .args .work)) _ _ (i .is-fitting .ensures) (f .find-fault .ensures) light (search needs)
+    found-begins (net s) (now (s .args .initial)) (now (s .args .first)) (now (s .args .second)) (now (s .args .room)) (now (s .args .work)) _ _ (i .is-fitting .ensures) (f .find-fault .ensures) (search needs)
 
 returns : tie.Need-returns
 returns c =

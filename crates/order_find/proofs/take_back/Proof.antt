@@ -11,6 +11,9 @@ mul-a c = search needs
 add-e : tie.Need-add-e
 add-e c = search needs
 
+mul-fire : tie.Need-mul-fire
+mul-fire c = search needs
+
 sub-fire : tie.Need-sub-fire
 sub-fire c = search needs
 
@@ -19,6 +22,9 @@ part-fire-start c = search needs
 
 part-fire-end : tie.Need-part-fire-end
 part-fire-end c = search needs
+
+mul-fire-2 : tie.Need-mul-fire-2
+mul-fire-2 c = search needs
 
 sub-fire-2 : tie.Need-sub-fire-2
 sub-fire-2 c = search needs
@@ -49,9 +55,11 @@ take-back-spec =
     (tie.spec
     mul-a
     add-e
+    mul-fire
     sub-fire
     part-fire-start
     part-fire-end
+    mul-fire-2
     sub-fire-2
     part-fire-start-2
     part-fire-end-2

@@ -3,8 +3,7 @@ use mathlib.Core.Bool.{_&&_}
 use lib.Dec.{eqb}
 use lib.ListN.{length}
 use denote.Ref.{now}
-use native.Mathlib.Omega.{arith}
-use Rattle.net.specs.Net.{Net, netOf, Light}
+use Rattle.net.specs.Net.{Net, netOf}
 use Rattle.refusals.specs.declared.Fault.the-variants.{Sound}
 use Rattle.replay.proofs.Answers.{replayeds, Sane, sane-room, room-long}
 use borrow.Author.Needs.{needs}
@@ -25,13 +24,6 @@ sane c =
     let f : tie.After-find-fault = search needs in
     let e : f .find-fault .result ≡ Sound = search needs in
     sane-room (at (start c)) (now (start c .args .initial)) (now (start c .args .part)) (start c .args .within) (now (start c .args .room)) (i .is-fitting .result) (f .find-fault .result) (i .is-fitting .ensures) (f .find-fault .ensures) e
-
--- no byte is above a weight's limit
-light : (c : tie.After-enum-told) → Light (at (start c))
-unfolding at
-light c =
-    let k : tie.After-shared-slice-known2 = search needs in
-    record { pre = λ i. omega (arith, k .before .shared-slice-known .given i); post = λ i. omega (arith, k .shared-slice-known2 .given i) }
 
 is-fitting-requires : tie.Need-is-fitting-requires
 is-fitting-requires c κs = search needs
@@ -58,7 +50,7 @@ play-word-requires c κs =
     let e : tie.After-enum-told = search needs in
     let s = sane e in
     let l : tie.After-load = search needs in
-    rw (l .load .ensures) (s .sized, (light e, (s .marked, (s .fine .few, (s .letters, s .short)))))
+    rw (l .load .ensures) (s .sized, (s .light, (s .marked, (s .fine .few, (s .letters, s .short)))))
 
 returns : tie.Need-returns
 returns c = search (replayeds, needs)

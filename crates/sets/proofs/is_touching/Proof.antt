@@ -19,6 +19,9 @@ loop-holds c = search (scans, needs)
 add-is-meeting : tie.Need-add-is-meeting Inv-loop μ-loop
 add-is-meeting c = search needs
 
+mul-is-meeting : tie.Need-mul-is-meeting Inv-loop μ-loop
+mul-is-meeting c = search needs
+
 shared-slice-read-is-meeting : tie.Need-shared-slice-read-is-meeting Inv-loop μ-loop
 shared-slice-read-is-meeting c = search needs
 
@@ -51,6 +54,7 @@ is-touching-spec =
     μ-loop
     loop-holds
     add-is-meeting
+    mul-is-meeting
     shared-slice-read-is-meeting
     shared-slice-read-is-meeting-2
     is-meeting-requires

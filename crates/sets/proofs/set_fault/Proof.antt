@@ -14,8 +14,8 @@ enum-known-found c = search needs
 enum-told : tie.Need-enum-told
 enum-told c = search needs
 
-is-touching-requires : tie.Need-is-touching-requires
-is-touching-requires c κs = search needs
+lowest-member-requires : tie.Need-lowest-member-requires
+lowest-member-requires c κs = search needs
 
 returns : tie.Need-returns
 unfolding setFault
@@ -36,7 +36,7 @@ set-fault-spec =
     net-fault-requires
     enum-known-found
     enum-told
-    is-touching-requires
+    lowest-member-requires
     returns
     returns-2
     returns-3)

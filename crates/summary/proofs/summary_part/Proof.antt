@@ -1,7 +1,7 @@
 use denote.Ref.{now}
 use mathlib.Core.Path.{_≡_, sym, _∙_}
 use native.Mathlib.Omega.{arith}
-use Rattle.net.specs.Net.{Net, netOf, Light}
+use Rattle.net.specs.Net.{Net, netOf}
 use Rattle.refusals.specs.declared.Fault.the-variants.{Sound}
 use Rattle.summary_form.specs.Summary.{summaryOf}
 use Rattle.summary.specs.Entry.{partFault}
@@ -25,13 +25,6 @@ sane c =
     let e : f .find-fault .result ≡ Sound = search needs in
     sane-of (at (start c)) (now (start c .args .part)) (start c .args .within) (sym (f .find-fault .ensures) ∙ e)
 
--- no byte is above a weight's limit
-light : (c : tie.After-enum-told) → Light (at (start c))
-unfolding at
-light c =
-    let k : tie.After-shared-slice-known2 = search needs in
-    record { pre = λ i. omega (arith, k .before .shared-slice-known .given i); post = λ i. omega (arith, k .shared-slice-known2 .given i) }
-
 find-fault-requires : tie.Need-find-fault-requires
 find-fault-requires c κs = search needs
 
@@ -48,7 +41,7 @@ word-slots-requires : tie.Need-word-slots-requires
 unfolding at
 word-slots-requires c κs =
     let s = sane c in
-    (s .sized, (light c, (s .short, s .letters)))
+    (s .sized, (s .light, (s .short, s .letters)))
 
 cast-letters : tie.Need-cast-letters
 unfolding at

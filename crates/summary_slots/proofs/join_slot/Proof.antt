@@ -6,7 +6,7 @@ use mir.Syntax.{w32}
 use mir.Facts.{toZ-ofZ}
 use Rattle.ground.proofs.Parts.{sum-sub}
 use Rattle.summary_place.specs.Walk.{step}
-use Rattle.summary_place.proofs.Border.{change-fits, up-read, dn-read}
+use Rattle.summary_place.proofs.Border.{change-fits, slots-room, up-read, dn-read}
 use Rattle.summary_slots.proofs.Joins.{joined-is}
 use borrow.Author.Needs.{needs}
 use Rattle.summary_slots.proofs.join_slot.Statement.{statement}
@@ -46,7 +46,7 @@ add-less c =
     let b = change-fits (s .args .b) (s .pre .1) in
     let u : tie.After-up-part = search needs in
     let d : tie.After-down-part = search needs in
-    omega (arith, up-read (s .args .a) a, dn-read (s .args .a) a, up-read (s .args .b) b, dn-read (s .args .b) b, s .pre .0, s .pre .1, u .up-part .ensures, d .down-part .ensures, c .up-part2 .ensures)
+    omega (arith, slots-room, up-read (s .args .a) a, dn-read (s .args .a) a, up-read (s .args .b) b, dn-read (s .args .b) b, s .pre .0, s .pre .1, u .up-part .ensures, d .down-part .ensures, c .up-part2 .ensures)
 
 down-part-requires-2 : tie.Need-down-part-requires-2
 down-part-requires-2 c κs = search needs
@@ -58,7 +58,7 @@ add-less-2 c =
     let b = change-fits (s .args .b) (s .pre .1) in
     let u : tie.After-up-part = search needs in
     let d : tie.After-down-part = search needs in
-    omega (arith, up-read (s .args .a) a, dn-read (s .args .a) a, up-read (s .args .b) b, dn-read (s .args .b) b, s .pre .0, s .pre .1, u .up-part .ensures, d .down-part .ensures, c .down-part2 .ensures)
+    omega (arith, slots-room, up-read (s .args .a) a, dn-read (s .args .a) a, up-read (s .args .b) b, dn-read (s .args .b) b, s .pre .0, s .pre .1, u .up-part .ensures, d .down-part .ensures, c .down-part2 .ensures)
 
 less-requires : tie.Need-less-requires
 less-requires c κs =
@@ -68,7 +68,7 @@ less-requires c κs =
     let u : tie.After-up-part = search needs in
     let d : tie.After-down-part = search needs in
     let v : tie.After-up-part2 = search needs in
-    omega (arith, up-read (s .args .a) a, dn-read (s .args .a) a, up-read (s .args .b) b, dn-read (s .args .b) b, s .pre .0, s .pre .1, u .up-part .ensures, d .down-part .ensures, v .up-part2 .ensures, c .down-part2 .ensures)
+    omega (arith, slots-room, up-read (s .args .a) a, dn-read (s .args .a) a, up-read (s .args .b) b, dn-read (s .args .b) b, s .pre .0, s .pre .1, u .up-part .ensures, d .down-part .ensures, v .up-part2 .ensures, c .down-part2 .ensures)
 
 returns : tie.Need-returns
 returns c =

@@ -35,8 +35,14 @@ mul-x c = search needs
 shared-slice-copy-out-x : tie.Need-shared-slice-copy-out-x Inv-loop μ-loop
 shared-slice-copy-out-x c = search needs
 
+mul-takes : tie.Need-mul-takes Inv-loop μ-loop
+mul-takes c = let l : tie.In-loop Inv-loop μ-loop = search needs in omega (arith, inside l)
+
 shared-slice-read-takes : tie.Need-shared-slice-read-takes Inv-loop μ-loop
 shared-slice-read-takes c = let l : tie.In-loop Inv-loop μ-loop = search needs in omega (arith, inside l)
+
+mul-puts : tie.Need-mul-puts Inv-loop μ-loop
+mul-puts c = let l : tie.In-loop Inv-loop μ-loop = search needs in omega (arith, inside l)
 
 shared-slice-read-puts : tie.Need-shared-slice-read-puts Inv-loop μ-loop
 shared-slice-read-puts c = let l : tie.In-loop Inv-loop μ-loop = search needs in omega (arith, inside l)
@@ -85,7 +91,9 @@ line-sums-spec =
     add-at
     mul-x
     shared-slice-copy-out-x
+    mul-takes
     shared-slice-read-takes
+    mul-puts
     shared-slice-read-puts
     share-of-requires
     add-gained

@@ -54,7 +54,8 @@ part-has-over-end-2 c = let s : tie.Start = search needs in omega (arith, pre-en
 has-over-requires : tie.Need-has-over-requires
 has-over-requires c κs =
     let s : tie.Start = search needs in
-    simp add-sub-cancel-left (rows-long (at s) (s .args .t) (s .pre .0) (s .pre .1))
+    let l = rows-long (at s) (s .args .t) (s .pre .0) (s .pre .1) in
+    simp add-sub-cancel-left (omega (arith, l), omega (arith, l))
 
 returns : tie.Need-returns
 returns c =

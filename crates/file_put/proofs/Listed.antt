@@ -16,7 +16,7 @@ unfolding twos
 twos-then [] b = refl
 twos-then (n ∷ a) b = ap (λ (z : List ℕ). n / 256 ∷ n % 256 ∷ z) (twos-then a b)
 
-twos-one : (n : ℕ) → twos (n ∷ []) ≡ two n
+pub twos-one : (n : ℕ) → twos (n ∷ []) ≡ two n
 unfolding twos two
 twos-one n = refl
 

@@ -1,7 +1,7 @@
 use borrow.Author.Tests.{eq-eqb, ne-eqb}
 use borrow.Author.Needs.{needs}
-use Rattle.file_line.proofs.is_row.Statement.{statement}
-use Rattle.file_line.proofs.is_row.Tie as tie
+use Rattle.file_line.proofs.is_narrow_row.Statement.{statement}
+use Rattle.file_line.proofs.is_narrow_row.Tie as tie
 
 mul-if1 : tie.Need-mul-if1
 mul-if1 c = search needs
@@ -25,5 +25,5 @@ returns-2 c =
     let w : tie.After-wide = search needs in
     simp (eq-eqb _ _ (i .if1 .left), ← b .byte-at .ensures, w .wide .ensures)
 
-pub is-row-spec : {M : Type 1} → statement M
-is-row-spec = tie.close (tie.spec mul-if1 add-if1 returns byte-at-requires wide-requires returns-2)
+pub is-narrow-row-spec : {M : Type 1} → statement M
+is-narrow-row-spec = tie.close (tie.spec mul-if1 add-if1 returns byte-at-requires wide-requires returns-2)
