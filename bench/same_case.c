@@ -1,5 +1,6 @@
-/* The case file reader, as crates/file_digits, crates/file_row, crates/file_line, crates/file_parts and crates/file_entry do it: a line is found, its
- * digits are checked, it is judged by its kind, then stored, into rooms of our own that are copied at the end. */
+/* The case file reader, as crates/file_digits, crates/file_row, crates/file_line, crates/file_parts and crates/file_entry do it: a
+ * line is found, its digits are checked, it is judged by its kind, then stored, into rooms of our own that are copied at the
+ * end. */
 #include "same.h"
 
 struct reading {

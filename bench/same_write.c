@@ -1,5 +1,5 @@
-/* The same loops as crates/file_write, file_out, file_row and file_put: a case file put into the room frame by frame. Each function puts
- * its text at a number of the room and answers the number after it. */
+/* The same loops as crates/file_write, file_out, file_row and file_put: a case file put into the room frame by frame. Each
+ * function puts its text at a number of the room and answers the number after it. */
 #include "same.h"
 
 enum { BLOCK = 64 };
