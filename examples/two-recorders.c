@@ -8,8 +8,8 @@ static const char *const events[] = {"a log is taken into the saw", "the saw giv
                                      "the carrier takes two boards"};
 
 /* the model: the deck, saw idle, saw busy, the outfeed */
-static const uint8_t pre[] = {1, 1, 0, 0, 0, 0, 1, 0, 0, 0, 0, 2};
-static const uint8_t post[] = {0, 0, 1, 0, 0, 1, 0, 3, 0, 0, 0, 0};
+static const uint16_t pre[] = {1, 1, 0, 0, 0, 0, 1, 0, 0, 0, 0, 2};
+static const uint16_t post[] = {0, 0, 1, 0, 0, 1, 0, 3, 0, 0, 0, 0};
 static const uint16_t caps[] = {KAUNORPI_NONE, KAUNORPI_NONE, KAUNORPI_NONE, 6}, initial[] = {4, 1, 0, 0};
 static const uint8_t marks[] = {0, 0, 0, 0}; /* no place is a pocket */
 

@@ -10,13 +10,14 @@
  * counts: a wrong one is refusal 2, and is not used.
  *
  * Stack. kaunorpi_order_logs needs some 340 KB for two logs of 255 letters, since it calls itself for each letter: 656
- * bytes for each letter of both logs, and 1.4 KB. kaunorpi_read_case needs some 75 KB, for rooms of its own in which a
+ * bytes for each letter of both logs, and 1.4 KB. kaunorpi_read_case needs some 85 KB, for rooms of its own in which a
  * whole file is read before anything is written; the functions about lists of markings need some 30 KB, for an index of
  * their own; every other function needs less than 4 KB. Measured in the machine code of the archive for x86-64: 74,960
  * bytes; at most 29,784 (kaunorpi_closed_target); and at most 3,392 (kaunorpi_summary_stretch); with what a function calls
  * and without memcpy and memset, which are the C library's. Of kaunorpi_order_logs, where 510 letters fire, 335,936 bytes
  * were seen to be written. All these were taken before marks were lent (version 5) and not again since: allow for some
- * hundred bytes more, and in kaunorpi_order_logs for more in each letter.
+ * hundred bytes more, and in kaunorpi_order_logs for more in each letter. kaunorpi_read_case has 8 KB more since weights
+ * are of 16 bits (version 6): its 85 KB are those 74,960 bytes, these, and what marks may have added.
  *
  * What is proved. Each function's comment ends with its contract, which says that the answer is the entry's of that
  * name, number by number, and with theorems that say what such an answer means; docs/STATEMENTS.md has them in words,
@@ -24,9 +25,9 @@
  *
  * The net comes first in every question, always whole and in this order:
  *   places, transitions   how many there are, 1 to 64 each
- *   pre, post             places * transitions weights of a byte each: what transition t takes from place p, and
- *                         puts there, stands at t * places + p; 0 is no arc. Each place and each transition must have
- *                         an arc, else 17
+ *   pre, post             places * transitions weights of 16 bits each, 0 to 4,095 (more is 18): what transition t
+ *                         takes from place p, and puts there, stands at t * places + p; 0 is no arc. Each place and
+ *                         each transition must have an arc, else 17
  *   caps                  places capacities, 0 to 65,534; 65,535 is none
  *   marks                 places marks of a byte each: 0 is a plain place, any other a pocket, all alike
  * At a plain place what a transition takes leaves before anything comes: tokens - Pre + Post must keep to its capacity.
@@ -51,16 +52,16 @@
  *    4  a word over 65,535 letters
  *    5  a letter that names no transition. position: the letter
  *    6  a summary that is not well formed. It is well formed if its letters n are at most 65,535, at each place
- *       need <= 255 n, climb <= 255 n and -need <= change <= climb, and past the place count all is 0. position: 0 if n
- *       is too large, else the lowest place or slot. A well-formed summary that no word has is answered by its numbers.
- *       Of two summaries the first is looked at before the second, whatever the positions
+ *       need <= 4,095 n, climb <= 4,095 n and -need <= change <= climb, and past the place count all is 0. position: 0
+ *       if n is too large, else the lowest place or slot. A well-formed summary that no word has is answered by its
+ *       numbers. Of two summaries the first is looked at before the second, whatever the positions
  *    7  summaries that together have over 65,535 letters
  *    8  a set without places, a weighting all zero
  *    9  a list of no marking, or of more than 4,096
  *   10  a complement net of more than 64 places
  *   11  a line of a case file breaks the digit rules or lacks its line feed. position: the line, from 1
  *   12  a frame of unknown kind, in the wrong order, of wrong length or index, or missing; a frame 06 that makes no
- *       place a pocket, or one that the net does not have. position: the line
+ *       place a pocket, or one that the net does not have; a frame 07 without a weight over 255. position: the line
  *   13  a place number that is not below the place count
  *   14  a room that is shorter than what is to be written there
  *   15  a log over 255 letters, after 4
@@ -68,11 +69,12 @@
  *       length, after 15
  *   17  a net in which some place or transition has no arc, after 3. position: the lowest such place, else 64 plus the
  *       lowest such transition
- * position is 0 where nothing else is said. Of several refusals the lowest number is given, but that 17 comes right
- * after 3, and 15 and 16 right after 4; and of one number the lowest position, the initial marking before a list before
- * a target, and the first log before the second. A case file (kaunorpi_read_case) is different: the first faulty line
- * decides, on it 11 and 12 come before 1, 3, 17, 4 and 5, and position is that line; 17 falls on the line of the last
- * transition.
+ *   18  a weight over 4,095, in pre or in post, after 2 and before 3. position: the lowest transition that has one
+ * position is 0 where nothing else is said. Of several refusals the lowest number is given, but that 18 comes right
+ * after 2, 17 right after 3, and 15 and 16 right after 4; and of one number the lowest position, the initial marking
+ * before a list before a target, and the first log before the second. A case file (kaunorpi_read_case) is different:
+ * the first faulty line decides, on it 11 and 12 come before 1, 18, 3, 17, 4 and 5, and position is that line; 18 falls
+ * on the line of its transition, a frame 07, and 17 on that of the last transition.
  */
 #ifndef KAUNORPI_H
 #define KAUNORPI_H
@@ -85,7 +87,7 @@ extern "C" {
 #endif
 
 /* Another number with every change of a function, a struct, an answer or a refusal. */
-#define KAUNORPI_VERSION 5
+#define KAUNORPI_VERSION 6
 
 #define KAUNORPI_ANSWERED 0x81
 #define KAUNORPI_REFUSED 0x82
@@ -95,13 +97,15 @@ extern "C" {
 #define KAUNORPI_MOST_TRANSITIONS 64
 #define KAUNORPI_MOST_CELLS 4096
 #define KAUNORPI_MOST_LETTERS 65535
+/* the largest weight of an arc */
+#define KAUNORPI_MOST_WEIGHT 4095
 /* as a capacity: none; in a cover list: any number */
 #define KAUNORPI_NONE 65535
 #define KAUNORPI_ANY 65535
 
 /* The net, the way each function is lent it. */
 #define KAUNORPI_NET \
-    size_t places, size_t transitions, const uint8_t *pre, size_t pre_len, const uint8_t *post, size_t post_len, \
+    size_t places, size_t transitions, const uint16_t *pre, size_t pre_len, const uint16_t *post, size_t post_len, \
     const uint16_t *caps, size_t caps_len, const uint8_t *marks, size_t marks_len
 
 typedef struct kaunorpi_answer {
@@ -171,7 +175,7 @@ typedef struct kaunorpi_rest {
     size_t length;
 } kaunorpi_rest;
 
-/* ---- Replay: can the letters of the word happen in this order? Refusals 1 2 3 17 4 5.
+/* ---- Replay: can the letters of the word happen in this order? Refusals 1 2 18 3 17 4 5.
  * 0x81 0: all of them. position: how many. room: the tokens of each place afterwards.
  * 0x81 1: letter `position` cannot happen, since `place` has fewer tokens than it takes; no lower place has.
  * 0x81 2: letter `position` cannot happen: no place is short, but `place` would hold more than its capacity, a pocket
@@ -200,13 +204,13 @@ kaunorpi_replay kaunorpi_replay_stretch(KAUNORPI_NET, const uint16_t *initial, s
  * empty-left, empty-right in crates/summary_join/proofs/Meaning.antt. */
 kaunorpi_summary kaunorpi_empty_summary(size_t places, uint32_t *need, size_t need_len, uint32_t *climb,
                                         size_t climb_len, int32_t *change, size_t change_len);
-/* The summary of a word. Refusals 1 2 17 4 5.
+/* The summary of a word. Refusals 1 2 18 17 4 5.
  * Contract: crates/c_summary/src/lib.rt. Theorems: word-allowed-made in crates/summary/proofs/Exactly.antt;
  * summary-published in crates/summary_form/proofs/Meaning.antt; fires-iff in crates/summary_ask/proofs/Meaning.antt. */
 kaunorpi_summary kaunorpi_summary_word(KAUNORPI_NET, const uint8_t *word, size_t word_len, uint32_t *need,
                                        size_t need_len, uint32_t *climb, size_t climb_len, int32_t *change,
                                        size_t change_len);
-/* The same for a stretch of a word (see kaunorpi_replay_stretch). Refusals 1 2 17 4 5.
+/* The same for a stretch of a word (see kaunorpi_replay_stretch). Refusals 1 2 18 17 4 5.
  * Contract: crates/c_summary/src/lib.rt. Theorems: stretch-allowed-made in crates/summary/proofs/Exactly.antt;
  * summary-published in crates/summary_form/proofs/Meaning.antt; fires-iff in crates/summary_ask/proofs/Meaning.antt. */
 kaunorpi_summary kaunorpi_summary_stretch(KAUNORPI_NET, const uint8_t *word, size_t word_len, size_t start, size_t end,
@@ -223,7 +227,7 @@ kaunorpi_summary kaunorpi_join_summaries(size_t first_places, uint32_t first_let
                                          const int32_t *second_change, size_t second_change_len, uint32_t *need,
                                          size_t need_len, uint32_t *climb, size_t climb_len, int32_t *change,
                                          size_t change_len);
-/* Does the word of this summary fire from this marking? Refusals 1 2 3 17 6. room: places entries.
+/* Does the word of this summary fire from this marking? Refusals 1 2 18 3 17 6. room: places entries.
  * 0x81 0: yes, and room holds the tokens of each place afterwards. 0x81 1: no, and room is as it was.
  * Contract: crates/c_summary_ask/src/lib.rt. Theorems: ask-fires, fires-ask, ask-yes, ask-no in
  * crates/summary_ask/proofs/Meaning.antt. */
@@ -232,7 +236,7 @@ kaunorpi_answer kaunorpi_ask_summary(KAUNORPI_NET, const uint16_t *marking, size
                                      const uint32_t *climb, size_t climb_len, const int32_t *change, size_t change_len,
                                      uint32_t *room, size_t room_len);
 
-/* ---- Weightings. Refusals 1 2 17 8.
+/* ---- Weightings. Refusals 1 2 18 17 8.
  * y: places entries. 0x81 0: invariant: every firing keeps the sum of y x tokens. 0x81 1: not invariant; position: the
  * lowest transition that changes the sum.
  * Contract: crates/c_weighting/src/lib.rt. Theorems: place-invariant-exactly, place-no-exactly, accepted-keeps-sum
@@ -243,7 +247,7 @@ kaunorpi_answer kaunorpi_place_weighting(KAUNORPI_NET, const int16_t *y, size_t 
  * Contract: crates/c_weighting/src/lib.rt. Theorems: transition-proper-exactly, transition-invariant-exactly,
  * transition-no-exactly, proper-returns in crates/weighting/proofs/Promise.antt. */
 kaunorpi_answer kaunorpi_transition_weighting(KAUNORPI_NET, const int16_t *x, size_t x_len);
-/* What y bounds the tokens of `place` by. Refusals 1 2 3 17 8 13.
+/* What y bounds the tokens of `place` by. Refusals 1 2 18 3 17 8 13.
  * 0x81 0: bound: the place never holds more. 0x81 1: no bound, since position: 1 y is not invariant, 2 it has a
  * negative entry, 3 y(place) is not positive.
  * Contract: crates/c_weighting/src/lib.rt. Theorems: bounded-holds in crates/weighting_bound/proofs/Promise.antt;
@@ -251,7 +255,7 @@ kaunorpi_answer kaunorpi_transition_weighting(KAUNORPI_NET, const int16_t *x, si
 kaunorpi_bound kaunorpi_place_bound(KAUNORPI_NET, const uint16_t *initial, size_t initial_len, const int16_t *y,
                                     size_t y_len, size_t place);
 
-/* ---- Sets of places. set: places bytes, 0 for out. Refusals 1 2 17 8.
+/* ---- Sets of places. set: places bytes, 0 for out. Refusals 1 2 18 17 8.
  * 0x81 0: yes. 0x81 1: no; position: the lowest transition that breaks it. */
 
 /* Siphon: every transition that puts into the set takes from it; empty, it stays empty.
@@ -263,7 +267,7 @@ kaunorpi_answer kaunorpi_siphon_set(KAUNORPI_NET, const uint8_t *set, size_t set
  * crates/sets/proofs/Promise.antt. */
 kaunorpi_answer kaunorpi_trap_set(KAUNORPI_NET, const uint8_t *set, size_t set_len);
 
-/* ---- Marking lists. list: the markings one after another, places entries each. Refusals 1 2 3 17 9.
+/* ---- Marking lists. list: the markings one after another, places entries each. Refusals 1 2 18 3 17 9.
  * 0x81 1: the list is not accepted: the initial marking is missing from it (or not covered).
  * 0x81 2: the list is not accepted: the result of firing `transition` at listed marking number `position` is missing
  *         from it (or not covered). It is the first such marking, and in it the lowest such transition. */
@@ -296,7 +300,7 @@ kaunorpi_list kaunorpi_cover_target(KAUNORPI_NET, const uint16_t *initial, size_
                                     size_t list_len, const uint16_t *target, size_t target_len);
 
 /* ---- The complement net: the same net without capacities, which fires the very same words.
- * 0x81 0: places: how many places it has. Refusals 1 2 17 10.
+ * 0x81 0: places: how many places it has. Refusals 1 2 18 17 10.
  * Contract: crates/c_net/src/lib.rt. Theorems: told-places, told-rooms in crates/complement/proofs/Promise.antt. */
 kaunorpi_places kaunorpi_complement_places(KAUNORPI_NET);
 /* 0x81 0: the rooms hold it: transitions * n weights in pre2 and in post2, n capacities, n marks and n tokens, where n
@@ -306,16 +310,16 @@ kaunorpi_places kaunorpi_complement_places(KAUNORPI_NET);
  * takes k from the new one, one that takes k away puts k there. Of a pocket: a transition takes from the new place what
  * it puts into the old one, and puts there what it takes from the old one. Every capacity is 65,535, none, and every
  * mark 0, plain. Where n is over 64, rooms of another length than n says are 2, and rooms of that length 10.
- * Refusals 1 2 3 17 10.
+ * Refusals 1 2 18 3 17 10.
  * Contract: crates/c_net/src/lib.rt. Theorems: made-net, made-initial, made-fires-same, made-blocked-same, made-ready
  * in crates/complement/proofs/Promise.antt. */
-kaunorpi_answer kaunorpi_complement_net(KAUNORPI_NET, const uint16_t *initial, size_t initial_len, uint8_t *pre2,
-                                        size_t pre2_len, uint8_t *post2, size_t post2_len, uint16_t *caps2,
+kaunorpi_answer kaunorpi_complement_net(KAUNORPI_NET, const uint16_t *initial, size_t initial_len, uint16_t *pre2,
+                                        size_t pre2_len, uint16_t *post2, size_t post2_len, uint16_t *caps2,
                                         size_t caps2_len, uint8_t *marks2, size_t marks2_len, uint16_t *initial2,
                                         size_t initial2_len);
 
-/* ---- A case file: its bytes, into a net, a marking and a word. Refusals 2 11 12 1 3 17 4 5; but for 2 position is the
- * line.
+/* ---- A case file: its bytes, into a net, a marking and a word. Refusals 2 11 12 1 18 3 17 4 5; but for 2 position is
+ * the line.
  * The rooms have the largest sizes, exactly: 64, 64, 64, 4,096, 4,096 and 65,535 entries; another length is refusal 2.
  * 0x81 0: places, transitions, letters: the file's. Its capacities, marks, tokens, weights and letters stand at the
  * front of the rooms; what lies behind them is as it was. A pocket's mark is 1, a plain place's 0; where the file has
@@ -323,25 +327,26 @@ kaunorpi_answer kaunorpi_complement_net(KAUNORPI_NET, const uint16_t *initial, s
  * Contract: crates/c_net/src/lib.rt. Theorems: read-exactly, read-those in crates/file_entry/proofs/Accepted.antt;
  * refused-file in crates/file_entry/proofs/Meaning.antt. */
 kaunorpi_case kaunorpi_read_case(const uint8_t *file, size_t file_len, uint16_t *caps, size_t caps_len, uint8_t *marks,
-                                 size_t marks_len, uint16_t *initial, size_t initial_len, uint8_t *pre, size_t pre_len,
-                                 uint8_t *post, size_t post_len, uint8_t *word, size_t word_len);
+                                 size_t marks_len, uint16_t *initial, size_t initial_len, uint16_t *pre,
+                                 size_t pre_len, uint16_t *post, size_t post_len, uint8_t *word, size_t word_len);
 
 /* ---- A case file written back: a net, its initial marking and a word, into the bytes of a file. Each net, marking and
  * word has one file: kaunorpi_read_case reads from those bytes what was written, and of a file that it accepts the same
- * bytes are written again. A mark that is not 0 is written as 1, and read as 1. Whether the word fires is not looked
- * at. */
+ * bytes are written again. A mark that is not 0 is written as 1, and read as 1. A transition has a frame 04, with weights
+ * of a byte each, or where one of them is over 255 a frame 07, with two. Whether the word fires is not looked at. */
 
-/* the longest file there is: 64 places, some of them pockets, 64 transitions and 65,535 letters, line feeds included */
-#define KAUNORPI_FILE_LIMIT 151390
+/* the longest file there is: 64 places, some of them pockets, 64 transitions, each with a weight over 255, and 65,535
+ * letters, line feeds included */
+#define KAUNORPI_FILE_LIMIT 167774
 
-/* How many bytes the file has, so that a room of that length can be lent. Refusals 1 2 3 17 4 5.
+/* How many bytes the file has, so that a room of that length can be lent. Refusals 1 2 18 3 17 4 5.
  * 0x81 0: length.
  * Contract: crates/c_write/src/lib.rt. Theorems: told-length, told-few, told-is-written, short-refused in
  * crates/file_write/proofs/Meaning.antt. */
 kaunorpi_length kaunorpi_case_length(KAUNORPI_NET, const uint16_t *initial, size_t initial_len, const uint8_t *word,
                                      size_t word_len);
 /* Writes the file to the front of room. A room of as many bytes as kaunorpi_case_length tells is long enough, one of
- * KAUNORPI_FILE_LIMIT for every file; a shorter one is refusal 14, given last. Refusals 1 2 3 17 4 5 14.
+ * KAUNORPI_FILE_LIMIT for every file; a shorter one is refusal 14, given last. Refusals 1 2 18 3 17 4 5 14.
  * 0x81 0: length: the file is the first `length` bytes of room; what lies behind them is as it was. No zero byte is put
  * at its end.
  * Contract: crates/c_write/src/lib.rt. Theorems: written-length, written-file, written-rest in
@@ -359,7 +364,7 @@ kaunorpi_length kaunorpi_write_case(KAUNORPI_NET, const uint16_t *initial, size_
 #define KAUNORPI_MOST_LOG 255
 #define KAUNORPI_WORK_SPACE 65536
 
-/* Is there an order of the two logs that fires? Refusals 1 2 3 17 4 15 5. room: first_len + second_len bytes. work:
+/* Is there an order of the two logs that fires? Refusals 1 2 18 3 17 4 15 5. room: first_len + second_len bytes. work:
  * KAUNORPI_WORK_SPACE bytes, which may hold anything.
  * 0x81 0: yes, and room holds it; of several the one that takes from the first log at the earliest step where two
  * differ.

@@ -39,6 +39,13 @@ count() { printf '%s' "${count_words[$1]-$1}"; }
 # The number of $3 digits at byte $2 of line $1; lines and bytes count from 0 here.
 number_at() { printf '%d' $((16#${frames[$1]:2 * $2:$3})); }
 
+# Weight $2 of the line of transition $1, those of what it takes before those of what it puts: two bytes each in a line of kind 07.
+weight_at() {
+    local row=$((3 + masks + $1)) bytes=1
+    [[ ${frames[row]} != 07* ]] || bytes=2
+    number_at $row $((2 + bytes * $2)) $((2 * bytes))
+}
+
 # The transition of the event at position $1: 64 events stand on a line, after the line's kind.
 event_at() { number_at $((3 + masks + transitions + $1 / 64)) $((1 + $1 % 64)) 2; }
 
@@ -63,7 +70,7 @@ say_blocked() {
     t=$(event_at "$2")
     printf 'event %d (%s) cannot have happened: ' $(($2 + 1)) "${transition_names[t]}"
     if [ "$1" = 8101 ]; then
-        printf 'it takes %d from %s, which holds fewer. ' "$(number_at $((3 + masks + t)) $((2 + $3)) 2)" "${place_names[$3]}"
+        printf 'it takes %d from %s, which holds fewer. ' "$(weight_at "$t" "$3")" "${place_names[$3]}"
     else
         is_pocket "$3" && pocket=', a pocket,' before=' before anything leaves it'
         printf '%s%s would hold more than its capacity of %d%s. ' "${place_names[$3]}" "$pocket" "$(number_at 1 $((1 + 2 * $3)) 4)" "$before"
@@ -86,6 +93,7 @@ say_refused() {
         11) rule='the line breaks the digit rules or lacks its line feed' cause=$(cause_of_digits "$2") ;;
         12) rule='unknown kind, wrong order, length or index, or frames missing at the end' cause=$(cause_of_frame "$2") ;;
         17) rule='a place or a transition has no arc' cause=$(read_names "$names"; cause_of_loose) ;;
+        18) rule='a weight is over 4,095' cause=$(read_names "$names"; cause_of_weight $(($2 - masks - 4))) ;;
     esac
     printf 'the file is refused at line %d and nothing was played: %s (refusal %d).' "$2" "$rule" "$1"
     [ -z "$cause" ] || printf ' Likely cause: %s.' "$cause"
@@ -111,11 +119,12 @@ cause_of_tokens() {
 
 # The first place that no transition has an arc with, else the first transition without one.
 cause_of_loose() {
-    local p t row
+    local p t row width
     for ((p = 0; p < places; p++)); do
         for ((t = 0; t < transitions; t++)); do
-            row=${frames[3 + masks + t]}
-            [ "${row:4 + 2 * p:2}${row:4 + 2 * (places + p):2}" = 0000 ] || continue 2
+            row=${frames[3 + masks + t]} width=2
+            [[ $row != 07* ]] || width=4
+            [[ ${row:4 + width * p:width}${row:4 + width * (places + p):width} =~ ^0*$ ]] || continue 2
         done
         printf 'no transition takes from %s or puts there' "${place_names[p]}"
         return
@@ -123,6 +132,18 @@ cause_of_loose() {
     for ((t = 0; t < transitions; t++)); do
         [[ ${frames[3 + masks + t]:4} =~ ^0*$ ]] || continue
         printf '%s takes nothing and puts nothing' "${transition_names[t]}"
+        return
+    done
+}
+
+# The first weight of transition $1 that is over 4,095.
+cause_of_weight() {
+    local k weight
+    for ((k = 0; k < 2 * places; k++)); do
+        weight=$(weight_at "$1" "$k")
+        ((weight > 4095)) || continue
+        if ((k < places)); then printf '%s takes %d from %s' "${transition_names[$1]}" "$weight" "${place_names[k]}"
+        else printf '%s puts %d into %s' "${transition_names[$1]}" "$weight" "${place_names[k - places]}"; fi
         return
     done
 }
@@ -158,10 +179,10 @@ cause_of_digits() {
     bare=${text//[$' \t']/}
     [[ $bare != *[a-f]* ]] || found+=('lower case letters (write A to F)')
     if [[ $bare == *[!0-9A-Fa-f]* ]]; then found+=("$(wrong_character "$text")")
-    elif [ ${#bare} -gt 260 ]; then found+=('more than 260 digits')
+    elif [ ${#bare} -gt 516 ]; then found+=('more than 516 digits')
     elif [ -z "$text" ] && [ ${#found[@]} -eq 0 ]; then found+=('the line is empty')
     elif [ $((${#bare} % 2)) -eq 1 ]; then found+=('an odd number of digits'); fi
-    [ ${#text} -gt 260 ] || [[ $row == *$'\n' ]] || found+=('the last line feed is missing')
+    [ ${#text} -gt 516 ] || [[ $row == *$'\n' ]] || found+=('the last line feed is missing')
     join_causes ${found[@]+"${found[@]}"}
 }
 
@@ -182,7 +203,7 @@ join_causes() {
 }
 
 # What belongs on line $1, by the lines before it, sets wanted (the kind) and size (its bytes; for events the most). Where a
-# line of kind 06 may stand, 03 is wanted.
+# line of kind 06 may stand, 03 is wanted; where 04 is, a line of kind 07 may stand, and is wanted if it does.
 belongs() {
     local rank=$(($1 - masks))
     if [ $rank -le 3 ]; then
@@ -190,6 +211,7 @@ belongs() {
         [ $rank -ne 1 ] || size=3
     elif [ $rank -le $((3 + transitions)) ]; then
         wanted=04 size=$((2 + 2 * places))
+        [[ ${frames[$1 - 1]-} != 07* ]] || wanted=07 size=$((2 + 4 * places))
     else
         wanted=05 size=65
     fi
@@ -203,8 +225,8 @@ cause_of_frame() {
     if [ "$1" -gt ${#frames[@]} ]; then
         [ ${#frames[@]} -gt 0 ] && printf 'the file ends after line %d' ${#frames[@]} || printf 'the file is empty'
         printf ', and a line of kind %s has to follow' "$wanted"
-    elif [[ ${text:0:2} != 0[1-6] ]]; then
-        printf 'the kind of the line, %s, is none of 01 to 06' "${text:0:2}"
+    elif [[ ${text:0:2} != 0[1-7] ]]; then
+        printf 'the kind of the line, %s, is none of 01 to 07' "${text:0:2}"
     elif [ "${text:0:2}" = 06 ]; then
         cause_of_mask "$1" "$bytes"
     elif [ "${text:0:2}" != "$wanted" ]; then
@@ -213,8 +235,10 @@ cause_of_frame() {
         cause_of_events "$1" "$bytes"
     elif [ $bytes -ne "$size" ]; then
         printf 'the line has %d bytes, and %d belong there' $bytes "$size"
-    else
+    elif [ $((16#${text:2:2})) -ne $(($1 - masks - 4)) ]; then
         printf 'the line is for transition %d, and transition %d belongs there' $((16#${text:2:2})) $(($1 - masks - 4))
+    else
+        printf 'the line has no weight over 255, and is to be one of kind 04 then'
     fi
 }
 

@@ -1,5 +1,5 @@
 #!/usr/bin/env python3
-"""Case files and the line that each must answer, from document 01's "Case file lines", 02's E4 and E5 and DECISIONS 48 and 98.
+"""Case files and the line that each must answer, from document 01's "Case file lines", 02's E4, E5 and E6 and DECISIONS 48 and 98.
 
   tests/cases/make.py          writes NAME.case and NAME.line beside itself
   tests/cases/make.py --check  says nothing where the files are those that it would write
@@ -12,6 +12,7 @@ from pathlib import Path
 
 HERE = Path(__file__).resolve().parent
 NONE = 65535
+HEAVIEST = 4095
 
 
 class Refused(Exception):
@@ -34,14 +35,14 @@ def judge(data):
 
 
 def frame(want, net, piece, line):
-    if not 2 <= len(piece) <= 260 or len(piece) % 2 or any(c not in b"0123456789ABCDEF" for c in piece):
+    if not 2 <= len(piece) <= 516 or len(piece) % 2 or any(c not in b"0123456789ABCDEF" for c in piece):
         raise Refused(11, line)
     body = bytes.fromhex(piece.decode("ascii"))
     kind, rest = "%02X" % body[0], body[1:]
     if kind == "06" and want == "03" and "marks" not in net:
         net["marks"] = marks_of(rest, net["P"], line)
         return "03"
-    if kind != want:
+    if kind != want and (kind, want) != ("07", "04"):
         raise Refused(12, line)
     if kind == "01":
         if len(rest) != 2:
@@ -63,11 +64,10 @@ def frame(want, net, piece, line):
         net["initial"] = numbers
         net.setdefault("marks", [0] * places)
         return "04"
-    if kind == "04":
-        if len(rest) != 1 + 2 * places or rest[0] != len(net["pre"]):
-            raise Refused(12, line)
-        net["pre"].append(rest[1:1 + places])
-        net["post"].append(rest[1 + places:])
+    if want == "04":
+        weights = weights_of(kind, rest, places, len(net["pre"]), line)
+        net["pre"].append(weights[:places])
+        net["post"].append(weights[places:])
         if len(net["pre"]) < net["T"]:
             return "04"
         if is_loose(net):
@@ -81,6 +81,20 @@ def frame(want, net, piece, line):
         raise Refused(5, line)
     net["word"] += rest
     return "05"
+
+
+def weights_of(kind, rest, places, index, line):
+    """The weights of a row, Pre before Post: bytes in a 04; document 02, E6: a "frame 07 has two-byte weights and is used for a
+    transition exactly when one of its weights is over 255; an 07 with none such is refusal 12"; 18 for one over 4,095."""
+    size = 2 if kind == "07" else 1
+    if len(rest) != 1 + 2 * size * places or rest[0] != index:
+        raise Refused(12, line)
+    weights = [int.from_bytes(rest[k:k + size], "big") for k in range(1, len(rest), size)]
+    if kind == "07" and max(weights) <= 255:
+        raise Refused(12, line)
+    if max(weights) > HEAVIEST:
+        raise Refused(18, line)
+    return weights
 
 
 def marks_of(rest, places, line):
@@ -125,13 +139,24 @@ def answer(data):
     return replayed(net)
 
 
+def narrow_row(t, weights):
+    """A frame 04, of the weights of Pre and then of Post."""
+    return "04%02X" % t + "".join("%02X" % w for w in weights)
+
+
+def wide_row(t, weights):
+    """A frame 07."""
+    return "07%02X" % t + "".join("%04X" % w for w in weights)
+
+
 def lines_of(places, transitions, caps, initial, pre, post, word, marks=()):
     out = ["01%02X%02X" % (places, transitions), "02" + "".join("%04X" % c for c in caps)]
     if any(marks):  # E5: "written only if some place is a pocket"
         out.append("06%016X" % sum(1 << p for p, mark in enumerate(marks) if mark))
     out.append("03" + "".join("%04X" % m for m in initial))
     for t in range(transitions):
-        out.append("04%02X" % t + "".join("%02X" % b for b in list(pre[t]) + list(post[t])))
+        weights = list(pre[t]) + list(post[t])
+        out.append(narrow_row(t, weights) if max(weights, default=0) <= 255 else wide_row(t, weights))
     for k in range(0, len(word), 64):
         out.append("05" + "".join("%02X" % b for b in word[k:k + 64]))
     return out
@@ -148,15 +173,15 @@ def word_case(word):
     return text(WHOLE[:6] + ["05" + "".join("%02X" % b for b in word[k:k + 64]) for k in range(0, len(word), 64)])
 
 
-def big(places, transitions, letters, rng, marks=()):
+def big(places, transitions, letters, rng, marks=(), by=1):
     pre = [[0] * places for _ in range(transitions)]
     post = [[0] * places for _ in range(transitions)]
     for t in range(transitions):
-        pre[t][t % places], post[t][(t + 1) % places] = 1, 1
+        pre[t][t % places], post[t][(t + 1) % places] = by, by
     for p in range(transitions + 1, places):  # what no transition has reached yet
-        post[0][p] = 1
+        post[0][p] = by
     word = [t % transitions for t in range(letters)]
-    return text(lines_of(places, transitions, [NONE] * places, [1] + [0] * (places - 1), pre, post, word, marks))
+    return text(lines_of(places, transitions, [NONE] * places, [by] + [0] * (places - 1), pre, post, word, marks))
 
 
 def wire(held):
@@ -272,6 +297,82 @@ def mask_cases():
     yield "pocket-then-short", text(lines_of(2, 1, [1, 9], [1, 0], [[1, 1]], [[1, 0]], [0], [1, 0]))
 
 
+def wide_cases():
+    """Frame 07 and weights up to 4,095: where it may stand, what it may hold, 18, and what large weights do."""
+    def of(rows, word=(0, 1, 0, 1, 2), caps=(NONE, NONE, NONE), initial=(1, 0, 0)):
+        return text(lines_of(3, len(rows), caps, initial, [r[:3] for r in rows], [r[3:] for r in rows], word))
+    net = [[1, 0, 0, 0, 1, 0], [0, 1, 0, 1, 0, 2], [0, 0, 3, 0, 0, 0]]  # 01's case, which has a capacity at place 2
+
+    def put(t, k, weight):
+        """01's case with this weight at place k of transition t, those of Post from 3 on."""
+        return [[weight if (t, k) == (u, i) else w for i, w in enumerate(row)] for u, row in enumerate(net)]
+    # the largest weight of a frame 04, the smallest of an 07, the largest of all and what is over it: in Pre and Post, at the first
+    # and the last place, of the first and the last transition
+    for t in (0, 2):
+        for side, k in (("pre-0", 0), ("pre-2", 2), ("post-0", 3), ("post-2", 5)):
+            for weight in (255, 256, 4095, 4096, 65535):
+                yield "wide-%d-%s-%d" % (t, side, weight), of(put(t, k, weight))
+    wide = [[256 * w for w in row] for row in net]
+    yield "wide-all", of(wide, initial=(256, 0, 0))
+    yield "wide-first-two", of(wide[:2] + net[2:], initial=(256, 0, 0))
+    yield "wide-last", of(net[:2] + wide[2:])
+    yield "wide-middle", of([net[0], wide[1], net[2]], initial=(300, 0, 0))
+    yield "wide-no-word", of(wide, word=())
+    # an 07 in which no weight is over 255
+    small = [wide_row(t, row) for t, row in enumerate(net)]
+    for t in range(3):
+        yield "wide-small-%d" % t, text(WHOLE[:3 + t] + [small[t]] + WHOLE[4 + t:])
+    yield "wide-zeros", text(WHOLE[:5] + [wide_row(2, [0] * 6)] + WHOLE[6:])
+    yield "wide-small-255", text(WHOLE[:5] + [wide_row(2, [0, 0, 255, 255, 255, 255])] + WHOLE[6:])
+    yield "wide-small-last-256", text(WHOLE[:5] + [wide_row(2, [0, 0, 255, 255, 255, 256])] + WHOLE[6:])
+    # lengths, indices, digits
+    good = wide_row(1, [0, 1, 0, 1, 0, 4095])
+    row = lambda middle: text(WHOLE[:1] + ["02FFFFFFFFFFFF"] + WHOLE[2:4] + [middle] + WHOLE[5:])
+    for name, middle in (
+        ("good", good), ("short", good[:-2]), ("long", good + "00"), ("half", "0701" + "00" * 6), ("narrow-twice", "0401" + good[4:]), ("bare", "07"), ("index-only", "0701"),
+        ("index-0", "0700" + good[4:]), ("index-2", "0702" + good[4:]), ("index-past", "0703" + good[4:]), ("lower", good[:-1] + "f"), ("odd", good[:-1]), ("g", good[:-1] + "G"),
+        ("low-byte-first", wide_row(1, [0, 0x0100, 0, 0x0100, 0, 0x0200])), ("heavy-low-byte-first", wide_row(1, [0, 0x0100, 0, 0xFF00, 0, 0x0200])), ("post-for-pre", wide_row(1, [1, 0, 4095, 0, 1, 0])),
+    ):
+        yield "wide-row-" + name, row(middle)
+    for k in range(8):
+        yield "wide-before-line-%d" % (k + 1), text(WHOLE[:k] + [good] + WHOLE[k:])
+    yield "wide-twice", text(WHOLE[:4] + [good, good] + WHOLE[5:])
+    yield "wide-ends-the-file", text(WHOLE[:4] + [good])
+    # 18 beside other refusals, on its line and on others
+    heavy = [wide_row(t, [4096 if w else 0 for w in r]) for t, r in enumerate(net)]
+    loose = wide_row(2, [4096, 0, 0, 0, 0, 0])  # and no arc at place 2
+    one = lambda k, line, head=WHOLE[:3]: text(head + WHOLE[3:3 + k] + [line] + WHOLE[4 + k:])
+    yield "heavy-two-rows", text(WHOLE[:4] + heavy[1:] + WHOLE[6:])
+    yield "heavy-and-tokens", one(1, heavy[1], WHOLE[:2] + ["03000100000006"])
+    yield "heavy-and-counts", one(1, heavy[1], ["010003"] + WHOLE[1:3])
+    yield "heavy-and-index", one(1, "0702" + heavy[1][4:])
+    yield "heavy-and-length", one(1, heavy[1] + "00")
+    yield "heavy-and-digit", one(1, heavy[1][:-1] + "a")
+    yield "heavy-and-loose", text(WHOLE[:4] + [narrow_row(1, [0, 1, 0, 1, 0, 0]), loose] + WHOLE[6:])
+    yield "heavy-then-loose", text(WHOLE[:4] + [wide_row(1, [0, 4096, 0, 1, 0, 0]), narrow_row(2, [1] + [0] * 5)] + WHOLE[6:])
+    yield "heavy-then-letter", text(WHOLE[:5] + [heavy[2], "050003"])
+    yield "heavy-then-small", text(WHOLE[:3] + heavy[:1] + small[1:2] + WHOLE[5:])
+    yield "heavy-after-small", text(WHOLE[:3] + small[:1] + heavy[1:2] + WHOLE[5:])
+    yield "heavy-then-index", text(WHOLE[:3] + heavy[:1] + ["0402000100010002"] + WHOLE[5:])
+    yield "heavy-no-feed", text(WHOLE[:5] + heavy[2:])[:-1]
+    yield "heavy-then-no-feed", text(WHOLE[:5] + heavy[2:] + WHOLE[6:])[:-1]
+    yield "heavy-behind-mask", text(WHOLE[:2] + ["060000000000000004"] + WHOLE[2:4] + heavy[1:2] + WHOLE[5:])
+    yield "wide-loose", text(WHOLE[:4] + [narrow_row(1, [0, 1, 0, 1, 0, 0]), wide_row(2, [4095] + [0] * 5)] + WHOLE[6:])
+    yield "wide-wired-256", of(put(2, 2, 256))  # an arc whose low byte is 0
+    # 64 places and 64 transitions: rows of 516 digits; the longest file there is
+    yield "wide-64", big(64, 64, 70, None, by=4095)
+    yield "wide-64-heavy", big(64, 64, 70, None, by=4096)
+    yield "wide-64-all", big(64, 64, 65535, None, [1] * 64, by=4095)
+    # what large weights do, at one place: short and over by one, a pocket, and the most tokens that a replay reaches
+    place = lambda cap, tokens, pre, post, word, mark=0: text(lines_of(1, len(pre), [cap], [tokens], [[a] for a in pre], [[b] for b in post], word, [mark]))
+    for name, *asked in (
+        ("just-enough", NONE, 4095, [4095], [0], [0]), ("one-short", NONE, 4094, [4095], [0], [0]), ("just-fits", 8000, 3905, [0], [4095], [0]), ("one-over", 7999, 3905, [0], [4095], [0]),
+        ("loop", 4095, 4095, [4095], [4095], [0] * 3), ("loop-one-short", 4095, 4094, [4095], [4095], [0]), ("pocket-loop", 4095, 4095, [4095], [4095], [0], 1), ("pocket-fits", 8190, 4095, [4095], [4095], [0] * 3, 1),
+        ("most-tokens", NONE, 65534, [0], [4095], [0] * 65535), ("past-65535", NONE, 65534, [0], [1000], [0]), ("down-to-0", NONE, 65520, [4095], [0], [0] * 16), ("below-0", NONE, 65534, [4095], [0], [0] * 17),
+    ):
+        yield "kilograms-" + name, place(*asked)
+
+
 def cases():
     yield "whole", text(WHOLE)
     # files that end too early: DECISIONS 98
@@ -288,7 +389,7 @@ def cases():
     for k in range(7):
         line = WHOLE[k]
         for name, new in (("lower", line[:-2] + "0a"), ("return", line + "\r"), ("blank", line + "  "), ("odd", line + "0"), ("empty", ""),
-                          ("nul", line[:-2] + "\0\0"), ("long", line + "00"), ("short", line[:-2]), ("kind", "07" + line[2:]), ("six", "06" + line[2:]), ("zero", "00" + line[2:]), ("colon", line[:-1] + ":"), ("at", line[:-1] + "@"), ("g", line[:-1] + "G"), ("slash", line[:-1] + "/")):
+                          ("nul", line[:-2] + "\0\0"), ("long", line + "00"), ("short", line[:-2]), ("kind", "08" + line[2:]), ("six", "06" + line[2:]), ("seven", "07" + line[2:]), ("zero", "00" + line[2:]), ("colon", line[:-1] + ":"), ("at", line[:-1] + "@"), ("g", line[:-1] + "G"), ("slash", line[:-1] + "/")):
             yield "line%d-%s" % (k + 1, name), text(WHOLE[:k] + [new] + WHOLE[k + 1:])
         yield "line%d-twice" % (k + 1), text(WHOLE[:k] + [line, line] + WHOLE[k + 1:])
         yield "line%d-missing" % (k + 1), text(WHOLE[:k] + WHOLE[k + 1:])
@@ -335,6 +436,12 @@ def cases():
     yield "digits-261", text(["01" + "00" * 129 + "0"])
     yield "digits-260-row", big(64, 1, 5, rng)
     yield "digits-262-row", big(64, 1, 5, rng).replace(b"\n05", b"00\n05")
+    yield "digits-516", text(["01" + "00" * 257])
+    yield "digits-517", text(["01" + "00" * 257 + "0"])
+    yield "digits-518", text(["01" + "00" * 258])
+    yield "digits-516-row", big(64, 1, 5, rng, by=256)
+    yield "digits-518-row", big(64, 1, 5, rng, by=256).replace(b"\n05", b"00\n05")
+    yield "digits-514-row", big(64, 1, 5, rng, by=256).replace(b"00\n05", b"\n05")
     yield "megabyte", b"0" * 1000000
     yield "megabyte-after-whole", text(WHOLE) + b"0" * 1000000
     yield "nul-bytes", b"\0" * 64
@@ -343,6 +450,7 @@ def cases():
     yield "high-bytes", b"\xff\xfe\n"
     yield from loose_cases()
     yield from mask_cases()
+    yield from wide_cases()
     # blocks short and over on believable nets, by chance
     for k in range(30):
         p, t = rng.randint(1, 9), rng.randint(1, 6)
@@ -369,6 +477,18 @@ def cases():
             post = [[rng.choice([0, a, a, a + 1]) for a in row] for row in pre]
         word = [rng.randrange(t) for _ in range(rng.choice([1, 5, 20]))]
         yield "chance-pockets-%02d" % k, text(lines_of(p, t, caps, initial, pre, post, word, marks))
+    # and with weights up to 4,095
+    for k in range(20):
+        p, t = rng.randint(1, 5), rng.randint(1, 4)
+        caps = [rng.choice([NONE, rng.randint(4000, 9000), 65534]) for _ in range(p)]
+        marks = [rng.choice([0, 0, 1]) for _ in range(p)]
+        initial = [rng.randint(2000, min(c, 9000)) for c in caps]
+        pre = post = [[0]]
+        while is_loose({"pre": pre, "post": post}):
+            pre = [[rng.choice([0, 0, 1, 255, 256, rng.randint(1, 4095)]) for _ in range(p)] for _ in range(t)]
+            post = [[rng.choice([0, a, 255, 256, rng.randint(0, 4095)]) for a in row] for row in pre]
+        word = [rng.randrange(t) for _ in range(rng.choice([1, 5, 20]))]
+        yield "chance-wide-%02d" % k, text(lines_of(p, t, caps, initial, pre, post, word, marks))
 
 
 def main():

@@ -126,8 +126,10 @@ static struct given ask_unread_rest(int side) {
 /* The faults of what is lent. */
 #define F(fault) ((fault_set)1 << (fault))
 #define OF_LOOSE (F(LOOSE_PLACE) | F(LOOSE_TRANSITION))
+#define OF_HEAVY (F(HEAVY_PRE) | F(HEAVY_POST))
 #define OF_NET \
-    (F(BAD_PLACES) | F(BAD_TRANSITIONS) | F(PRE_LENGTH) | F(POST_LENGTH) | F(CAPS_LENGTH) | F(MARKS_LENGTH) | OF_LOOSE)
+    (F(BAD_PLACES) | F(BAD_TRANSITIONS) | F(PRE_LENGTH) | F(POST_LENGTH) | F(CAPS_LENGTH) | F(MARKS_LENGTH) | OF_LOOSE | \
+     OF_HEAVY)
 #define OF_MARKING (F(INITIAL_LENGTH) | F(INITIAL_FULL) | F(INITIAL_OVER))
 #define OF_WORD (F(LONG_WORD) | F(BAD_LETTER))
 #define OF_STRETCH (OF_WORD | F(BAD_START) | F(BAD_END))
@@ -147,56 +149,59 @@ static struct given ask_unread_rest(int side) {
 #define OF_LINES (F(LINE_FEED) | F(LINE_EMPTY) | F(LINE_ODD) | F(LINE_LONG) | F(LINE_DIGIT))
 #define OF_FRAMES \
     (F(FRAME_KIND) | F(FRAME_ORDER) | F(FRAME_LENGTH) | F(FRAME_INDEX) | F(FRAME_SHORT) | F(FRAME_MISSING) | F(MASK_EMPTY) | \
-     F(MASK_PAST) | F(MASK_AGAIN) | F(MASK_ELSEWHERE))
+     F(MASK_PAST) | F(MASK_AGAIN) | F(MASK_ELSEWHERE) | F(ROW_SMALL))
 #define OF_FILE_NUMBERS \
-    (F(FILE_PLACES) | F(FILE_TRANSITIONS) | F(FILE_FULL) | F(FILE_OVER) | F(FILE_LOOSE_PLACE) | F(FILE_LOOSE_TRANSITION) | \
-     F(LONG_FILE) | F(FILE_LETTER))
+    (F(FILE_PLACES) | F(FILE_TRANSITIONS) | F(FILE_HEAVY_PRE) | F(FILE_HEAVY_POST) | F(FILE_FULL) | F(FILE_OVER) | \
+     F(FILE_LOOSE_PLACE) | F(FILE_LOOSE_TRANSITION) | F(LONG_FILE) | F(FILE_LETTER))
 
 #define B(number) (1u << (number))
+/* the refusals of a net, and those of them that have a position */
+#define NETS (B(1) | B(2) | FURTHER)
+#define FURTHER (B(17) | B(18))
 const struct question questions[] = {
     {"replay_word", make_replay, ask_replay_word, B(0) | B(1) | B(2), B(0) | B(1) | B(2),
-     B(1) | B(2) | B(3) | B(4) | B(5) | B(17), B(3) | B(5) | B(17), OF_NET | OF_MARKING | OF_WORD | OF_ROOM},
+     NETS | B(3) | B(4) | B(5), B(3) | B(5) | FURTHER, OF_NET | OF_MARKING | OF_WORD | OF_ROOM},
     {"replay_stretch", make_replay_stretch, ask_replay_stretch, B(0) | B(1) | B(2), B(0) | B(1) | B(2),
-     B(1) | B(2) | B(3) | B(4) | B(5) | B(17), B(3) | B(5) | B(17), OF_NET | OF_MARKING | OF_STRETCH | OF_ROOM},
+     NETS | B(3) | B(4) | B(5), B(3) | B(5) | FURTHER, OF_NET | OF_MARKING | OF_STRETCH | OF_ROOM},
     {"empty_summary", make_empty, ask_empty_summary, B(0), 0, B(1) | B(2), 0, F(BAD_PLACES) | OF_SUMMARY_ROOMS},
-    {"summary_word", make_summary, ask_summary_word, B(0), 0, B(1) | B(2) | B(4) | B(5) | B(17), B(5) | B(17),
+    {"summary_word", make_summary, ask_summary_word, B(0), 0, NETS | B(4) | B(5), B(5) | FURTHER,
      OF_NET | OF_WORD | OF_SUMMARY_ROOMS},
-    {"summary_stretch", make_summary_stretch, ask_summary_stretch, B(0), 0, B(1) | B(2) | B(4) | B(5) | B(17), B(5) | B(17),
+    {"summary_stretch", make_summary_stretch, ask_summary_stretch, B(0), 0, NETS | B(4) | B(5), B(5) | FURTHER,
      OF_NET | OF_STRETCH | OF_SUMMARY_ROOMS},
     {"join_summaries", make_join, ask_join_summaries, B(0), 0, B(1) | B(2) | B(6) | B(7), B(6),
      OF_FIRST | OF_SECOND | F(NOT_THE_OTHERS) | F(LONG_TOGETHER) | OF_SUMMARY_ROOMS},
-    {"ask_summary", make_ask, ask_ask_summary, B(0) | B(1), 0, B(1) | B(2) | B(3) | B(6) | B(17), B(3) | B(6) | B(17),
+    {"ask_summary", make_ask, ask_ask_summary, B(0) | B(1), 0, NETS | B(3) | B(6), B(3) | B(6) | FURTHER,
      OF_NET | OF_MARKING | OF_FIRST | F(NOT_THE_NETS) | OF_ROOM},
-    {"place_weighting", make_place_weighting, ask_place_weighting, B(0) | B(1), B(1), B(1) | B(2) | B(8) | B(17), B(17),
+    {"place_weighting", make_place_weighting, ask_place_weighting, B(0) | B(1), B(1), NETS | B(8), FURTHER,
      OF_NET | OF_WEIGHTS},
     {"transition_weighting", make_transition_weighting, ask_transition_weighting, B(0) | B(1) | B(2), B(1),
-     B(1) | B(2) | B(8) | B(17), B(17), OF_NET | OF_WEIGHTS},
-    {"place_bound", make_bound, ask_place_bound, B(0), B(21) | B(22) | B(23), B(1) | B(2) | B(3) | B(8) | B(13) | B(17),
-     B(3) | B(17), OF_NET | OF_MARKING | OF_WEIGHTS | F(BAD_PLACE)},
-    {"siphon_set", make_set, ask_siphon_set, B(0) | B(1), B(1), B(1) | B(2) | B(8) | B(17), B(17), OF_NET | OF_SET},
-    {"trap_set", make_set, ask_trap_set, B(0) | B(1), B(1), B(1) | B(2) | B(8) | B(17), B(17), OF_NET | OF_SET},
-    {"closed_list", make_closed, ask_closed_list, B(0) | B(1) | B(2), B(2), B(1) | B(2) | B(3) | B(9) | B(17), B(3) | B(17),
+     NETS | B(8), FURTHER, OF_NET | OF_WEIGHTS},
+    {"place_bound", make_bound, ask_place_bound, B(0), B(21) | B(22) | B(23), NETS | B(3) | B(8) | B(13),
+     B(3) | FURTHER, OF_NET | OF_MARKING | OF_WEIGHTS | F(BAD_PLACE)},
+    {"siphon_set", make_set, ask_siphon_set, B(0) | B(1), B(1), NETS | B(8), FURTHER, OF_NET | OF_SET},
+    {"trap_set", make_set, ask_trap_set, B(0) | B(1), B(1), NETS | B(8), FURTHER, OF_NET | OF_SET},
+    {"closed_list", make_closed, ask_closed_list, B(0) | B(1) | B(2), B(2), NETS | B(3) | B(9), B(3) | FURTHER,
      OF_NET | OF_MARKING | OF_CLOSED},
     {"closed_target", make_closed_target, ask_closed_target, B(0) | B(1) | B(2) | B(3), B(2),
-     B(1) | B(2) | B(3) | B(9) | B(17), B(3) | B(17), OF_NET | OF_MARKING | OF_CLOSED | OF_TARGET},
-    {"closed_stall", make_closed, ask_closed_stall, B(0) | B(1) | B(2) | B(3), B(2), B(1) | B(2) | B(3) | B(9) | B(17),
-     B(3) | B(17), OF_NET | OF_MARKING | OF_CLOSED},
-    {"cover_list", make_cover, ask_cover_list, B(0) | B(1) | B(2), B(2), B(1) | B(2) | B(3) | B(9) | B(17), B(3) | B(17),
+     NETS | B(3) | B(9), B(3) | FURTHER, OF_NET | OF_MARKING | OF_CLOSED | OF_TARGET},
+    {"closed_stall", make_closed, ask_closed_stall, B(0) | B(1) | B(2) | B(3), B(2), NETS | B(3) | B(9),
+     B(3) | FURTHER, OF_NET | OF_MARKING | OF_CLOSED},
+    {"cover_list", make_cover, ask_cover_list, B(0) | B(1) | B(2), B(2), NETS | B(3) | B(9), B(3) | FURTHER,
      OF_NET | OF_MARKING | OF_COVER},
-    {"cover_target", make_cover_target, ask_cover_target, B(0) | B(1) | B(2) | B(3), B(2), B(1) | B(2) | B(3) | B(9) | B(17),
-     B(3) | B(17), OF_NET | OF_MARKING | OF_COVER | OF_TARGET},
-    {"complement_places", make_complement_places, ask_complement_places, B(0), 0, B(1) | B(2) | B(10) | B(17), B(17),
+    {"cover_target", make_cover_target, ask_cover_target, B(0) | B(1) | B(2) | B(3), B(2), NETS | B(3) | B(9),
+     B(3) | FURTHER, OF_NET | OF_MARKING | OF_COVER | OF_TARGET},
+    {"complement_places", make_complement_places, ask_complement_places, B(0), 0, NETS | B(10), FURTHER,
      OF_NET | F(MANY_PLACES)},
-    {"complement_net", make_complement, ask_complement_net, B(0), 0, B(1) | B(2) | B(3) | B(10) | B(17), B(3) | B(17),
+    {"complement_net", make_complement, ask_complement_net, B(0), 0, NETS | B(3) | B(10), B(3) | FURTHER,
      OF_NET | OF_MARKING | OF_NET_ROOMS | F(MANY_PLACES)},
-    {"read_case", make_case, ask_read_case, B(0), 0, B(2), B(1) | B(3) | B(4) | B(5) | B(11) | B(12) | B(17),
+    {"read_case", make_case, ask_read_case, B(0), 0, B(2), B(1) | B(3) | B(4) | B(5) | B(11) | B(12) | FURTHER,
      OF_NET_ROOMS | OF_ROOM | OF_FILE_NUMBERS | OF_LINES | OF_FRAMES},
-    {"case_length", make_case_length, ask_case_length, B(0), 0, B(1) | B(2) | B(3) | B(4) | B(5) | B(17), B(3) | B(5) | B(17),
+    {"case_length", make_case_length, ask_case_length, B(0), 0, NETS | B(3) | B(4) | B(5), B(3) | B(5) | FURTHER,
      OF_NET | OF_MARKING | OF_WORD},
-    {"write_case", make_write_case, ask_write_case, B(0), 0, B(1) | B(2) | B(3) | B(4) | B(5) | B(14) | B(17),
-     B(3) | B(5) | B(17), OF_NET | OF_MARKING | OF_WORD | F(SHORT_ROOM)},
-    {"order_logs", make_order_logs, ask_order_logs, B(0) | B(1), 0, B(1) | B(2) | B(3) | B(4) | B(5) | B(15) | B(17),
-     B(3) | B(5) | B(17), OF_NET | OF_MARKING | OF_LOGS | OF_LETTERS | OF_ROOM | F(WORK_LENGTH)},
+    {"write_case", make_write_case, ask_write_case, B(0), 0, NETS | B(3) | B(4) | B(5) | B(14),
+     B(3) | B(5) | FURTHER, OF_NET | OF_MARKING | OF_WORD | F(SHORT_ROOM)},
+    {"order_logs", make_order_logs, ask_order_logs, B(0) | B(1), 0, NETS | B(3) | B(4) | B(5) | B(15),
+     B(3) | B(5) | FURTHER, OF_NET | OF_MARKING | OF_LOGS | OF_LETTERS | OF_ROOM | F(WORK_LENGTH)},
     {"rest_fault", make_rest, ask_rest_fault, B(0), 0, B(4) | B(15) | B(16), 0, OF_LOGS | OF_ORDER},
     {"unread_rest", make_rest, ask_unread_rest, B(20) | B(21), 0, B(4) | B(15) | B(16), 0, OF_LOGS | OF_ORDER},
 };

@@ -78,13 +78,19 @@ static int missing(size_t q, uint32_t classes, int refused, int further) {
     return lacks;
 }
 
-/* Does refusal i come before j? The lower number does, but 17 comes right after 3, and 15 and 16 right after 4; and after those
- * of the whole file come those of its lines. */
+/* Where a refusal stands among them: by its number, but 18 comes right after 2, 17 right after 3, and 15 and 16 right after 4. In
+ * a file 3 falls on a line before those of 18, and comes first. */
+static int rank_of(int refusal, int of_line) {
+    static const int ranks[REFUSALS] = {0, 1, 2, 4, 6, 9, 10, 11, 12, 13, 14, 15, 16, 17, 18, 7, 8, 5, 3};
+    static const int ranks_in_file[REFUSALS] = {0, 1, 2, 3, 6, 9, 10, 11, 12, 13, 14, 15, 16, 17, 18, 7, 8, 5, 4};
+    return (of_line ? ranks_in_file : ranks)[refusal];
+}
+
+/* Does refusal i come before j? After those of the whole file come those of its lines. */
 static int comes_before(size_t q, int i, int j) {
-    static const int ranks[REFUSALS] = {0, 1, 2, 3, 5, 8, 9, 10, 11, 12, 13, 14, 15, 16, 17, 6, 7, 4};
     uint32_t of_lines = questions[q].refusals_further & ~questions[q].refusals;
     int i_of_line = (of_lines >> i & 1u) != 0, j_of_line = (of_lines >> j & 1u) != 0;
-    return i_of_line == j_of_line ? ranks[i] < ranks[j] : j_of_line;
+    return i_of_line == j_of_line ? rank_of(i, i_of_line) < rank_of(j, j_of_line) : j_of_line;
 }
 
 /* Reports two refusals that were never due at once. */

@@ -1,10 +1,10 @@
 /* The comparer: the library and the reference are asked the same questions, and must agree in everything.
  *
  * An input is drawn from a seed, its question and its number alone (random.c), with the faults that plan.c plans for it,
- * into lent memory with guard bytes around each piece (lend.c). What is drawn is up to net.c, wire.c, word.c, complement.c,
- * summary.c, weighting.c, lists.c, file.c, damage.c, write.c and order.c; ask.c puts the question to both sides; compare.c
- * compares, counts what came, and reports; faults.c and lines.c find which lent thing a refusal comes from, decided.c counts
- * those, and edges.c knows the edges that must come. every.c asks without chance: all short logs of some small nets.
+ * into lent memory with guard bytes around each piece (lend.c). What is drawn is up to net.c, wire.c, heavy.c, word.c,
+ * complement.c, summary.c, weighting.c, lists.c, file.c, damage.c, write.c and order.c; ask.c puts the question to both sides;
+ * compare.c compares, counts what came, and reports; faults.c and lines.c find which lent thing a refusal comes from, decided.c
+ * counts those, and edges.c knows the edges that must come. every.c asks without chance: all short logs of some small nets.
  */
 #ifndef COMPARE_H
 #define COMPARE_H
@@ -52,7 +52,7 @@ void print_input(void);
 /* ---- plan.c, faults.c, lines.c */
 
 /* Refusals are numbered from 1 up to, and without, this. */
-enum { REFUSALS = 18 };
+enum { REFUSALS = 19 };
 
 /* Every fault that a lent thing can have, by the refusal that it gives; the table in faults.c has their names. */
 enum fault {
@@ -72,13 +72,15 @@ enum fault {
     LINE_FEED, LINE_EMPTY, LINE_ODD, LINE_LONG, LINE_DIGIT,
     /* 12 */
     FRAME_KIND, FRAME_ORDER, FRAME_LENGTH, FRAME_INDEX, FRAME_SHORT, FRAME_MISSING, MASK_EMPTY, MASK_PAST, MASK_AGAIN,
-    MASK_ELSEWHERE,
+    MASK_ELSEWHERE, ROW_SMALL,
     /* 15 */
     OVER_LOG, OVER_LOG_1,
     /* 16 */
     ORDER_SPLIT, ORDER_BYTE, ORDER_LENGTH, BAD_STEP,
     /* 17 */
     LOOSE_PLACE, LOOSE_TRANSITION, FILE_LOOSE_PLACE, FILE_LOOSE_TRANSITION,
+    /* 18 */
+    HEAVY_PRE, HEAVY_POST, FILE_HEAVY_PRE, FILE_HEAVY_POST,
     FAULTS
 };
 
@@ -106,23 +108,33 @@ int is_well_formed(size_t places, uint32_t letters, const uint32_t *need, const 
 void look_at_line(size_t line);
 int line_feed(void), line_empty(void), line_odd(void), line_long(void), line_digit(void);
 int frame_kind(void), frame_order(void), frame_length(void), frame_index(void), frame_short(void), frame_missing(void);
-int mask_empty(void), mask_past(void), mask_again(void), mask_elsewhere(void);
+int mask_empty(void), mask_past(void), mask_again(void), mask_elsewhere(void), row_small(void), is_last_row(void);
+size_t line_digits(void), largest_on_line(void);
 int file_places(void), file_transitions(void), file_full(void), file_over(void);
-int file_loose_place(void), file_loose_transition(void);
+int file_loose_place(void), file_loose_transition(void), file_heavy_pre(void), file_heavy_post(void);
 
 /* ---- wire.c */
 
 /* A net's weights, where an input, a file or a summary has them. */
 struct weights {
     size_t places, transitions;
-    uint8_t *pre, *post;
+    uint16_t *pre, *post;
 };
+
+/* The largest weight, and the largest that a frame 04 can hold. */
+enum { MOST_WEIGHT = 4095, MOST_BYTE = 255 };
 size_t count_loose(const struct weights *net, int transitions);
 void wire(const struct weights *net, int with_loops);
 void loosen(const struct weights *net, int places, int transitions);
+int has_net(struct weights *net);
 int has_loose_place(void), has_loose_transition(void);
 void wire_net(int with_loops);
 void break_net(void);
+
+/* ---- heavy.c */
+void break_weights(const struct weights *net, int in_pre, int in_post);
+int has_heavy_pre(void), has_heavy_post(void);
+int is_heavy_in(const struct lent *weights, size_t t);
 
 /* ---- net.c */
 size_t draw_count(void);
@@ -149,10 +161,11 @@ void draw_word(uint8_t *word, size_t length, size_t from);
 void lend_word(size_t length);
 
 /* ---- write.c */
+size_t count_wide(void);
 size_t file_bytes(void);
 
 /* ---- file.c, damage.c */
-enum { MOST_LINES = 1200, MOST_FRAME = 140, MOST_BYTES = 1 << 18 };
+enum { MOST_LINES = 1200, MOST_FRAME = 270, MOST_BYTES = 1 << 18 };
 
 /* The frames of a case file before they become text, and the text; `masks` is how many frames 06 it has. */
 struct case_file {

@@ -17,19 +17,19 @@ static int is_changed(size_t p) {
 
 /* Lets some transition change the place. */
 static void let_change(size_t p) {
-    uint8_t *pre = own(&in.pre), *post = own(&in.post);
+    uint16_t *pre = own(&in.pre), *post = own(&in.post);
     size_t at = below(in.transitions) * in.places + p;
     if (is_changed(p))
         return;
-    if (chance(2) && pre[at] < 255)
+    if (chance(2) && pre[at] < MOST_WEIGHT)
         pre[at]++;
     else
-        post[at] = (uint8_t)(post[at] < 255 ? post[at] + 1 : 0);
+        post[at] = (uint16_t)(post[at] < MOST_WEIGHT ? post[at] + 1 : 0);
 }
 
 /* Lets no transition change the place: its arcs become loops. */
 static void let_stay(size_t p) {
-    uint8_t *pre = own(&in.pre), *post = own(&in.post);
+    uint16_t *pre = own(&in.pre), *post = own(&in.post);
     for (size_t at = p; at < in.places * in.transitions; at += in.places)
         pre[at] = post[at] = pre[at] > post[at] ? pre[at] : post[at];
 }
@@ -118,8 +118,8 @@ void make_complement(void) {
     break_net();
     places = (in.places < 80 ? in.places : 80) + count_made();
     transitions = in.transitions < 80 ? in.transitions : 80;
-    lend_room(&in.pre2, 1, transitions * places);
-    lend_room(&in.post2, 1, transitions * places);
+    lend_room(&in.pre2, 2, transitions * places);
+    lend_room(&in.post2, 2, transitions * places);
     lend_room(&in.caps2, 2, places);
     lend_room(&in.marks2, 1, places);
     lend_room(&in.initial2, 2, places);

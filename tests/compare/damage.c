@@ -5,9 +5,12 @@
 
 static struct case_file *const f = &drawn_file;
 
-/* A line by chance, often one of the last three: in a file of too many letters also one after the line that decides. */
+/* A line by chance, often one of the last three: in a file of too many letters, or with a wrong one, also one after the line that
+ * decides. */
 static size_t any_line(void) {
-    return chance(breaks(LONG_FILE) ? 1 : 2) ? f->lines - 1 - below(f->lines < 3 ? f->lines : 3) : below(f->lines);
+    if (breaks(LONG_FILE) || breaks(FILE_LETTER) || chance(2))
+        return f->lines - 1 - below(f->lines < 3 ? f->lines : 3);
+    return below(f->lines);
 }
 
 /* Puts the frames of two lines in each other's place. */
@@ -74,10 +77,10 @@ static void damage_any_frame(void) {
         strike_frame(k);
         break;
     case 3: /* of another length */
-        f->sizes[k] = chance(2) ? f->sizes[k] + 1 : chance(2) ? f->sizes[k] - 1 : 1 + below(132);
+        f->sizes[k] = chance(2) ? f->sizes[k] + 1 : chance(2) ? f->sizes[k] - 1 : 1 + below(260);
         break;
     case 4: /* of another kind */
-        f->frames[k][0] = (uint8_t)(chance(2) ? below(8) : draw());
+        f->frames[k][0] = (uint8_t)(chance(2) ? below(9) : draw());
         break;
     case 5: /* followed by letters though it is short */
         if (ends_short())
@@ -88,36 +91,44 @@ static void damage_any_frame(void) {
     }
 }
 
+/* The place in the file's order of a frame of kind 01 to 05 or 07: 07 may stand where 04 does. */
+static uint8_t rank_of(uint8_t kind) {
+    return kind == 7 ? 4 : kind;
+}
+
 /* A frame of a known kind but 06 where another is due: renamed, exchanged, or one more at the end. Where 06 stands, 03 could
  * stand as well. */
 static void break_order(size_t k) {
+    uint8_t *kind = f->frames[k];
     size_t other = below(f->lines);
     if (chance(3))
         add_frame(f->frames[below(2)], f->sizes[0]);
-    else if (f->frames[k][0] == 6)
-        f->frames[k][0] = (uint8_t)(1 + (3 + below(4)) % 5);
-    else if (chance(2) && f->frames[k][0] != f->frames[other][0] && f->frames[other][0] != 6)
+    else if (*kind == 6)
+        *kind = (uint8_t)(1 + (3 + below(4)) % 5);
+    else if (chance(2) && rank_of(*kind) != rank_of(f->frames[other][0]) && f->frames[other][0] != 6)
         swap_frames(k, other);
-    else
-        f->frames[k][0] = (uint8_t)(1 + (f->frames[k][0] + below(4)) % 5);
+    else {
+        *kind = (uint8_t)(1 + (rank_of(*kind) + below(4)) % 5);
+        *kind = *kind == 4 && chance(2) ? 7 : *kind;
+    }
 }
 
-/* Another length for frame k, of 130 bytes at most. */
+/* Another length for frame k, of 258 bytes at most. */
 static void break_size(size_t k) {
     size_t old = f->sizes[k];
     if (f->frames[k][0] == 5)
-        f->sizes[k] = chance(2) ? 1 : 66 + below(65);
+        f->sizes[k] = chance(2) ? 1 : 66 + below(193);
     else
         do
-            f->sizes[k] = chance(2) ? old + 1 : chance(2) ? old - 1 : 1 + below(130);
-        while (f->sizes[k] == old || f->sizes[k] > 130);
+            f->sizes[k] = chance(2) ? old + 1 : chance(2) ? old - 1 : 1 + below(258);
+        while (f->sizes[k] == old || f->sizes[k] > 258);
 }
 
 /* Breaks frames as planned: each of these alone is one fault of refusal 12. */
 void damage_frames(void) {
     size_t k = any_line(), row = 3 + f->masks + below(f->transitions);
     if (breaks(FRAME_KIND))
-        f->frames[k][0] = (uint8_t)(chance(3) ? 0 : chance(2) ? 7 : 7 + below(249));
+        f->frames[k][0] = (uint8_t)(chance(3) ? 0 : chance(2) ? 8 : 8 + below(248));
     if (breaks(FRAME_ORDER))
         break_order(k);
     if (breaks(FRAME_LENGTH))
@@ -133,7 +144,7 @@ void damage_frames(void) {
     for (size_t times = wants(12) && !is_alone() && chance(2) ? 1 + below(2) : 0; times > 0 && f->lines > 1; times--)
         damage_any_frame();
     if (breaks(LINE_LONG))
-        f->sizes[any_line()] = 131 + below(MOST_FRAME - 131);
+        f->sizes[any_line()] = chance(3) ? 259 : 259 + below(MOST_FRAME - 259);
     if (breaks(FRAME_MISSING))
         f->lines = below(3 + f->masks + f->transitions);
 }

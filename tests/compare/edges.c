@@ -32,7 +32,7 @@ static int two_faults(const struct given *g) {
 static int all_fired_long(const struct given *g) { return answered(g, 0) && g->field[0] == 65535; }
 static int short_late(const struct given *g) { return answered(g, 1) && g->field[0] > 1000; }
 static int over_late(const struct given *g) { return answered(g, 2) && g->field[0] > 1000; }
-static int most_tokens(const struct given *g) { return answered(g, 0) && largest() == 16776959; }
+static int most_tokens(const struct given *g) { return answered(g, 0) && largest() == 268431359; }
 static int all_places(const struct given *g) { return g->kind == KAUNORPI_ANSWERED && in.places == 64; }
 static int all_transitions(const struct given *g) { return g->kind == KAUNORPI_ANSWERED && in.transitions == 64; }
 static int one_place_more(const struct given *g) { return refused(g, 1) && in.places == 65; }
@@ -145,7 +145,8 @@ static int jams(const struct given *g) {
 /* Does a letter fire that takes from a pocket, and fills it exactly before it does? */
 static int just_fits(const struct given *g) {
     const uint16_t *initial = own(&in.initial), *caps = own(&in.caps);
-    const uint8_t *pre = own(&in.pre), *post = own(&in.post), *word = own(&in.word);
+    const uint16_t *pre = own(&in.pre), *post = own(&in.post);
+    const uint8_t *word = own(&in.word);
     int64_t m[64];
     if (!answered(g, 0) || g->field[0] > 1000)
         return 0;
@@ -189,6 +190,93 @@ static int last_read(const struct given *g) {
 }
 static int pocket_uncapped(const struct given *g) { return answered(g, 0) && !has_pocket(1) && has_pocket(0); }
 static int full_pockets(const struct given *g) { return full_complement(g) && has_pocket_loop(); }
+
+/* The largest of so many weights. */
+static size_t most_of(const uint16_t *weights, size_t count) {
+    size_t most = 0;
+    for (size_t i = 0; i < count; i++)
+        most = weights[i] > most ? weights[i] : most;
+    return most;
+}
+
+/* The largest weight of the net that is lent. */
+static size_t most_lent(void) {
+    size_t most = most_of(own(&in.pre), in.pre.count), other = most_of(own(&in.post), in.post.count);
+    return most > other ? most : other;
+}
+
+/* Where weights over the limit are, and weights at it. */
+static int one_over(const struct given *g) { return refused(g, 18) && most_lent() == 4096; }
+static int far_over(const struct given *g) { return refused(g, 18) && most_lent() == 65535; }
+static int at_limit(const struct given *g) { return g->kind == KAUNORPI_ANSWERED && most_lent() == 4095; }
+static int last_heavy(const struct given *g) { return refused(g, 18) && g->field[0] > 0 && g->field[0] + 1 == in.transitions; }
+static int between_heavy(const struct given *g) {
+    return refused(g, 18) && g->field[0] > 0 && g->field[0] + 1 < in.transitions;
+}
+static int post_before_pre(const struct given *g) {
+    return refused(g, 18) && !is_heavy_in(&in.pre, g->field[0]) && has_heavy_pre();
+}
+static int heavy_and_loose(const struct given *g) { return refused(g, 18) && (has_loose_place() || has_loose_transition()); }
+
+/* The rows of a file to be written: whether the largest weight of one is this, and whether there are frames 04 beside 07. */
+static int widest_of(const struct given *g, size_t weight) { return answered(g, 0) && most_lent() == weight; }
+static int widest_255(const struct given *g) { return widest_of(g, 255); }
+static int widest_256(const struct given *g) { return widest_of(g, 256); }
+static int some_wide(const struct given *g) { return answered(g, 0) && count_wide() > 0 && count_wide() < in.transitions; }
+static int all_wide(const struct given *g) { return answered(g, 0) && count_wide() == in.transitions && in.transitions > 1; }
+
+/* The largest weight of transition t in the rooms that the reference has read a file into. */
+static size_t most_read(const struct given *g, size_t t) {
+    const uint16_t *pre = on_side(REFERENCE, &in.pre2), *post = on_side(REFERENCE, &in.post2);
+    size_t most = most_of(pre + t * g->field[1], g->field[1]), other = most_of(post + t * g->field[1], g->field[1]);
+    return most > other ? most : other;
+}
+
+/* How many rows of the file that was read have a largest weight from `from` to `to`. */
+static size_t rows_read(const struct given *g, size_t from, size_t to) {
+    size_t count = 0;
+    for (size_t t = 0; answered(g, 0) && t < g->field[2]; t++)
+        count += most_read(g, t) >= from && most_read(g, t) <= to;
+    return count;
+}
+
+static int read_255(const struct given *g) { return rows_read(g, 255, 255) > 0; }
+static int read_256(const struct given *g) { return rows_read(g, 256, 256) > 0; }
+static int read_4095(const struct given *g) { return rows_read(g, 4095, 4095) > 0; }
+static int read_both(const struct given *g) { return rows_read(g, 0, 255) > 0 && rows_read(g, 256, 4095) > 0; }
+static int read_first(const struct given *g) { return answered(g, 0) && most_read(g, 0) > 255; }
+static int read_last(const struct given *g) { return answered(g, 0) && g->field[2] > 1 && most_read(g, g->field[2] - 1) > 255; }
+static int digits_516(const struct given *g) { return g->field[1] == 64 && rows_read(g, 256, 4095) > 0; }
+
+/* What the line has that a file was refused for. */
+static int digits_518(const struct given *g) {
+    look_at_line(g->field[0]);
+    return refused(g, 11) && line_digits() == 518;
+}
+static int wide_line(const struct given *g) {
+    look_at_line(g->field[0]);
+    return refused(g, 12) && line_digits() > 260;
+}
+static int heavy_row(const struct given *g) {
+    look_at_line(g->field[0]);
+    return refused(g, 18) && largest_on_line() == 4096;
+}
+static int small_row(const struct given *g) {
+    look_at_line(g->field[0]);
+    return refused(g, 12) && row_small() && largest_on_line() == 255;
+}
+static int heavy_on_last(const struct given *g) {
+    look_at_line(g->field[0]);
+    return refused(g, 18) && is_last_row() && (file_loose_place() || file_loose_transition());
+}
+
+/* The edges of weights, for a question that is lent a net. */
+#define HEAVY(question) \
+    {question, "a weight of 4,095", at_limit, 0}, {question, "a weight of 4,096, and none larger", one_over, 0}, \
+        {question, "a weight of 65,535", far_over, 0}, {question, "the last transition heavy", last_heavy, 0}, \
+        {question, "a transition between heavy", between_heavy, 0}, \
+        {question, "Post heavy, and Pre of a later transition", post_before_pre, 0}, \
+        {question, "a heavy weight in a loose net", heavy_and_loose, 0}
 
 /* The edges of loose nodes, for a question that is lent a net. */
 #define LOOSE(question) \
@@ -282,26 +370,63 @@ static struct edge {
     {"read_case", "place 63 a pocket", last_read, 0},
     {"write_case", "place 63 a pocket", last_pocket, 0},
     {"write_case", "pockets, none with a capacity", pocket_uncapped, 0},
+    {"write_case", "a largest weight of 255", widest_255, 0},
+    {"write_case", "a largest weight of 256", widest_256, 0},
+    {"write_case", "frames 04 and 07", some_wide, 0},
+    {"write_case", "frames 07 alone", all_wide, 0},
+    {"case_length", "frames 04 and 07", some_wide, 0},
+    {"read_case", "a row whose largest weight is 255", read_255, 0},
+    {"read_case", "a row whose largest weight is 256", read_256, 0},
+    {"read_case", "a row whose largest weight is 4,095", read_4095, 0},
+    {"read_case", "frames 04 and 07", read_both, 0},
+    {"read_case", "a first row of kind 07", read_first, 0},
+    {"read_case", "a last row of kind 07", read_last, 0},
+    {"read_case", "a line of 516 digits", digits_516, 0},
+    {"read_case", "a line of 518 digits", digits_518, 0},
+    {"read_case", "refusal 12 for a line of over 260 digits", wide_line, 0},
+    {"read_case", "a weight of 4,096", heavy_row, 0},
+    {"read_case", "a frame 07 with a weight of 255, and none larger", small_row, 0},
+    {"read_case", "a heavy weight on the line where the net is loose", heavy_on_last, 0},
     LOOSE("replay_word"),
+    HEAVY("replay_word"),
     LOOSE("replay_stretch"),
+    HEAVY("replay_stretch"),
     LOOSE("summary_word"),
+    HEAVY("summary_word"),
     LOOSE("summary_stretch"),
+    HEAVY("summary_stretch"),
     LOOSE("ask_summary"),
+    HEAVY("ask_summary"),
     LOOSE("place_weighting"),
+    HEAVY("place_weighting"),
     LOOSE("transition_weighting"),
+    HEAVY("transition_weighting"),
     LOOSE("place_bound"),
+    HEAVY("place_bound"),
     LOOSE("siphon_set"),
+    HEAVY("siphon_set"),
     LOOSE("trap_set"),
+    HEAVY("trap_set"),
     LOOSE("closed_list"),
+    HEAVY("closed_list"),
     LOOSE("closed_target"),
+    HEAVY("closed_target"),
     LOOSE("closed_stall"),
+    HEAVY("closed_stall"),
     LOOSE("cover_list"),
+    HEAVY("cover_list"),
     LOOSE("cover_target"),
+    HEAVY("cover_target"),
     LOOSE("complement_places"),
+    HEAVY("complement_places"),
     LOOSE("complement_net"),
+    HEAVY("complement_net"),
     LOOSE("case_length"),
+    HEAVY("case_length"),
     LOOSE("write_case"),
+    HEAVY("write_case"),
     LOOSE("order_logs"),
+    HEAVY("order_logs"),
 };
 
 /* Counts the edges that this input and answer meet. */

@@ -10,8 +10,7 @@ enum { LETTERS = 6 };
 /* A net of up to four places and three transitions. */
 static const struct small_net {
     size_t places, transitions;
-    uint8_t pre[12], post[12];
-    uint16_t caps[4], initial[4];
+    uint16_t pre[12], post[12], caps[4], initial[4];
     uint8_t marks[4];
 } nets[] = {
     /* document 01's case */
@@ -26,6 +25,8 @@ static const struct small_net {
     {2, 3, {2, 0, 0, 1, 1, 1}, {0, 1, 1, 0, 1, 2}, {3, 2}, {2, 1}, {0}},
     /* the same, the second counter a pocket, and with more room */
     {2, 3, {2, 0, 0, 1, 1, 1}, {0, 1, 1, 0, 1, 2}, {3, 3}, {2, 1}, {0, 2}},
+    /* a chip bin in kilograms that is filled, emptied, and weighed while 1,000 lie in it */
+    {1, 3, {0, 4095, 1000}, {1500, 0, 1000}, {6000}, {2600}, {0}},
 };
 
 /* Lends net, marking, logs, room and work space, the letters read off a number digit by digit. */
@@ -34,8 +35,8 @@ static void lend_all(const struct small_net *net, size_t first, size_t second, s
     int found_in_work = number & 1 ? 255 : 0;
     in.places = net->places;
     in.transitions = net->transitions;
-    memcpy(lend(&in.pre, 1, net->places * net->transitions), net->pre, net->places * net->transitions);
-    memcpy(lend(&in.post, 1, net->places * net->transitions), net->post, net->places * net->transitions);
+    memcpy(lend(&in.pre, 2, net->places * net->transitions), net->pre, 2 * net->places * net->transitions);
+    memcpy(lend(&in.post, 2, net->places * net->transitions), net->post, 2 * net->places * net->transitions);
     memcpy(lend(&in.caps, 2, net->places), net->caps, 2 * net->places);
     memcpy(lend(&in.marks, 1, net->places), net->marks, net->places);
     memcpy(lend(&in.initial, 2, net->places), net->initial, 2 * net->places);

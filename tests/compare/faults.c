@@ -81,7 +81,7 @@ static int bad_step(void) { return in.step >= in.order.count; }
 
 /* Is the summary well formed (refusal 6)? */
 int is_well_formed(size_t places, uint32_t letters, const uint32_t *need, const uint32_t *climb, const int32_t *change) {
-    int64_t most = 255 * (int64_t)letters;
+    int64_t most = MOST_WEIGHT * (int64_t)letters;
     if (letters > 65535)
         return 0;
     for (size_t p = 0; p < 64; p++) {
@@ -173,7 +173,7 @@ const struct fault_kind faults[FAULTS] = {
     [LINE_FEED] = {11, "a line without its line feed", 0, line_feed},
     [LINE_EMPTY] = {11, "a line without digits", 0, line_empty},
     [LINE_ODD] = {11, "an odd number of digits", 0, line_odd},
-    [LINE_LONG] = {11, "over 260 digits", 0, line_long},
+    [LINE_LONG] = {11, "over 516 digits", 0, line_long},
     [LINE_DIGIT] = {11, "a byte that is no digit", 0, line_digit},
     [FRAME_KIND] = {12, "a frame of unknown kind", 0, frame_kind},
     [FRAME_ORDER] = {12, "a frame in the wrong order", 0, frame_order},
@@ -185,6 +185,7 @@ const struct fault_kind faults[FAULTS] = {
     [MASK_PAST] = {12, "a frame 06 with a bit past the places", 0, mask_past},
     [MASK_AGAIN] = {12, "a second frame 06", 0, mask_again},
     [MASK_ELSEWHERE] = {12, "a frame 06 elsewhere than after 02", 0, mask_elsewhere},
+    [ROW_SMALL] = {12, "a frame 07 without a weight over 255", 0, row_small},
     [OVER_LOG] = {15, "the first log's length", 0, over_log},
     [OVER_LOG_1] = {15, "the second log's length", 0, over_log_1},
     [ORDER_SPLIT] = {16, "other numbers of 0s and of 1s", 0, order_split},
@@ -195,4 +196,8 @@ const struct fault_kind faults[FAULTS] = {
     [LOOSE_TRANSITION] = {17, "a transition without an arc", 0, has_loose_transition},
     [FILE_LOOSE_PLACE] = {17, "a place of the file without an arc", 0, file_loose_place},
     [FILE_LOOSE_TRANSITION] = {17, "a transition of the file without an arc", 0, file_loose_transition},
+    [HEAVY_PRE] = {18, "a weight of pre", 0, has_heavy_pre},
+    [HEAVY_POST] = {18, "a weight of post", 0, has_heavy_post},
+    [FILE_HEAVY_PRE] = {18, "a weight of Pre in the file", 0, file_heavy_pre},
+    [FILE_HEAVY_POST] = {18, "a weight of Post in the file", 0, file_heavy_post},
 };

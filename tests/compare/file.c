@@ -75,33 +75,70 @@ static void add_head(size_t places, size_t transitions) {
     add_frame(tokens, 1 + 2 * places);
 }
 
-/* Frames 04: weights by chance, or few of them; loose nodes only where they are planned. */
-static void add_rows(size_t places, size_t transitions) {
-    static uint8_t pre[4096], post[4096];
-    struct weights net = {places, transitions, pre, post};
-    uint8_t frame[MOST_FRAME] = {4};
-    size_t one_in = chance(2) ? 1 : 2 + below(12);
-    fill_random(pre, places * transitions);
-    fill_random(post, places * transitions);
-    for (size_t i = 0; one_in > 1 && i < places * transitions; i++) {
-        pre[i] = chance(one_in) ? pre[i] : 0;
-        post[i] = chance(one_in) ? post[i] : 0;
-    }
-    wire(&net, 0);
-    if (breaks(FILE_LOOSE_PLACE) || breaks(FILE_LOOSE_TRANSITION))
-        loosen(&net, breaks(FILE_LOOSE_PLACE), breaks(FILE_LOOSE_TRANSITION));
-    for (size_t t = 0; t < transitions; t++) {
-        frame[1] = (uint8_t)t;
-        memcpy(frame + 2, pre + t * places, places);
-        memcpy(frame + 2 + places, post + t * places, places);
-        add_frame(frame, 2 + 2 * places);
+/* A weight of a file: none, a byte's, up to the limit, or an edge. */
+static uint16_t draw_weight(size_t one_in, int is_wide) {
+    static const uint16_t edges[] = {1, 255, 256, 4094, 4095};
+    if (!chance(one_in))
+        return 0;
+    if (chance(3))
+        return edges[below(is_wide ? 5 : 2)];
+    return (uint16_t)below(is_wide && chance(2) ? MOST_WEIGHT + 1 : MOST_BYTE + 1);
+}
+
+/* The weights of all rows by chance, or few of them: of a byte each in all rows, or in none of them for sure. */
+static void draw_rows(const struct weights *net) {
+    size_t one_in = chance(2) ? 1 : 2 + below(12), style = below(3);
+    for (size_t t = 0; t < net->transitions; t++) {
+        int is_wide = style == 0 || (style == 1 && chance(2));
+        for (size_t at = t * net->places; at < (t + 1) * net->places; at++) {
+            net->pre[at] = draw_weight(one_in, is_wide);
+            net->post[at] = draw_weight(one_in, is_wide);
+        }
     }
 }
 
-/* Frames 05 for the letters; where that is planned, with a wrong one on one of their lines, on that of letter 65,536, and now
- * and then on another. */
+/* The row of transition t: a frame 07, with two bytes for each weight, where one is over 255, else a frame 04. A row that is to
+ * be an 07 all the same has no such weight: larger ones become 255. */
+static void add_row(const struct weights *net, size_t t, int is_small) {
+    uint16_t *rows[2] = {net->pre + t * net->places, net->post + t * net->places};
+    uint8_t frame[MOST_FRAME];
+    int is_wide = is_small;
+    for (size_t i = 0; i < 2 * net->places; i++) {
+        uint16_t *weight = rows[i / net->places] + i % net->places;
+        if (is_small && *weight > MOST_BYTE)
+            *weight = MOST_BYTE;
+        is_wide |= *weight > MOST_BYTE;
+    }
+    frame[0] = is_wide ? 7 : 4;
+    frame[1] = (uint8_t)t;
+    for (size_t i = 0; i < 2 * net->places; i++) {
+        uint16_t weight = rows[i / net->places][i % net->places];
+        if (is_wide)
+            put_number(frame + 1, i, weight);
+        else
+            frame[2 + i] = (uint8_t)weight;
+    }
+    add_frame(frame, 2 + (is_wide ? 4 : 2) * net->places);
+}
+
+/* A row for each transition; loose nodes, heavy weights and an 07 that is none only where they are planned. */
+static void add_rows(size_t places, size_t transitions) {
+    static uint16_t pre[4096], post[4096];
+    struct weights net = {places, transitions, pre, post};
+    size_t small = breaks(ROW_SMALL) ? below(transitions) : transitions;
+    draw_rows(&net);
+    wire(&net, 0);
+    if (breaks(FILE_LOOSE_PLACE) || breaks(FILE_LOOSE_TRANSITION))
+        loosen(&net, breaks(FILE_LOOSE_PLACE), breaks(FILE_LOOSE_TRANSITION));
+    break_weights(&net, breaks(FILE_HEAVY_PRE), breaks(FILE_HEAVY_POST));
+    for (size_t t = 0; t < transitions; t++)
+        add_row(&net, t, t == small);
+}
+
+/* Frames 05 for the letters; where that is planned, with a wrong one on one of their lines, the first where a line may be broken
+ * too, on that of letter 65,536, and now and then on another. */
 static void add_all_letters(size_t transitions, size_t letters) {
-    size_t lines = (letters + 63) / 64, faulty = letters > 65535 ? 65472 : lines > 0 ? 64 * below(lines) : 0;
+    size_t lines = (letters + 63) / 64, faulty = letters > 65535 ? 65472 : lines > 0 && !wants(12) ? 64 * below(lines) : 0;
     uint8_t frame[MOST_FRAME];
     for (size_t at = 0; at < letters; at += 64) {
         size_t count = letters - at < 64 ? letters - at : 64;
@@ -169,7 +206,7 @@ void make_case(void) {
     lend_room(&in.caps2, 2, 64);
     lend_room(&in.marks2, 1, 64);
     lend_room(&in.initial2, 2, 64);
-    lend_room(&in.pre2, 1, 4096);
-    lend_room(&in.post2, 1, 4096);
+    lend_room(&in.pre2, 2, 4096);
+    lend_room(&in.post2, 2, 4096);
     lend_room(&in.room, 1, 65535);
 }

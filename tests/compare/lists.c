@@ -38,7 +38,7 @@ static void add_closed(size_t k, size_t t, size_t limit) {
 
 /* Adds the result of t at found marking k without capacities; more than most tokens become any number. */
 static void add_cover(size_t k, size_t t, size_t limit, int64_t most) {
-    const uint8_t *pre = own(&in.pre);
+    const uint16_t *pre = own(&in.pre);
     uint16_t result[64];
     for (size_t p = 0; p < in.places; p++) {
         int64_t m = found[k * in.places + p];
@@ -50,13 +50,13 @@ static void add_cover(size_t k, size_t t, size_t limit, int64_t most) {
     add(result, limit);
 }
 
-/* A small net, now and then any; capacities are often small, so that lists are short. A list of wrong length needs more
- * than one place. */
+/* A small net, now and then any; capacities are often small, so that lists are short, and now and then all tokens and weights
+ * are so many times as much. A list of wrong length needs more than one place. */
 static void draw_list_net(void) {
     int is_small = !chance(11);
     size_t places = is_small ? 1 + below(3) : draw_count(), transitions = is_small ? 1 + below(3) : draw_count();
-    uint16_t *caps;
-    uint8_t *pre, *post;
+    size_t by = chance(4) ? 1 + below(MOST_WEIGHT) : 1;
+    uint16_t *caps, *pre, *post;
     if (breaks(LIST_LENGTH) && places == 1)
         places = 2;
     draw_net_of(breaks(BAD_PLACES) ? faulty_count() : places, breaks(BAD_TRANSITIONS) ? faulty_count() : transitions);
@@ -65,22 +65,22 @@ static void draw_list_net(void) {
     post = own(&in.post);
     if (chance(2))
         for (size_t p = 0; p < in.caps.count; p++)
-            caps[p] = (uint16_t)below(5);
-    if (chance(4))
+            caps[p] = (uint16_t)(below(5) * by);
+    if (chance(by > 1 ? 1 : 4))
         for (size_t i = 0; i < in.pre.count && i < in.post.count; i++)
-            pre[i] = (uint8_t)below(2), post[i] = (uint8_t)below(2);
+            pre[i] = (uint16_t)(below(2) * by), post[i] = (uint16_t)(below(2) * by);
     wire_net(0);
 }
 
 /* A place that counts up, and down again: a list of many different markings. */
 static void draw_counter(size_t most) {
     draw_net_of(1, 1 + below(2));
-    memset(own(&in.pre), 0, in.pre.count);
-    memset(own(&in.post), 0, in.post.count);
+    memset(own(&in.pre), 0, 2 * in.pre.count);
+    memset(own(&in.post), 0, 2 * in.post.count);
     if (in.post.count > 0)
-        *(uint8_t *)own(&in.post) = 1;
+        *(uint16_t *)own(&in.post) = 1;
     if (in.pre.count > 1)
-        ((uint8_t *)own(&in.pre))[1] = 1;
+        ((uint16_t *)own(&in.pre))[1] = 1;
     if (in.caps.count > 0)
         *(uint16_t *)own(&in.caps) = (uint16_t)most;
 }

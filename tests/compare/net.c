@@ -20,35 +20,37 @@ size_t faulty_count(void) {
 }
 
 /* The weights of one arc in the style drawn for the net. */
-static void draw_arc(size_t style, uint8_t *pre, uint8_t *post) {
-    static const uint8_t edges[] = {0, 1, 254, 255};
+static void draw_arc(size_t style, uint16_t *pre, uint16_t *post) {
+    static const uint16_t edges[] = {0, 1, 255, 256, 4094, 4095};
     *pre = *post = 0;
-    if (style == 0 && chance(3))
-        *pre = (uint8_t)below(3);
-    if (style == 0 && chance(3))
-        *post = (uint8_t)below(3);
+    if ((style == 0 || style == 7) && chance(3))
+        *pre = (uint16_t)below(3);
+    if ((style == 0 || style == 7) && chance(3))
+        *post = (uint16_t)below(3);
     if (style == 1)
-        *pre = *post = (uint8_t)below(3);
+        *pre = *post = (uint16_t)below(3);
     if (style == 2)
-        *pre = (uint8_t)below(4), *post = (uint8_t)below(4);
+        *pre = (uint16_t)below(4), *post = (uint16_t)below(4);
     if (style == 3)
-        *pre = (uint8_t)draw(), *post = (uint8_t)draw();
+        *pre = (uint16_t)below(chance(2) ? 256 : 4096), *post = (uint16_t)below(chance(2) ? 256 : 4096);
     if (style == 4)
-        *post = 255;
+        *post = MOST_WEIGHT;
     if (style == 5)
-        *pre = edges[below(4)], *post = edges[below(4)];
+        *pre = edges[below(6)], *post = edges[below(6)];
     if (style == 6 && chance(8))
         *(chance(2) ? pre : post) = 1;
+    if (style == 7 && chance(9))
+        *(chance(2) ? pre : post) = edges[2 + below(4)];
 }
 
 /* A capacity in the style drawn for the net: none, small, edges, or any of these. */
 static uint16_t draw_cap(size_t style) {
-    static const uint16_t edges[] = {0, 1, 255, 256, 65533, 65534, 65535};
+    static const uint16_t edges[] = {0, 1, 255, 256, 4095, 4096, 65533, 65534, 65535};
     if (style == 3)
         style = below(3);
     if (style == 0)
         return 65535;
-    return style == 1 ? (uint16_t)below(8) : edges[below(7)];
+    return style == 1 ? (uint16_t)below(8) : edges[below(9)];
 }
 
 /* A mark in the style drawn for the net: plain, or a pocket now and then, often, always; all marks but 0 are alike. */
@@ -68,19 +70,19 @@ int is_pocket(size_t p) {
 /* A wired net of these counts; its lists fit them unless another length is planned. Where one kind of nodes alone is to be
  * loose, it has two of them: else the others would be loose too. */
 void draw_net_of(size_t places, size_t transitions) {
-    size_t p, t, style = below(7), cap_style = below(4), mark_style = below(6);
-    uint8_t *pre, *post, *marks;
-    uint16_t *caps;
+    size_t p, t, style = below(8), cap_style = below(4), mark_style = below(6);
+    uint16_t *pre, *post, *caps;
+    uint8_t *marks;
     in.places = places + (is_alone() && breaks(LOOSE_PLACE) && places == 1);
     in.transitions = transitions + (is_alone() && breaks(LOOSE_TRANSITION) && transitions == 1);
     p = in.places < 80 ? in.places : 80;
     t = in.transitions < 80 ? in.transitions : 80;
-    pre = lend(&in.pre, 1, p * t);
-    post = lend(&in.post, 1, p * t);
+    pre = lend(&in.pre, 2, p * t);
+    post = lend(&in.post, 2, p * t);
     caps = lend(&in.caps, 2, p);
     marks = lend(&in.marks, 1, p);
     for (size_t i = 0; i < in.pre.count || i < in.post.count; i++) {
-        uint8_t takes, puts;
+        uint16_t takes, puts;
         draw_arc(style, &takes, &puts);
         if (i < in.pre.count)
             pre[i] = takes;
@@ -169,14 +171,13 @@ void break_marking(void) {
 
 /* Change(p,t) of the net as drawn. */
 int64_t change_now(size_t p, size_t t) {
-    const uint8_t *pre = own(&in.pre), *post = own(&in.post);
+    const uint16_t *pre = own(&in.pre), *post = own(&in.post);
     return (int64_t)post[t * in.places + p] - pre[t * in.places + p];
 }
 
 /* Is t enabled at m in the net as drawn? */
 int enabled_now(const int64_t *m, size_t t) {
-    const uint8_t *pre = own(&in.pre), *post = own(&in.post);
-    const uint16_t *caps = own(&in.caps);
+    const uint16_t *pre = own(&in.pre), *post = own(&in.post), *caps = own(&in.caps);
     for (size_t p = 0; p < in.places; p++) {
         int64_t more = is_pocket(p) ? post[t * in.places + p] : change_now(p, t);
         if (pre[t * in.places + p] > m[p] || (caps[p] != 65535 && m[p] + more > caps[p]))

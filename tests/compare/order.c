@@ -30,26 +30,27 @@ static size_t draw_letters(void) {
     return kind < 90 ? 1 + below(8) : kind < 130 ? 9 + below(4) : 13 + below(SMALL - 12);
 }
 
-/* Makes net and marking such that the order of letters matters: small weights, and places that few tokens fill. */
+/* Makes net and marking such that the order of letters matters: small weights, and places that few tokens fill; now and then
+ * all of it so many times as much. */
 static void tighten(void) {
-    uint8_t *pre = own(&in.pre), *post = own(&in.post);
-    uint16_t *caps = own(&in.caps), *initial = own(&in.initial);
+    uint16_t *pre = own(&in.pre), *post = own(&in.post), *caps = own(&in.caps), *initial = own(&in.initial);
+    size_t by = chance(4) ? 1 + below(MOST_WEIGHT / 2) : 1;
     for (size_t i = 0; i < in.pre.count; i++) {
-        pre[i] = chance(3) ? (uint8_t)(1 + chance(4)) : 0;
-        post[i] = chance(3) ? (uint8_t)(1 + chance(4)) : 0;
+        pre[i] = chance(3) ? (uint16_t)((1 + (size_t)chance(4)) * by) : 0;
+        post[i] = chance(3) ? (uint16_t)((1 + (size_t)chance(4)) * by) : 0;
     }
     for (size_t p = 0; p < in.places; p++) {
-        caps[p] = chance(4) ? 65535 : (uint16_t)(1 + below(3));
-        initial[p] = within(p, (uint16_t)below(4));
+        caps[p] = chance(4) ? 65535 : (uint16_t)((1 + below(3)) * by);
+        initial[p] = within(p, (uint16_t)(below(4) * by));
     }
 }
 
 /* Makes every other transition the one before it turned round, so that no word ends where nothing can fire. */
 static void pair_up(void) {
-    uint8_t *pre = own(&in.pre), *post = own(&in.post);
+    uint16_t *pre = own(&in.pre), *post = own(&in.post);
     for (size_t t = 1; t < in.transitions; t += 2) {
-        memcpy(pre + t * in.places, post + (t - 1) * in.places, in.places);
-        memcpy(post + t * in.places, pre + (t - 1) * in.places, in.places);
+        memcpy(pre + t * in.places, post + (t - 1) * in.places, 2 * in.places);
+        memcpy(post + t * in.places, pre + (t - 1) * in.places, 2 * in.places);
     }
 }
 

@@ -11,13 +11,13 @@ struct drawn {
 
 /* The summary of a word of a small net of its own. */
 static void draw_from_word(struct drawn *s, size_t places) {
-    uint8_t pre[64 * 3], post[64 * 3], word[40], marks[64];
-    uint16_t caps[64] = {0};
+    uint16_t pre[64 * 3], post[64 * 3], caps[64] = {0};
+    uint8_t word[40], marks[64];
     struct weights net = {places, 3, pre, post};
-    size_t length = below(41), most = chance(3) ? 256 : 4, mark_style = below(6);
+    size_t length = below(41), most = chance(3) ? MOST_WEIGHT + 1 : chance(3) ? MOST_BYTE + 1 : 4, mark_style = below(6);
     for (size_t i = 0; i < places * 3; i++) {
-        pre[i] = (uint8_t)below(most);
-        post[i] = (uint8_t)below(most);
+        pre[i] = (uint16_t)below(most);
+        post[i] = (uint16_t)below(most);
     }
     wire(&net, 0);
     for (size_t p = 0; p < places; p++)
@@ -40,7 +40,7 @@ static int64_t draw_to(int64_t most) {
 static void draw_by_arithmetic(struct drawn *s, size_t places, uint32_t letters) {
     s->letters = letters;
     for (size_t p = 0; p < places; p++) {
-        int64_t need = draw_to(255 * (int64_t)letters), climb = draw_to(255 * (int64_t)letters);
+        int64_t most = (chance(4) ? MOST_BYTE : MOST_WEIGHT) * (int64_t)letters, need = draw_to(most), climb = draw_to(most);
         s->need[p] = (uint32_t)need;
         s->climb[p] = (uint32_t)climb;
         s->change[p] = (int32_t)(draw_to(need + climb) - need);
@@ -50,7 +50,7 @@ static void draw_by_arithmetic(struct drawn *s, size_t places, uint32_t letters)
 /* Breaks the summary in one place, or makes it too long. */
 static void damage(struct drawn *s, size_t places) {
     size_t p = below(places), past = places < 64 ? places + below(64 - places) : 63;
-    int64_t most = 255 * (int64_t)s->letters;
+    int64_t most = MOST_WEIGHT * (int64_t)s->letters;
     switch (below(11)) {
     case 0:
         s->letters = 65536 + (uint32_t)below(3);

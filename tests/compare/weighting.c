@@ -15,17 +15,17 @@ static int64_t divisor(int64_t a, int64_t b) {
 
 /* Could the cell's change become larger by this much? */
 static int has_room(size_t cell, int64_t by) {
-    const uint8_t *pre = own(&in.pre), *post = own(&in.post);
-    return by >= 0 ? post[cell] + by <= 255 : pre[cell] - by <= 255;
+    const uint16_t *pre = own(&in.pre), *post = own(&in.post);
+    return by >= 0 ? post[cell] + by <= MOST_WEIGHT : pre[cell] - by <= MOST_WEIGHT;
 }
 
 /* Makes the cell's change larger by this much. */
 static void add_change(size_t cell, int64_t by) {
-    uint8_t *pre = own(&in.pre), *post = own(&in.post);
+    uint16_t *pre = own(&in.pre), *post = own(&in.post);
     if (by >= 0)
-        post[cell] = (uint8_t)(post[cell] + by);
+        post[cell] = (uint16_t)(post[cell] + by);
     else
-        pre[cell] = (uint8_t)(pre[cell] - by);
+        pre[cell] = (uint16_t)(pre[cell] - by);
 }
 
 /* Changes two cells of weights v and w against each other, so that the weighted sum stays. */
@@ -59,7 +59,7 @@ static const int16_t *draw_weights(size_t count) {
 
 /* Makes every change 0, then exchanges along rows (a place weighting) or columns; at last one cell may be broken. */
 static void bend_net(const int16_t *weights, int along_rows) {
-    uint8_t *pre = own(&in.pre), *post = own(&in.post);
+    uint16_t *pre = own(&in.pre), *post = own(&in.post);
     size_t cells = in.places * in.transitions, count = along_rows ? in.places : in.transitions;
     if (in.places > 64 || in.transitions > 64 || cells == 0 || in.pre.count != cells || in.post.count != cells ||
         in.weights.count != count || chance(5))

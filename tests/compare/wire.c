@@ -85,7 +85,7 @@ void loosen(const struct weights *net, int places, int transitions) {
 }
 
 /* The net that is lent; has_net says whether its lists are as long as its counts say. */
-static int has_net(struct weights *net) {
+int has_net(struct weights *net) {
     *net = (struct weights){in.places, in.transitions, own(&in.pre), own(&in.post)};
     return in.places >= 1 && in.places <= NODES && in.transitions >= 1 && in.transitions <= NODES &&
            in.pre.count == in.places * in.transitions && in.post.count == in.pre.count;
@@ -108,9 +108,13 @@ void wire_net(int with_loops) {
         wire(&net, with_loops);
 }
 
-/* Makes nodes of the lent net loose where that is planned; last of all, since words and lists are drawn from a wired one. */
+/* Makes nodes of the lent net loose, and weights heavy, where that is planned; last of all, since words and lists are drawn
+ * from a right one. */
 void break_net(void) {
     struct weights net;
-    if (has_net(&net) && (breaks(LOOSE_PLACE) || breaks(LOOSE_TRANSITION)))
+    if (!has_net(&net))
+        return;
+    if (breaks(LOOSE_PLACE) || breaks(LOOSE_TRANSITION))
         loosen(&net, breaks(LOOSE_PLACE), breaks(LOOSE_TRANSITION));
+    break_weights(&net, breaks(HEAVY_PRE), breaks(HEAVY_POST));
 }

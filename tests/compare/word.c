@@ -57,10 +57,9 @@ static void draw_net_for(int is_long) {
  * that they move away from. Either nothing ever blocks, or a place runs empty, or full, near the word's end. */
 static void bend_for_long_words(void) {
     size_t kind = below(4);
-    uint8_t takes = kind == 1 ? 1 : kind == 3 ? (uint8_t)(1 + below(255)) : 0;
-    uint8_t puts = kind == 0 ? 255 : kind == 2 ? 1 : kind == 3 ? takes : 0;
-    uint8_t *pre = own(&in.pre), *post = own(&in.post);
-    uint16_t *caps = own(&in.caps), *initial = own(&in.initial);
+    uint16_t takes = kind == 1 ? 1 : kind == 3 ? (uint16_t)(1 + below(MOST_WEIGHT)) : 0;
+    uint16_t puts = kind == 0 ? MOST_WEIGHT : kind == 2 ? 1 : kind == 3 ? takes : 0;
+    uint16_t *pre = own(&in.pre), *post = own(&in.post), *caps = own(&in.caps), *initial = own(&in.initial);
     for (size_t i = 0; i < in.pre.count && i < in.post.count; i++)
         pre[i] = takes, post[i] = puts;
     for (size_t p = 0; p < in.caps.count && p < in.initial.count; p++) {

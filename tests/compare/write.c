@@ -1,14 +1,26 @@
 /* The inputs of writing a case file: net, marking and word, and rooms about as long as the file. */
 #include "compare.h"
 
+/* How many transitions of the lent net have a frame 07: where a weight is over 255. */
+size_t count_wide(void) {
+    struct weights net;
+    size_t count = 0, last = 0;
+    for (size_t i = 0; has_net(&net) && i < in.pre.count; i++)
+        if ((net.pre[i] > MOST_BYTE || net.post[i] > MOST_BYTE) && last != i / in.places + 1) {
+            last = i / in.places + 1;
+            count++;
+        }
+    return count;
+}
+
 /* How many bytes the file of what is lent has: the lines 01, 02 and 03, 06 if a place is a pocket, a line for each transition,
- * and the letters. */
+ * those of kind 07 with two digits more for each weight, and the letters. */
 size_t file_bytes(void) {
     size_t p = in.places < 80 ? in.places : 80, t = in.transitions < 80 ? in.transitions : 80;
     size_t letters = in.word.count, lines = letters / 64 + (letters % 64 > 0), pockets = 0;
     for (size_t k = 0; k < p; k++)
         pockets += (size_t)is_pocket(k);
-    return 7 + 2 * (4 * p + 3) + (pockets > 0 ? 19 : 0) + t * (4 * p + 5) + 2 * letters + 3 * lines;
+    return 7 + 2 * (4 * p + 3) + (pockets > 0 ? 19 : 0) + t * (4 * p + 5) + count_wide() * 4 * p + 2 * letters + 3 * lines;
 }
 
 /* How many letters: few, or about as many as fill a line, two or three; now and then about the limit, and over it where that

@@ -3,7 +3,7 @@
 
     python3 tests/edges/casefile.py > tests/edges/casefile.calls
 
-What a file holds or which line is faulty is judged by tests/cases/make.py, written from document 01 alone. Many more files are
+What a file holds or which line is faulty is judged by tests/cases/make.py, written from documents 01 and 02 alone. Many more files are
 in tests/cases, where the program reads them; here are those that fill the rooms, or must not. Answers: 129 0 0 places
 transitions letters; 130 refusal line. Rooms hold 7s at entry.
 """
@@ -12,7 +12,7 @@ import sys
 from pathlib import Path
 
 sys.path.insert(0, str(Path(__file__).resolve().parents[1] / "cases"))
-from make import WHOLE, Refused, big, judge, loose_cases, mask_cases, text
+from make import WHOLE, Refused, big, judge, loose_cases, mask_cases, text, wide_cases
 
 from shared.calls import call, group, heading, quoted
 
@@ -65,7 +65,13 @@ def digits():
     read(31, "260 digits, the row of a net of 64 places", row)
     read(32, "262 digits", row.replace(b"\n05", b"00\n05"))
     read(33, "260 digits of a frame that is too long: 12", text(["01" + "00" * 129]))
-    read(34, "262 digits of it: 11", text(["01" + "00" * 130]))
+    read(34, "262 digits of it: 12 too", text(["01" + "00" * 130]))
+    wide = big(64, 1, 5, None, by=256)
+    read(35, "516 digits, the row of a net of 64 places with weights over 255", wide)
+    read(36, "518 digits", wide.replace(b"\n05", b"00\n05"))
+    read(37, "516 digits of a frame that is too long: 12", text(["01" + "00" * 257]))
+    read(38, "518 digits of it: 11", text(["01" + "00" * 258]))
+    read(39, "517 digits: 11", text(["01" + "00" * 257 + "0"]))
 
 
 def counts():
@@ -91,7 +97,7 @@ def faults():
     read(61, "tokens exactly at capacity", text(WHOLE[:2] + ["03000100000005"] + WHOLE[3:]))
     read(62, "tokens above capacity", text(WHOLE[:2] + ["03000100000006"] + WHOLE[3:]))
     read(63, "the index of a transition", text(WHOLE[:4] + ["0402000100010002"] + WHOLE[5:]))
-    read(64, "an unknown kind", text(WHOLE[:6] + ["070001000102"]))
+    read(64, "an unknown kind", text(WHOLE[:6] + ["080001000102"]))
     read(65, "a lower-case digit", text([WHOLE[0], "02ffffFFFF0005"] + WHOLE[2:]))
 
 
@@ -110,6 +116,14 @@ def masks():
     read(291, "a file that is refused, and a room for marks too short", dict(mask_cases())["mask-zero"], {"marks": 63})
 
 
+def wide_rows():
+    group("frame 07 and weights up to 4,095, and 18 on its line; the files of tests/cases of that name")
+    for k, (name, data) in enumerate(wide_cases()):
+        if not name.startswith("kilograms-"):
+            read(401 + k, name, data)
+    read(501, "a file that is refused, and a room for weights too short", dict(wide_cases())["heavy-two-rows"], {"post": 4095})
+
+
 whole()
 rooms()
 digits()
@@ -118,3 +132,4 @@ words()
 faults()
 loose_nodes()
 masks()
+wide_rows()

@@ -3,13 +3,13 @@
 
     python3 tests/edges/closed.py > tests/edges/closed.calls
 
-Written from document 01 and 02's E4 and E5 alone, without the library's code: markings are tuples of unbounded numbers, a list is a set of them
+Written from document 01 and 02's E4, E5 and E6 alone, without the library's code: markings are tuples of unbounded numbers, a list is a set of them
 with its order beside it, and every rule is spelled out as 01 words it (refusals and the search in shared/lists.py). Answers:
 129 0 (accepted, never reached, never stalls), 129 1 (initial missing), 129 2 marking transition, 129 3 (not shown), or 130
 refusal position.
 """
 
-from shared.calls import LOOSE, NONE, WIRED, group, heading
+from shared.calls import HEAVY, LIGHT, LOOSE, NONE, WIRED, group, heading
 from shared.lists import SAMPLE, START, Net, counted_net, failure, markings_of, one_place, refusal, tell
 
 
@@ -190,6 +190,48 @@ def pockets():
         line(f"{331 + k}.5", Net(3, 65, [1] * 195, [1] * 195, SAMPLE.caps, marks), START, ALL)
 
 
+def heavy_weights():
+    group("weights over 4,095: refusal 18; then weights at the limit")
+    for k, (edge, P, T, pre, post) in enumerate(HEAVY + LIGHT):
+        heading(edge)
+        net, start = Net(P, T, pre, post, [9000] * P), [4500] * P
+        line(f"{601 + k}.1", net, start, start)
+        line(f"{601 + k}.2", net, start, start, [0] * P)
+        line(f"{601 + k}.3", net, start, start, stall=True)
+    group("a bin in kilograms: 0 brings 1,500, 1 takes 4,095, of at most 6,000")
+    chips, held, reached = Net(1, 2, [0, 4095], [1500, 0], [6000]), [2600], [2600]
+    for tokens in reached:  # it grows on the way
+        results = [fired(chips, (tokens,), t) for t in range(2)]
+        reached += [after[0] for after in results if after is not None and after[0] not in reached]
+    line(641, chips, held, reached)
+    line(642, chips, held, reached[:-1])
+    line(643, chips, held, reached, [2601])
+    line(644, chips, held, reached, stall=True)
+    heading("4,096 in place of 4,095")
+    line(645, chips, held, [2600, 4100, 5600, 4])
+    heading("a result past 16 bits is not the listed one that its last bits say")
+    one(647, 0, 4095, NONE, 65534, [65534, 65534 + 4095 - 65536])
+    one(648, 0, 4095, NONE, 0, [0, 4095, 8190])
+    group("18 and another refusal")
+    too_much, many = Net(1, 1, [4096], [0], [9]), [1] * 4097
+    heading("1 and 18; 2 and 18: Pre; the list; the target; the marks")
+    line(651, Net(1, 65, [4096] * 65, [0] * 65, [9]), [1], [1])
+    line(652, Net(1, 1, [4096, 0], [0], [9]), [1], [1])
+    line(653, Net(2, 1, [4096, 1], [0, 0], [9, 9]), [1, 1], [1, 1, 1])
+    line(654, too_much, [1], [1], [1, 1])
+    line(655, Net(1, 1, [4096], [0], [9], []), [1], [1])
+    heading("18 and 3: the initial marking, the list, the target; 18 and 17; 18 and 9")
+    line(656, too_much, [10], [1])
+    line(657, too_much, [1], [1, 10])
+    line(658, too_much, [1], [1], [65535])
+    line(659, Net(2, 1, [0, 4096], [0, 0], [9, 9]), [1, 1], [1, 1])
+    line("660.1", too_much, [1], [])
+    line("660.2", too_much, [1], [], [0])
+    line("660.3", too_much, [1], [], stall=True)
+    line(661, too_much, [1], many)
+    line(662, too_much, [10], many, [65535])
+
+
 def loose_nodes():
     group("nodes without an arc: refusal 17; then nets that hang together by one arc")
     for k, (edge, P, T, pre, post) in enumerate(LOOSE + WIRED):
@@ -230,3 +272,4 @@ results()
 long_lists()
 loose_nodes()
 pockets()
+heavy_weights()

@@ -3,7 +3,7 @@
 
     python3 tests/edges/complement.py > tests/edges/complement.calls
 
-Written from document 01 and 02's E4 and E5 alone, without the library's code: nets are dictionaries from (place, transition) to a weight,
+Written from document 01 and 02's E4, E5 and E6 alone, without the library's code: nets are dictionaries from (place, transition) to a weight,
 the numbers are unbounded, and each rule is spelled out as they word it. Answers: 129 0 0 and the places; 129 0 for a net that
 was written; 130 refusal position. The rooms of a net hold 7s at entry, those of a replay 0s. Where a case asks for the places
 and for the net, they are .1 and .2 of its number.
@@ -12,7 +12,7 @@ It also checks, word by word up to three letters, that each net that is written 
 
 from itertools import product
 
-from shared.calls import HUGE, LOOSE, NONE, WIRED, all_plain, call, group, heading, loose, net as lent_net
+from shared.calls import HEAVY, HUGE, LIGHT, LOOSE, NONE, WIRED, all_plain, call, group, heading, heavy, loose, net as lent_net
 
 
 def weights(P, T, flat):
@@ -36,7 +36,7 @@ def net_refusal(P, T, pre, post, caps, marks):
 
 def places_answer(P, T, pre, post, caps, marks):
     refused = net_refusal(P, T, pre, post, caps, marks)
-    refused = refused or loose(P, T, pre, post)
+    refused = refused or heavy(P, T, pre, post) or loose(P, T, pre, post)
     if refused is None and P + len(capped(P, T, pre, post, caps, marks)) > 64:
         refused = 10, 0  # "old plus complement places over 64", which "counts only those made"
     return [130, *refused] if refused else [129, 0, 0, P + len(capped(P, T, pre, post, caps, marks))]
@@ -52,7 +52,9 @@ def net_answer(P, T, pre, post, caps, marks, initial, lengths):
             refused = 2, 0
         else:
             bad = [p for p in range(P) if initial[p] == 65535 or (caps[p] != NONE and initial[p] > caps[p])]
-            if bad:
+            if heavy(P, T, pre, post):
+                refused = heavy(P, T, pre, post)
+            elif bad:
                 refused = 3, min(bad)
             elif loose(P, T, pre, post):
                 refused = loose(P, T, pre, post)
@@ -165,7 +167,7 @@ def one_place():
     for case, edge, pre, post, cap, tokens in [
         (31, "capacity 0, a loop, one token put", [1, 0], [1, 1], 0, 0),
         (32, "capacity 0, a loop, two tokens taken", [1, 2], [1, 0], 0, 0),
-        (33, "the largest weights, full", [0, 255], [255, 0], 65534, 65534),
+        (33, "the largest weights, full", [0, 4095], [4095, 0], 65534, 65534),
         (34, "the largest capacity, empty", [5, 4], [4, 5], 65534, 0),
         (35, "a loop has no arc at the new place", [7, 7], [7, 8], 9, 4),
         (36, "tokens above capacity 0", [0, 1], [1, 0], 0, 1),
@@ -191,7 +193,7 @@ def three_places():
         (49, "2 before 3", [8, NONE, 300], [9, 9, 301], 8, 4),
     ]:
         heading(edge)
-        ask_net(case, (3, 2, [3, 0, 255, 1, 2, 4], [1, 5, 0, 1, 9, 6], caps), initial, [cells, cells, wide, wide])
+        ask_net(case, (3, 2, [3, 0, 4095, 1, 2, 4], [1, 5, 0, 1, 9, 6], caps), initial, [cells, cells, wide, wide])
 
 
 def many_places():
@@ -314,7 +316,7 @@ def pockets():
         (308, "the second of two", [1, 1, 1, 1], [1, 1, 1, 1], [4, 4], [0, 128], [4, 3]),
         (309, "a pocket, a plain place and a pocket without capacity", [1, 2, 3, 0, 1, 1], [2, 1, 3, 1, 1, 4], [9, 9, NONE], [1, 0, 1], [5, 5, 5]),
         (310, "two pockets and a plain place", [1, 2, 3, 0, 1, 1], [2, 1, 3, 1, 1, 4], [9, 9, 20], [1, 0, 1], [5, 5, 5]),
-        (311, "the largest weights", [255, 0], [255, 255], [65534], [1], [65279]),
+        (311, "the largest weights", [4095, 0], [4095, 4095], [65534], [1], [61439]),
     ]:
         heading(edge)
         net = len(caps), 2, pre, post, caps, marks
@@ -328,6 +330,37 @@ def pockets():
     ask_net(325, (1, 1, [1], [1], [9], [1]), [5], [1, 1, 1, 1])
     heading("and for a plain one as if it had: 2")
     ask_net(326, (1, 1, [1], [1], [9], [0]), [5], [2, 2, 2, 2])
+
+
+def heavy_weights():
+    group("weights over 4,095: refusal 18; then weights at the limit, of a plain place and of a pocket")
+    for k, (edge, P, T, pre, post) in enumerate(HEAVY):
+        heading(edge)
+        ask_both(601 + k, (P, T, pre, post, [9] * P if P < 64 else [NONE] * P), [1] * P)
+    for k, (edge, P, T, pre, post) in enumerate(LIGHT):
+        for n, mark in enumerate([0, 1]):
+            heading(edge + (", a pocket" if mark else ""))
+            net = P, T, pre, post, [9000] * P, [mark] * P
+            made = ask_both(621 + 2 * k + n, net, [4500] * P)
+            ask_words(621 + 2 * k + n, net, [4500] * P, made, [[0], [0, 0]])
+    heading("a bin in kilograms, plain and as a pocket")
+    for n, mark in enumerate([0, 1]):
+        net = 1, 3, [0, 4095, 1000], [1500, 0, 1000], [6000], [mark]
+        made = ask_both(641 + n, net, [2600])
+        ask_words(641 + n, net, [2600], made, [[0, 0, 1, 0], [0, 0, 2], [0, 0, 0], [1]])
+    group("18 and another refusal")
+    too_much = 1, 1, [4096], [0], [9]
+    heading("1 and 18; 2 and 18: Post; a room; the marks")
+    ask_places(651, 1, 65, [4096] * 65, [0] * 65, [9])
+    ask_places(652, 1, 1, [4096], [0, 0], [9])
+    ask_net(653, too_much, [1], [1, 2, 2, 2])
+    ask_places(654, *too_much, [0, 0])
+    ask_places(655, *too_much, [])
+    heading("18 and 3; 18 and 17; 18 and 10; all of them")
+    ask_net(656, too_much, [10], [2, 2, 2, 2])
+    ask_both(657, (2, 1, [0, 4096], [0, 0], [9, NONE]), [1, 1])
+    ask_both(658, (64, 1, [1] * 63 + [4096], [2] * 64, [9] * 64), [5] * 64)
+    ask_both(659, (64, 1, [0] + [1] * 62 + [4096], [0] + [2] * 63, [4] * 64), [5] * 64)
 
 
 def loose_nodes():
@@ -359,3 +392,4 @@ counts()
 loops()
 loose_nodes()
 pockets()
+heavy_weights()

@@ -3,12 +3,12 @@
 
     python3 tests/edges/cover.py > tests/edges/cover.calls
 
-Written from document 01 alone, without the library's code: markings are tuples of unbounded numbers, any number is a thing of
+Written from document 01 and 02's E4 to E6 alone, without the library's code: markings are tuples of unbounded numbers, any number is a thing of
 its own, and every rule is spelled out as 01 words it (refusals and the search in shared/lists.py). Answers: 129 0 (accepted, or
 never covered), 129 1 (initial missing), 129 2 marking transition, 129 3 (not shown), or 130 refusal position.
 """
 
-from shared.calls import LOOSE, NONE, WIRED, group, heading
+from shared.calls import HEAVY, LIGHT, LOOSE, NONE, WIRED, group, heading
 from shared.lists import SAMPLE, START, Net, counted_net, failure, markings_of, one_place, refusal, tell
 
 ANY = None  # "65,535 for any number", in a list only
@@ -147,6 +147,38 @@ def pockets():
         line(f"{331 + k}.3", net, [1, 0, 6], COVER)
 
 
+def heavy_weights():
+    group("weights over 4,095: refusal 18; then weights at the limit")
+    for k, (edge, P, T, pre, post) in enumerate(HEAVY + LIGHT):
+        heading(edge)
+        net, start = Net(P, T, pre, post, [9000] * P), [4500] * P
+        line(f"{601 + k}.1", net, start, start)
+        line(f"{601 + k}.2", net, start, start, [0] * P)
+        line(f"{601 + k}.3", net, start, [65535] * P, [0] * P)
+    heading("results of weights over a byte, and past 16 bits")
+    one(641, 0, 4095, NONE, 1, [1, 4096])
+    one(642, 0, 4095, NONE, 1, [1, 4096, 8191, 12286, 65535])
+    one(643, 0, 4095, NONE, 65534, [65534])
+    one(644, 4095, 1, NONE, 4094, [4094])
+    one(645, 4095, 1, NONE, 4095, [4095])
+    group("18 and another refusal")
+    too_much, many = Net(1, 1, [4096], [0], [9]), [1] * 4097
+    heading("1 and 18; 2 and 18: Pre; the list; the target; the marks")
+    line(651, Net(1, 65, [4096] * 65, [0] * 65, [9]), [1], [1])
+    line(652, Net(1, 1, [4096, 0], [0], [9]), [1], [1])
+    line(653, Net(2, 1, [4096, 1], [0, 0], [9, 9]), [1, 1], [1, 1, 1])
+    line(654, too_much, [1], [1], [1, 1])
+    line(655, Net(1, 1, [4096], [0], [9], []), [1], [1])
+    heading("18 and 3: the initial marking, the target; 18 and 17; 18 and 9")
+    line(656, too_much, [10], [1])
+    line(658, too_much, [1], [1], [65535])
+    line(659, Net(2, 1, [0, 4096], [0, 0], [9, 9]), [1, 1], [1, 1])
+    line("660.1", too_much, [1], [])
+    line("660.2", too_much, [1], [], [0])
+    line(661, too_much, [1], many)
+    line(662, too_much, [10], many, [65535])
+
+
 def loose_nodes():
     group("nodes without an arc: refusal 17; then nets that hang together by one arc")
     for k, (edge, P, T, pre, post) in enumerate(LOOSE + WIRED):
@@ -180,3 +212,4 @@ results()
 long_lists()
 loose_nodes()
 pockets()
+heavy_weights()

@@ -21,7 +21,7 @@ kaunorpi_replay kaunorpi_replay_word(KAUNORPI_NET, const uint16_t *initial, size
         ((uint16_t *)caps)[0]++;
         break;
     case 5: /* answers by what lies behind a list, in one of the rounds */
-        answer.place = pre[pre_len] != 0xA5;
+        answer.place = pre[pre_len] != 0xA5A5;
         break;
     case 6: /* answers otherwise where nothing is lent as a null pointer */
         answer.place = word_len == 0 && word == NULL;

@@ -1,5 +1,5 @@
 #!/usr/bin/env python3
-"""The edges of two logs and their order, from request E3 of document 02: the table order.calls is this script's output.
+"""The edges of two logs and their order, from requests E3 to E6 of document 02: the table order.calls is this script's output.
 
     python3 tests/edges/order.py > tests/edges/order.calls
 
@@ -12,7 +12,7 @@ rest_fault 129 0, 130 refusal 0; unread_rest 129 0 0 log start length, 130 refus
 from functools import cache
 from itertools import product
 
-from shared.calls import HUGE, LOOSE, NONE, WIRED, all_plain, call, group, heading, loose, net as lent_net
+from shared.calls import HEAVY, HUGE, LIGHT, LOOSE, NONE, WIRED, all_plain, call, group, heading, heavy, loose, net as lent_net
 
 WORK = 65536
 
@@ -53,6 +53,8 @@ def refusal(P, T, pre, post, caps, initial, marks, first, second, room, work):
         return 2, 0
     if len(room) != len(first) + len(second) or len(work) != WORK:
         return 2, 0
+    if heavy(P, T, pre, post):
+        return heavy(P, T, pre, post)
     bad = [p for p in range(P) if initial[p] == 65535 or (caps[p] != NONE and initial[p] > caps[p])]
     if bad:
         return 3, bad[0]
@@ -140,10 +142,10 @@ def capacities():
     found(42, "and empty at the start: the second log has to begin", [1, 0, 1, 0], BUFFER, TAKES * 2, PUTS * 2)
     none(43, "one letter more than the buffer holds", BUFFER, PUTS * 3, TAKES)
     found(44, "exactly what the buffer holds at the end", [0, 1, 0], BUFFER, PUTS * 2, TAKES)
-    wide = 1, 2, [0, 255], [255, 0], [NONE], [65534]
+    wide = 1, 2, [0, 4095], [4095, 0], [NONE], [65534]
     found(45, "over 65,535 tokens on the way", [0, 1], wide, [0], [1])
-    found(46, "most tokens: 65,534 + 510 x 255", [0] * 255 + [1] * 255, wide, [0] * 255, [0] * 255)
-    capped = 1, 2, [0, 255], [255, 0], [65534], [65534]
+    found(46, "most tokens: 65,534 + 510 x 4,095", [0] * 255 + [1] * 255, wide, [0] * 255, [0] * 255)
+    capped = 1, 2, [0, 4095], [4095, 0], [65534], [65534]
     found(47, "no room for more at a capacity of 65,534", [1, 0], capped, [0], [1])
     loop = 1, 2, [1, 0], [1, 1], [1], [1]
     found(48, "a loop fires at a full place", [0], loop, [0], [])
@@ -223,7 +225,7 @@ def one_refusal():
 
 
 def two_refusals():
-    group("several refusals at once: 1 2 3 17 4 15 5, in this order")
+    group("several refusals at once: 1 2 18 3 17 4 15 5, in this order")
     refuse(371, "1 and 2", 1, (0, *TOKEN[1:]), [FREE], [FREE], room=3)
     refuse(372, "1 and 4, 15, 5", 1, (1, 0, *TOKEN[2:]), [255] * 65536, [255])
     refuse(373, "2 and 3: the room", 2, (*TOKEN[:5], [2, 0]), [FREE], [FREE], room=1)
@@ -285,6 +287,34 @@ def loose_nodes():
     refuse(536, "17 and 5", 17, bare, [0], [1])
     refuse(537, "17, 4, 15 and 5", 17, bare, [0] * 65535 + [1], [0] * 256)
     refuse(538, "17 and two empty logs", 17, bare, [], [])
+
+
+def heavy_weights():
+    group("weights over 4,095: refusal 18; then weights at the limit")
+    for k, (edge, P, T, pre, post) in enumerate(HEAVY):
+        refuse(601 + k, edge, 18, (P, T, pre, post, [9] * P, [1] * P), [0], [0])
+    for k, (edge, P, T, pre, post) in enumerate(LIGHT):
+        ask(621 + k, edge, (P, T, pre, post, [9000] * P, [4500] * P), [0], [0])
+    group("a bin in kilograms: 0 brings 1,500, 1 takes 4,095, of at most 6,000")
+    chips = 1, 2, [0, 4095], [1500, 0], [6000], [2600]
+    found(631, "two loads have to come before the truck", [0, 0, 1], chips, [0, 0], [1])
+    found(632, "the truck between the second and the third", [0, 0, 1, 0], chips, [0, 0, 0], [1])
+    none(633, "two trucks are too many", chips, [0, 0], [1, 1])
+    found(634, "with 200 more at the start one load is enough", [1, 0], (*chips[:5], [5900]), [0], [1])
+    found(635, "two loads of half a bin and a truck, three times", [0, 0, 1] * 3, (1, 2, [0, 3000], [1500, 0], [3000], [0]), [0] * 6, [1] * 3)
+    group("18 and another refusal")
+    too_much = 1, 1, [4096], [0], [4], [0]
+    refuse(641, "1 and 18", 1, (1, 65, [4096] * 65, [0] * 65, [4], [0]), [0], [0])
+    refuse(642, "2 and 18: the work space", 2, too_much, [0], [0], work=[9] * 65535)
+    refuse(643, "2 and 18: the room", 2, too_much, [0], [0], room=1)
+    refuse(644, "2 and 18: the marks", 2, too_much, [0], [0], marks=[])
+    refuse(645, "18 and 3", 18, (*too_much[:5], [5]), [0], [0])
+    refuse(646, "18 and 17", 18, (2, 1, [0, 4096], [0, 0], [4, 4], [0, 0]), [0], [0])
+    refuse(647, "18 and 4", 18, too_much, [0] * 65536, [0])
+    refuse(648, "18 and 15", 18, too_much, [0], [0] * 256)
+    refuse(649, "18 and 5", 18, too_much, [0], [1])
+    refuse(650, "18, 3, 4, 15 and 5", 18, (*too_much[:5], [65535]), [0] * 65535 + [1], [0] * 256)
+    refuse(651, "18 and two empty logs", 18, too_much, [], [])
 
 
 def rest(case, edge, first, second, order, step):
@@ -358,3 +388,4 @@ rests()
 rest_refusals()
 loose_nodes()
 pockets()
+heavy_weights()

@@ -3,16 +3,16 @@
 
     python3 tests/edges/replay.py > tests/edges/replay.calls
 
-Written from document 01 and 02's E4 and E5 alone, without the library's code: the nets are dictionaries from (place,
+Written from document 01 and 02's E4, E5 and E6 alone, without the library's code: the nets are dictionaries from (place,
 transition) to a weight, the numbers are unbounded, and every rule is spelled out as they word it. Answers: 129 0 letters fired; 129 1
 position place, short; 129 2 position place, over; 130 refusal position. The room holds 7s at entry.
 """
 
-from shared.calls import HUGE, LOOSE, NONE, WIRED, all_plain, call, group, heading, loose, net
+from shared.calls import HEAVY, HUGE, LIGHT, LOOSE, NONE, WIRED, all_plain, call, group, heading, heavy, loose, net
 
 
 def refusal(P, T, pre, post, caps, marks, initial, word, stretch, room):
-    """The first refusal in order, 17 after 3, as (number, position), or None. `stretch` is None for a whole word."""
+    """The first refusal in order, 18 after 2 and 17 after 3, as (number, position), or None. `stretch` is None for a whole word."""
     # 1: a place or transition count outside 1..64
     if not (1 <= P <= 64 and 1 <= T <= 64):
         return 1, 0
@@ -24,6 +24,9 @@ def refusal(P, T, pre, post, caps, marks, initial, word, stretch, room):
         if end < start or end > len(word):
             return 2, 0
         word = word[start:end]
+    # 18: a weight over 4,095
+    if heavy(P, T, pre, post):
+        return heavy(P, T, pre, post)
     # 3: 65,535 tokens where not allowed, or tokens above capacity
     for p in range(P):
         if initial[p] == 65535 or (caps[p] != NONE and initial[p] > caps[p]):
@@ -147,8 +150,8 @@ def one_place():
         (44, "tokens above capacity", 1, 0, 5, 6, []),
         (45, "a loop on a full place", 1, 1, 5, 5, [0, 0]),
         (46, "a loop on an empty place", 1, 1, 5, 0, [0]),
-        (47, "the largest weight, just enough", 255, 0, NONE, 255, [0]),
-        (48, "the largest weight, one short", 255, 0, NONE, 254, [0]),
+        (47, "the largest weight, just enough", 4095, 0, NONE, 4095, [0]),
+        (48, "the largest weight, one short", 4095, 0, NONE, 4094, [0]),
         (49, "the second letter is short", 2, 0, NONE, 3, [0, 0]),
         (50, "two letters fire, the third is over", 2, 3, 5, 3, [0, 0, 0, 0]),
         (51, "letter 1 with one transition", 0, 1, NONE, 0, [1]),
@@ -250,10 +253,10 @@ def pockets():
         ("only put into, exactly at capacity", 0, 2, 5, 3, [0]),
         ("only put into, one above", 0, 2, 4, 3, [0]),
         ("capacity 0, a loop", 1, 1, 0, 0, [0]),
-        ("the largest capacity and weights, exactly", 255, 255, 65534, 65279, [0, 0]),
-        ("one above", 255, 255, 65534, 65280, [0, 0]),
-        ("no capacity: as a plain place", 255, 255, NONE, 65534, [0, 0]),
-        ("no capacity, past 65,535", 1, 255, NONE, 65534, [0, 0]),
+        ("the largest capacity and weights, exactly", 4095, 4095, 65534, 61439, [0, 0]),
+        ("one above", 4095, 4095, 65534, 61440, [0, 0]),
+        ("no capacity: as a plain place", 4095, 4095, NONE, 65534, [0, 0]),
+        ("no capacity, past 65,535", 1, 4095, NONE, 65534, [0, 0]),
     ]):
         for n, mark in enumerate([0, 1, 2, 128, 255], 1):
             say(f"{301 + k}.{n}", edge if n == 1 else "", 1, 1, [takes], [puts], [cap], [tokens], word, marks=[mark])
@@ -332,11 +335,50 @@ def loose_nodes():
     say(262, "2 for a stretch past the end, and 17", 1, 1, [0], [0], [4], [0], [0], (0, 2))
 
 
+def heavy_weights():
+    group("weights over 4,095: refusal 18; then weights at the limit")
+    for k, (edge, P, T, pre, post) in enumerate(HEAVY + LIGHT):
+        asked = P, T, pre, post, [9000] * P, [4500] * P, [0]
+        say(601 + 2 * k, edge, *asked)
+        say(602 + 2 * k, "the same, asked for a stretch", *asked, (0, 1))
+    group("weights of a byte and more: short and over by one, and a word of both")
+    for k, (edge, pre, post, cap, tokens, word) in enumerate([
+        ("256 taken, just there", [256], [0], NONE, 256, [0]),
+        ("one short", [256], [0], NONE, 255, [0]),
+        ("put, exactly at capacity", [0], [4095], 8000, 3905, [0]),
+        ("one above", [0], [4095], 7999, 3905, [0]),
+        ("256 times as much is not the same: 257 taken and 1 put", [257, 0], [0, 1], NONE, 257, [1, 0, 1]),
+        ("4,095 down to 0, and one letter more", [4095], [0], NONE, 12285, [0] * 4),
+        ("a bin in kilograms: two loads and a truck", [0, 4095], [1500, 0], 6000, 2600, [0, 0, 1, 0]),
+        ("and a third load", [0, 4095], [1500, 0], 6000, 2600, [0, 0, 0]),
+    ]):
+        say(651 + k, edge, 1, len(pre), pre, post, [cap], [tokens], word)
+    group("18 and another refusal")
+    for k, (edge, T, arcs, tokens, word) in enumerate([
+        ("1 and 18", 65, 65, 0, [0]),
+        ("2 and 18", 1, 2, 0, [0]),
+        ("18 and 3", 1, 1, 5, [0]),
+        ("18 and 4", 1, 1, 0, LONG[:65536]),
+        ("18 and 5", 1, 1, 0, [1]),
+        ("18, 3, 4 and 5", 1, 1, 65535, LONG),
+        ("18 and no letter", 1, 1, 0, []),
+    ]):
+        asked = 1, T, [4096] * arcs, [0] * arcs, [4], [tokens], word
+        say(671 + 2 * k, edge, *asked)
+        say(672 + 2 * k, "the same, asked for a stretch", *asked, (0, len(word)))
+    say(691, "18 and 17: a loose place", 2, 1, [0, 4096], [0, 0], [4, 4], [0, 0], [0])
+    say(692, "18 at the second transition and 17 at the first", 1, 2, [0, 4096], [0, 0], [4], [0], [0])
+    say(693, "18 and 3 and 17", 2, 1, [0, 4096], [0, 0], [4, 4], [5, 0], [0])
+    say(694, "2 for a stretch past the end, and 18", 1, 1, [4096], [0], [4], [0], [0], (0, 2))
+    say(695, "18 though no letter names that transition", 1, 2, [1, 4096], [1, 0], [4], [1], [0])
+    say(696, "2 for the marks, and 18", 1, 1, [4096], [0], [4], [0], [0], marks=[])
+
+
 def long_words():
     group("65,535 letters and more")
     for case, edge, takes, puts, cap, tokens, letters in [
-        (161, "the most tokens that a replay reaches", 0, 255, NONE, 65534, 65535),
-        (162, "one letter too many", 0, 255, NONE, 65534, 65536),
+        (161, "the most tokens that a replay reaches", 0, 4095, NONE, 65534, 65535),
+        (162, "one letter too many", 0, 4095, NONE, 65534, 65536),
         (163, "short at the last letter", 1, 0, NONE, 65534, 65535),
         (164, "over at the last letter", 0, 1, 65534, 0, 65535),
     ]:
@@ -368,3 +410,4 @@ if __name__ == "__main__":
     long_words()
     loose_nodes()
     pockets()
+    heavy_weights()

@@ -51,7 +51,7 @@ typedef int32_t i32;
 #define LENT(type, name) (const type *)lend(#name, TYPE(type), 0)->at, lend(#name, TYPE(type), 0)->count
 #define ROOM(type, name) (type *)lend(#name, TYPE(type), 1)->at, lend(#name, TYPE(type), 1)->count
 #define NET \
-    NUMBER(size_t, places), NUMBER(size_t, transitions), LENT(u8, pre), LENT(u8, post), LENT(u16, caps), LENT(u8, marks)
+    NUMBER(size_t, places), NUMBER(size_t, transitions), LENT(u16, pre), LENT(u16, post), LENT(u16, caps), LENT(u8, marks)
 #define SUMMARY(which) \
     NUMBER(size_t, which##places), NUMBER(u32, which##letters), LENT(u32, which##need), LENT(u32, which##climb), \
         LENT(i32, which##change)
@@ -86,10 +86,10 @@ static void ask(void) {
     QUESTION(cover_list, list, NET, LENT(u16, initial), LENT(u16, list))
     QUESTION(cover_target, list, NET, LENT(u16, initial), LENT(u16, list), LENT(u16, target))
     QUESTION(complement_places, places, NET)
-    QUESTION(complement_net, answer, NET, LENT(u16, initial), ROOM(u8, pre2), ROOM(u8, post2), ROOM(u16, caps2),
+    QUESTION(complement_net, answer, NET, LENT(u16, initial), ROOM(u16, pre2), ROOM(u16, post2), ROOM(u16, caps2),
              ROOM(u8, marks2), ROOM(u16, initial2))
-    QUESTION(read_case, case, LENT(u8, file), ROOM(u16, caps), ROOM(u8, marks), ROOM(u16, initial), ROOM(u8, pre),
-             ROOM(u8, post), ROOM(u8, word))
+    QUESTION(read_case, case, LENT(u8, file), ROOM(u16, caps), ROOM(u8, marks), ROOM(u16, initial), ROOM(u16, pre),
+             ROOM(u16, post), ROOM(u8, word))
     QUESTION(case_length, length, NET, LENT(u16, initial), LENT(u8, word))
     QUESTION(write_case, length, NET, LENT(u16, initial), LENT(u8, word), ROOM(u8, room))
     QUESTION(order_logs, answer, NET, LENT(u16, initial), LENT(u8, first), LENT(u8, second), ROOM(u8, room), ROOM(u8, work))

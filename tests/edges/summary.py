@@ -3,7 +3,7 @@
 
     python3 tests/edges/summary.py > tests/edges/summary.calls
 
-Written from document 01 and 02's E4 and E5 alone, without the library's code: the numbers are unbounded, need and climb are the
+Written from document 01 and 02's E4, E5 and E6 alone, without the library's code: the numbers are unbounded, need and climb are the
 largest over all letters and prefixes, each taken anew from their words. Answers: 129 0 made or yes, a summary with its places and letters;
 129 1 no; 130 refusal position. Rooms hold 7s at entry. Where a case joins or asks what other calls made, those stand before
 it, as .1 and .2 of its number.
@@ -11,7 +11,7 @@ it, as .1 and .2 of its number.
 
 from itertools import accumulate
 
-from shared.calls import HUGE, LOOSE, NONE, WIRED, all_plain, call, group, heading, loose, net
+from shared.calls import HEAVIEST, HEAVY, HUGE, LIGHT, LOOSE, NONE, WIRED, all_plain, call, group, heading, heavy, loose, net
 
 
 class Summary:
@@ -38,6 +38,8 @@ def summarise(P, T, pre, post, caps, word, stretch=None, marks=None):
         if end < start or end > len(word):
             return (2, 0), NOTHING
         word = word[start:end]
+    if heavy(P, T, pre, post):
+        return heavy(P, T, pre, post), NOTHING
     if loose(P, T, pre, post):
         return loose(P, T, pre, post), NOTHING
     if len(word) > 65535:
@@ -68,7 +70,8 @@ def ill(s):
         return 0
     for p, (need, climb, change) in enumerate(s.slots):
         if p < s.places:
-            fine = 0 <= need <= 255 * s.letters and 0 <= climb <= 255 * s.letters and -need <= change <= climb
+            most = HEAVIEST * s.letters  # "with 4,095n in place of 255n" (02, E6)
+            fine = 0 <= need <= most and 0 <= climb <= most and -need <= change <= climb
         else:
             fine = (need, climb, change) == (0, 0, 0)
         if not fine:
@@ -98,6 +101,8 @@ def ask(P, T, pre, post, caps, marks, marking, s, room):
         return [130, 1, 0], room
     if [len(pre), len(post), len(caps), len(marks), len(marking), len(room), s.places] != [P * T, P * T, P, P, P, P, P]:
         return [130, 2, 0], room
+    if heavy(P, T, pre, post):
+        return [130, *heavy(P, T, pre, post)], room
     for p in range(P):
         if marking[p] == 65535 or marking[p] > caps[p]:
             return [130, 3, p], room
@@ -202,13 +207,13 @@ def weights():
     for case, edge, takes, puts, word in [
         (21, "a loop needs a token though nothing changes", 1, 1, [0]),
         (22, "the loop three times", 1, 1, [0] * 3),
-        (23, "the largest weight, taken", 255, 0, [0] * 2),
-        (24, "the largest weight, put", 0, 255, [0] * 2),
+        (23, "the largest weight, taken", 4095, 0, [0] * 2),
+        (24, "the largest weight, put", 0, 4095, [0] * 2),
         (25, "more put than taken", 2, 5, [0] * 2),
         (26, "more taken than put", 5, 2, [0] * 2),
         (27, "a letter that names no transition", 0, 1, [0, 0, 1, 1]),
-        (131, "the most that a word needs", 255, 0, [0] * 65535),
-        (132, "the most that a word climbs", 0, 255, [0] * 65535),
+        (131, "the most that a word needs", 4095, 0, [0] * 65535),
+        (132, "the most that a word climbs", 0, 4095, [0] * 65535),
     ]:
         heading(edge)
         made_word(case, 1, 1, [takes], [puts], [4], word)
@@ -238,10 +243,12 @@ def forms():
     group("a summary that may not be well formed, joined behind the empty one of two places")
     none = made_empty(40, 2)
     for case, edge, *form in [
-        (41, "need of place 0 at 255n", 2, 2, 0, 510, 0, -510),
-        (42, "need of place 0 above 255n", 2, 2, 0, 511, 0, 0),
-        (43, "climb of place 0 at 255n", 2, 2, 0, 0, 510, 510),
-        (44, "climb of place 0 above 255n", 2, 2, 0, 0, 511, 0),
+        (41, "need of place 0 at 4,095n", 2, 2, 0, 8190, 0, -8190),
+        (42, "need of place 0 above 4,095n", 2, 2, 0, 8191, 0, 0),
+        (43, "climb of place 0 at 4,095n", 2, 2, 0, 0, 8190, 8190),
+        (44, "climb of place 0 above 4,095n", 2, 2, 0, 0, 8191, 0),
+        (58, "need and climb at 255n, as stored before", 2, 2, 0, 510, 510, 510),
+        (59, "and above it", 2, 2, 0, 511, 511, -511),
         (45, "change of the last place at -need", 2, 9, 1, 5, 6, -5),
         (46, "one below", 2, 9, 1, 5, 6, -6),
         (47, "change of the last place at climb", 2, 9, 1, 5, 6, 6),
@@ -250,7 +257,8 @@ def forms():
         (50, "the last slot", 2, 9, 63, 0, 1, 0),
         (51, "all zero, with letters", 2, 9, 63, 0, 0, 0),
         (52, "no letters, yet a need", 2, 0, 1, 1, 0, 0),
-        (53, "the most letters", 2, 65535, 0, 16711425, 0, -16711425),
+        (53, "the most letters", 2, 65535, 0, 268365825, 0, -268365825),
+        (60, "the most letters, climb one above 4,095n", 2, 65535, 0, 0, 268365826, 0),
         (54, "one letter more, which is looked at first", 2, 65536, 1, 4000000000, 0, 0),
         (55, "climb and change at the upper end of their width", 2, 9, 1, 0, 4294967295, 2147483647),
         (56, "need and change at the ends of their width", 2, 9, 1, 4294967295, 0, -2147483648),
@@ -266,8 +274,8 @@ def orders():
         (61, "1 of the first before 2 and 6", (0, 65536, 0, 9, 0, 0), (2, 0, 0, 0, 0, 0)),
         (62, "1 of the second before 2 and 6", (2, 65536, 0, 9, 0, 0), (65, 0, 0, 0, 0, 0)),
         (63, "2 before 6", (2, 65536, 0, 9, 0, 0), (3, 0, 0, 0, 0, 0)),
-        (64, "6 of the first before 6 of the second", (2, 1, 1, 999, 0, 0), (2, 1, 0, 999, 0, 0)),
-        (65, "6 of the second", (2, 1, 1, 9, 0, 0), (2, 1, 0, 999, 0, 0)),
+        (64, "6 of the first before 6 of the second", (2, 1, 1, 4999, 0, 0), (2, 1, 0, 4999, 0, 0)),
+        (65, "6 of the second", (2, 1, 1, 9, 0, 0), (2, 1, 0, 4999, 0, 0)),
         (66, "6 before 7", (2, 65535, 1, 0, 0, 0), (2, 65535, 5, 1, 0, 0)),
         (67, "7", (2, 65535, 0, 0, 0, 0), (2, 1, 0, 0, 0, 0)),
         (68, "lengths that just fit", (2, 65534, 0, 7, 3, -2), (2, 1, 0, 4, 9, 8)),
@@ -298,8 +306,8 @@ def asks():
         (90, "2 before 3: another place count", (2, 0, 0, 0, 0, 0), [0, 0, 6]),
         (91, "1 before 3: no place", (0, 0, 0, 0, 0, 0), [0, 0, 6]),
         (92, "1 before 3: 65 places", (65, 0, 0, 0, 0, 0), [0, 0, 6]),
-        (93, "3 before 6", (3, 1, 2, 256, 0, 0), [0, 0, 6]),
-        (94, "6 at a place", (3, 1, 2, 256, 0, 0), [0, 0, 5]),
+        (93, "3 before 6", (3, 1, 2, 4096, 0, 0), [0, 0, 6]),
+        (94, "6 at a place", (3, 1, 2, 4096, 0, 0), [0, 0, 5]),
         (95, "6 at a slot past the places", (3, 1, 3, 0, 1, 0), [0, 0, 5]),
         (96, "6, too long", (3, 65536, 2, 0, 0, 0), [0, 0, 5]),
         (97, "only the arithmetic holds: need just there", (3, 9, 0, 2, 1, -1), [2, 0, 0]),
@@ -335,7 +343,7 @@ def pockets():
         ("more taken than put", 5, 2, 99, [0] * 3),
         ("only taken from", 5, 0, 99, [0] * 3),
         ("no letter", 1, 1, 4, []),
-        ("the most that a word climbs", 255, 255, 65534, [0] * 65535),
+        ("the most that a word climbs", 4095, 4095, 65534, [0] * 65535),
         ("capacity 0", 1, 1, 0, [0]),
         ("no capacity: as a plain place", 2, 5, NONE, [0] * 3),
         ("no capacity, a loop: no climb", 1, 1, NONE, [0]),
@@ -394,11 +402,47 @@ def loose_nodes():
     for case, edge, form, tokens in [
         (231, "2, a summary of two places, and 17", (2, 1, 0, 1, 2, 2), 2),
         (232, "3 and 17", (1, 1, 0, 1, 2, 2), 5),
-        (233, "17 and 6", (1, 1, 0, 256, 0, 0), 2),
+        (233, "17 and 6", (1, 1, 0, 4096, 0, 0), 2),
         (234, "17, where the answer would be no", (1, 1, 0, 3, 0, 0), 2),
     ]:
         heading(edge)
         asked(case, odd(*form), 1, 1, [0], [0], [4], [tokens], 1)
+
+
+def heavy_weights():
+    group("weights over 4,095: refusal 18; then weights at the limit")
+    for k, (edge, P, T, pre, post) in enumerate(HEAVY + LIGHT):
+        heading(edge)
+        caps = [9000] * P
+        s = made_word(f"{601 + k}.1", P, T, pre, post, caps, [0])
+        made_stretch(f"{601 + k}.2", P, T, pre, post, caps, [9, 0], 1, 2)
+        asked(f"{601 + k}.3", odd(P, 1, 0, 1, 0, 0), P, T, pre, post, caps, [1] * P, P)
+        if s.letters:
+            asked(f"{601 + k}.4", s, P, T, pre, post, caps, [4095] * P, P)
+            asked(f"{601 + k}.5", s, P, T, pre, post, caps, [4094] * P, P)
+            joined(f"{601 + k}.6", s, s)
+    group("18 and another refusal")
+    for k, (edge, T, arcs, word) in enumerate([
+        ("1 and 18", 65, 65, [0]),
+        ("2 and 18", 1, 2, [0]),
+        ("18 and 4", 1, 1, [0] * 65536),
+        ("18 and 5", 1, 1, [1]),
+    ]):
+        heading(edge)
+        too_much = 1, T, [4096] * arcs, [0] * arcs, [4]
+        made_word(f"{641 + k}.1", *too_much, word)
+        made_stretch(f"{641 + k}.2", *too_much, word, 0, len(word))
+    heading("18 and 17")
+    made_word(651, 2, 1, [0, 4096], [0, 0], [4, 4], [0])
+    for k, (edge, form, tokens) in enumerate([
+        ("2, a summary of two places, and 18", (2, 1, 0, 1, 2, 2), 2),
+        ("1, a summary of no place, and 18", (0, 1, 0, 1, 2, 2), 2),
+        ("18 and 3", (1, 1, 0, 1, 2, 2), 5),
+        ("18 and 6", (1, 1, 0, 4096, 0, 0), 2),
+        ("18, where the answer would be no", (1, 1, 0, 3, 0, 0), 2),
+    ]):
+        heading(edge)
+        asked(661 + k, odd(*form), 1, 1, [4096], [0], [4], [tokens], 1)
 
 
 def list_lengths():
@@ -452,3 +496,4 @@ list_lengths()
 long_words()
 loose_nodes()
 pockets()
+heavy_weights()

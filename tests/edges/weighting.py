@@ -3,13 +3,13 @@
 
     python3 tests/edges/weighting.py > tests/edges/weighting.calls
 
-Written from document 01 alone, without the library's code: numbers are unbounded and signed, sums are taken as 01 words
+Written from document 01 and 02's E4 to E6 alone, without the library's code: numbers are unbounded and signed, sums are taken as 01 words
 them, sets are sets, and arcs are read from dictionaries. Answers: 129 0 (invariant, yes) or 129 0 0 bound; 129 1 with the
 lowest failing transition or place, or with the number of the cause for which there is no bound (1 not invariant, 2 a negative
 entry, 3 y(p) not positive); 129 2 (proper); 130 refusal position.
 """
 
-from shared.calls import HUGE, LOOSE, NONE, WIRED, call, group, heading, loose, net
+from shared.calls import HEAVY, HUGE, LIGHT, LOOSE, NONE, WIRED, call, group, heading, heavy, loose, net
 
 
 class Refused(Exception):
@@ -17,12 +17,14 @@ class Refused(Exception):
 
 
 def check_net(P, T, pre, post, caps, *lengths):
-    """Refusals 1 and 2 but for marks; `lengths` pairs each further list with the length it should have."""
+    """Refusals 1, 2 but for marks, and 18; `lengths` pairs each further list with the length it should have."""
     if not (1 <= P <= 64 and 1 <= T <= 64):
         raise Refused(1, 0)
     for lent, n in [(pre, P * T), (post, P * T), (caps, P), *lengths]:
         if len(lent) != n:
             raise Refused(2, 0)
+    if heavy(P, T, pre, post):
+        raise Refused(*heavy(P, T, pre, post))
 
 
 def check_arcs(P, T, pre, post):
@@ -189,7 +191,7 @@ def bounds():
         case(number, place_bound, 2, 1, [takes, 0], [0, puts], [NONE, NONE], initial, y, place)
 
     def largest(number, own, others, place):
-        arcs = [255] * 4096
+        arcs = [4095] * 4096
         case(number, place_bound, 64, 64, arcs, arcs, [NONE] * 64, [65534] * 64, [own] + [others] * 63, place)
 
     group("bounds")
@@ -233,43 +235,43 @@ def extremes():
         case(number + 1, trap_set, *one(takes, puts), [255])
 
     def sixty_four(number, others, end, last):
-        net = 64, 64, [255] * 4096, [255] * 4095 + [last], [NONE] * 64
+        net = 64, 64, [4095] * 4096, [4095] * 4095 + [last], [NONE] * 64
         both_weightings(number, net, [others] * 63 + [end])
 
     def largest_set(number, place, last):
-        net = 64, 64, [255] * 4095 + [last], [255] * 4096, [NONE] * 64
+        net = 64, 64, [4095] * 4095 + [last], [4095] * 4096, [NONE] * 64
         both_sets(number, net, [1 if p == place else 0 for p in range(64)])
 
     group("one place and one transition: the largest entries and weights")
-    both_weightings(61, one(255, 255), [-32768])
-    both_weightings(63, one(255, 0), [-32768])
-    both_weightings(65, one(0, 255), [32767])
+    both_weightings(61, one(4095, 4095), [-32768])
+    both_weightings(63, one(4095, 0), [-32768])
+    both_weightings(65, one(0, 4095), [32767])
     both_weightings(67, one(1, 1), [1])
     both_weightings(69, one(1, 2), [0])
     heading("its place as a siphon and as a trap")
-    one_set(71, 255, 255)
-    one_set(73, 255, 0)
-    one_set(75, 0, 255)
+    one_set(71, 4095, 4095)
+    one_set(73, 4095, 0)
+    one_set(75, 0, 4095)
     heading("a transition that does not touch it, and a loop")
     beside = 2, 2, [0, 0, 1, 0], [0, 1, 1, 0], [NONE, NONE]
     case(77, siphon_set, *beside, [1, 0])
     case(78, trap_set, *beside, [255, 0])
     group("64 places and 64 transitions")
     heading("every sum is 0")
-    sixty_four(81, -32768, -32768, 255)
-    sixty_four(83, 32767, 32767, 255)
-    sixty_four(85, 32767, -32768, 255)
+    sixty_four(81, -32768, -32768, 4095)
+    sixty_four(83, 32767, 32767, 4095)
+    sixty_four(85, 32767, -32768, 4095)
     heading("only the last transition and the last place fail")
-    sixty_four(87, -32768, -32768, 254)
+    sixty_four(87, -32768, -32768, 4094)
     sixty_four(89, 32767, -32768, 0)
-    sixty_four(91, 0, 1, 254)
+    sixty_four(91, 0, 1, 4094)
     heading("they are weighed by 0; all zero")
-    sixty_four(93, 1, 0, 254)
-    sixty_four(95, 0, 0, 254)
+    sixty_four(93, 1, 0, 4094)
+    sixty_four(95, 0, 0, 4094)
     heading("sets: only the last transition fails; none does")
     largest_set(97, 63, 0)
     largest_set(99, 62, 0)
-    largest_set(101, 63, 255)
+    largest_set(101, 63, 4095)
 
 
 def refusals():
@@ -334,6 +336,43 @@ def pockets():
         all_questions(341 + k, 2, 65, *loop[2:], marks=marks)
 
 
+def heavy_weights():
+    group("weights over 4,095: refusal 18; then weights at the limit")
+    for k, (edge, P, T, pre, post) in enumerate(HEAVY + LIGHT):
+        heading(edge)
+        all_questions(601 + k, P, T, pre, post, [9] * P, [1] * P, [1] * P, [1] * T, [1] * P, 0)
+    group("the largest sums, and such as go up and down again as far as they can")
+    half = lambda one, other: [one] * 32 + [other] * 32
+    for k, (edge, pre, post, y) in enumerate([
+        ("all taken", [4095] * 4096, [0] * 4096, [-32768] * 64),
+        ("all put", [0] * 4096, [4095] * 4096, [-32768] * 64),
+        ("up and down: invariant", [4095] * 4096, [0] * 4096, half(32767, -32767)),
+        ("and one short of it", [4095] * 4095 + [4094], [0] * 4096, half(-32767, 32767)),
+        ("half taken, half put", half(4095, 0) * 64, half(0, 4095) * 64, [32767] * 64),
+        ("half taken, half put, a transition more than the other", half(4095, 0) * 63 + half(0, 4095), half(0, 4095) * 63 + half(4095, 0), [32767] * 64),
+    ]):
+        heading(edge)
+        all_questions(631 + k, 64, 64, pre, post, [NONE] * 64, [65534] * 64, y, y, [1] * 64, 0)
+    heading("arcs of 256, of which a byte keeps nothing: siphon and trap by them alone")
+    both_sets(641, (2, 2, [256, 0, 0, 256], [0, 256, 256, 0], [NONE, NONE]), [1, 1])
+    both_sets(643, (2, 2, [256, 0, 0, 1], [0, 1, 0, 0], [NONE, NONE]), [1, 0])
+    group("18 and another refusal")
+    heading("1 and 18; 2 and 18: Pre, Post; the weighting, the set")
+    too_much = 1, 1, [4096], [0], [9]
+    all_questions(651, 1, 65, [4096] * 65, [0] * 65, [9], [1], [1], [1] * 65, [1], 0)
+    all_questions(652, 1, 1, [4096, 0], [0, 0], [9], [1], [1], [1], [1], 0)
+    all_questions(653, *too_much, [1], [1, 1], [1, 1], [1, 1], 0)
+    heading("2 for the marks, and 18")
+    all_questions(654, *too_much, [1], [1], [1], [1], 0, marks=[])
+    heading("18 and 17; 18 and 8")
+    all_questions(655, 2, 1, [0, 4096], [0, 0], [9, 9], [1, 1], [1, 1], [1], [1, 1], 0)
+    all_questions(656, *too_much, [1], [0], [0], [0], 0)
+    heading("18 and 3; 18 and 13; 18, 3, 8 and 13")
+    case(657, place_bound, *too_much, [10], [1], 0)
+    case(658, place_bound, *too_much, [1], [1], 1)
+    case(659, place_bound, *too_much, [10], [0], 1)
+
+
 def loose_nodes():
     group("nodes without an arc: refusal 17; then nets that hang together by one arc")
     for k, (edge, P, T, pre, post) in enumerate(LOOSE + WIRED):
@@ -361,3 +400,4 @@ extremes()
 refusals()
 loose_nodes()
 pockets()
+heavy_weights()

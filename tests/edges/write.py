@@ -3,7 +3,7 @@
 
     python3 tests/edges/write.py > tests/edges/write.calls
 
-The lines of a file are written by tests/cases/make.py, from document 01 alone; the refusals are spelled out here. Of each case
+The lines of a file are written by tests/cases/make.py, from documents 01 and 02 alone; the refusals are spelled out here. Of each case
 .1 asks how long the file is, the others write it into rooms of several lengths, which hold 7s at entry. Answers: 129 0 0 length;
 130 refusal position. tests/round writes every accepted file of tests/cases and examples back.
 """
@@ -14,9 +14,9 @@ from pathlib import Path
 sys.path.insert(0, str(Path(__file__).resolve().parents[1] / "cases"))
 from make import lines_of, text
 
-from shared.calls import HUGE, LOOSE, NONE, WIRED, all_plain, call, group, heading, loose, net as lent_net, quoted
+from shared.calls import HEAVY, HUGE, LIGHT, LOOSE, NONE, WIRED, all_plain, call, group, heading, heavy, loose, net as lent_net, quoted
 
-LIMIT = 151390  # the longest file
+LIMIT = 167774  # the longest file
 
 
 def refusal(P, T, pre, post, caps, initial, word, marks):
@@ -24,6 +24,8 @@ def refusal(P, T, pre, post, caps, initial, word, marks):
         return 1, 0
     if len(pre) != P * T or len(post) != P * T or len(caps) != P or len(marks) != P or len(initial) != P:
         return 2, 0
+    if heavy(P, T, pre, post):
+        return heavy(P, T, pre, post)
     bad = [p for p in range(P) if initial[p] == 65535 or (caps[p] != NONE and initial[p] > caps[p])]
     if bad:
         return 3, min(bad)
@@ -95,8 +97,12 @@ def counts():
     write(22, "64 places: rows of 260 digits", 64, 1, [0] * 63 + [9], [8] + [1] * 63, [NONE] * 64, [3] * 64, [0])
     write(23, "64 transitions", 1, 64, [0] * 63 + [9], [8] + [1] * 63, [NONE], [3], [63, 0, 62])
     most = 64, 64, [1] * 4096, [255] * 4096, [NONE] * 64, [65534] * 64, [63] * 65535
-    write(24, "the longest file without a pocket: 64 places, 64 transitions, 65,535 letters", *most)
-    assert write(25, "the longest file: with one", *most, marks=[0] * 63 + [1]) == LIMIT
+    write(24, "the longest file without a pocket and of weights that a byte holds: 64 places, 64 transitions, 65,535 letters", *most)
+    write(25, "with a pocket", *most, marks=[0] * 63 + [1])
+    wide = *most[:3], [255, 256] + [255] * 62, *most[4:]
+    write(26, "with a weight over 255 in the first row alone", *wide[:3], wide[3] + [255] * 4032, *wide[4:])
+    assert write(27, "the longest file: in each row", *wide[:3], wide[3] * 64, *wide[4:], marks=[0] * 63 + [1]) == LIMIT
+    write(28, "64 places: a row of 516 digits", 64, 1, [0] * 63 + [4095], [8] + [1] * 63, [NONE] * 64, [3] * 64, [0])
 
 
 def numbers():
@@ -104,6 +110,8 @@ def numbers():
     caps, tokens = [0, 9, 10, 255, 256, 4660, 43981, 65280, 65534, NONE], [0, 9, 10, 160, 256, 4660, 43981, 255, 65534, 65534]
     weights = [0, 1, 9, 10, 15, 16, 159, 160, 171, 255]
     write(31, "each digit, in both halves of a byte", 10, 1, weights, weights[::-1], caps, tokens, [0])
+    large = [0, 1, 255, 256, 291, 1110, 1929, 2748, 3567, 4095]
+    write(34, "each digit of a weight of two bytes, the high byte first", 10, 1, large, large[::-1], caps, tokens, [0])
     write(32, "Pre before Post", 2, 2, [1, 2, 3, 4], [5, 6, 7, 8], [NONE, 9], [0, 9], [1, 0])
     write(33, "tokens exactly at capacity 0", 1, 1, [1], [0], [0], [0], [])
 
@@ -155,6 +163,35 @@ def pockets():
     refuse(338, "1 and 2", 0, 3, *SAMPLE[2:], [0], marks=[0])
 
 
+def heavy_weights():
+    group("a frame 07 for a transition with a weight over 255, and for no other")
+    two = lambda *weights: (1, 2, [weights[0], weights[2]], [weights[1], weights[3]], [NONE], [0], [0, 1])
+    for k, (edge, *weights) in enumerate([
+        ("255 in Pre and Post of both", 255, 255, 255, 255), ("256 in Pre of the first", 256, 255, 255, 255), ("256 in Post of the first", 255, 256, 255, 255),
+        ("256 in Pre of the second", 255, 255, 256, 255), ("256 in Post of the second", 255, 255, 255, 256), ("256 everywhere", 256, 256, 256, 256), ("4,095 and 0", 4095, 0, 0, 4095),
+        ("1 in an 07", 1, 4095, 1, 0), ("low bytes that are 0", 256, 512, 768, 3840),
+    ]):
+        write(601 + k, edge, *two(*weights))
+    for k, at in enumerate([0, 1, 2, 3, 4, 5, 6, 7, 8]):
+        weights = [256 if i == at else w for i, w in enumerate(SAMPLE[2])]
+        write(611 + k, f"256 at number {at} of Pre", *SAMPLE[:2], weights, *SAMPLE[3:], [0, 1])
+    for k, (edge, P, T, pre, post) in enumerate(LIGHT):
+        write(621 + k, edge, P, T, pre, post, [9000] * P, [4500] * P, [0])
+    group("weights over 4,095: refusal 18, and with 14")
+    for k, (edge, P, T, pre, post) in enumerate(HEAVY):
+        refuse(631 + k, edge, P, T, pre, post, [9] * P, [1] * P, [0], room=40000)
+    group("18 and another refusal, and with 14")
+    too_much = 1, 1, [4096], [0], [4]
+    refuse(651, "1 and 18", 1, 65, [4096] * 65, [0] * 65, [4], [0], [0])
+    refuse(652, "2 and 18", 1, 1, [4096, 0], [0], [4], [0], [0])
+    refuse(653, "2 for the marks, and 18", *too_much, [0], [0], marks=[])
+    refuse(654, "18 and 3", *too_much, [5], [0])
+    refuse(655, "18 and 17", 2, 1, [0, 4096], [0, 0], [4, 4], [0, 0], [0])
+    refuse(656, "18 and 4", *too_much, [0], [0] * 65536, room=LIMIT)
+    refuse(657, "18 and 5", *too_much, [0], [1])
+    refuse(658, "18, 3, 4 and 5", *too_much, [65535], [0] * 65535 + [1], room=LIMIT)
+
+
 def loose_nodes():
     group("nodes without an arc: refusal 17, and with 14; then nets that hang together by one arc")
     for k, (edge, P, T, pre, post) in enumerate(LOOSE):
@@ -178,3 +215,4 @@ one_refusal()
 two_refusals()
 loose_nodes()
 pockets()
+heavy_weights()

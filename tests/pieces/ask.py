@@ -23,7 +23,8 @@ PATIENCE = 300  # seconds until a piece that is not read is given up
 NAMES = (
     "whole word-empty chance-00 chance-07 chance-29 word-sample-2 cap-zero ends-no-feed ends-last-byte cut-1 cut-4 line1-long "
     "line4-odd line6-g line7-missing after-the-end-2 carriage-returns digits-260-row digits-262-row places-64 "
-    "places-64-whole letters-65535 letters-65536 megabyte-after-whole mask-2 mask-zero mask-64-all pocket-full-loop"
+    "places-64-whole letters-65535 letters-65536 megabyte-after-whole mask-2 mask-zero mask-64-all pocket-full-loop "
+    "digits-516-row digits-518-row wide-all heavy-two-rows wide-64-all"
 ).split()
 
 

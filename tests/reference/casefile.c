@@ -2,11 +2,12 @@
 #include "reference.h"
 
 /* What has been read so far; `line` counts the lines taken, `heads` the frames 01 to 03, `masks` the frames 06, `last` the
- * letters of the last frame 05 (64 before any). */
+ * letters of the last frame 05 (64 before any); `heavy` is whether a weight is over 4,095. */
 struct reading {
     size_t line, heads, masks, places, transitions, next, letters, last;
-    uint16_t caps[64], tokens[64];
-    uint8_t marks[64], pre[4096], post[4096], word[65535];
+    int heavy;
+    uint16_t caps[64], tokens[64], pre[4096], post[4096];
+    uint8_t marks[64], word[65535];
 };
 
 /* A digit 0-9 or A-F as its number; 16 for anything else. */
@@ -18,9 +19,9 @@ static int digit(uint8_t byte) {
     return 16;
 }
 
-/* Refusal 11: the digits of a line, an even number from 2 to 260, into bytes. */
+/* Refusal 11: the digits of a line, an even number from 2 to 516, into bytes. */
 static int frame_of(const uint8_t *digits, size_t count, uint8_t *frame) {
-    if (count < 2 || count > 260 || count % 2 != 0)
+    if (count < 2 || count > RULE(134, RULE(135, 516, 518), 260) || count % 2 != 0)
         return 11;
     for (size_t i = 0; i < count; i++)
         if (digit(digits[i]) == 16)
@@ -33,6 +34,11 @@ static int frame_of(const uint8_t *digits, size_t count, uint8_t *frame) {
 /* A number of two bytes, the high byte first. */
 static uint16_t two(const uint8_t *bytes) {
     return (uint16_t)(bytes[0] * 256 + bytes[1]);
+}
+
+/* A weight of two bytes, of a frame 07. */
+static uint16_t wide(const uint8_t *bytes) {
+    return RULE(136, two(bytes), (uint16_t)(bytes[0] + bytes[1] * 256));
 }
 
 /* 01 P T. */
@@ -85,20 +91,52 @@ static int is_loose(const struct reading *r) {
     return reference_loose_fault(&net) != NOWHERE;
 }
 
-/* 04 t, P Pre bytes, P Post bytes; one for each t in order from 0. Refusal 17 "in a file, on the line of the last transition". */
-static int read_row(struct reading *r, const uint8_t *frame, size_t size) {
-    size_t sum = 0;
-    if (size != 2 + 2 * r->places || RULE(44, frame[1] != r->next, 0))
-        return 12;
+/* The weights of a row: of a byte each in a frame 04, of two in a frame 07. */
+static void take_weights(const struct reading *r, const uint8_t *frame, uint16_t *pre, uint16_t *post) {
+    const uint8_t *first = frame + 2;
     for (size_t p = 0; p < r->places; p++) {
-        r->pre[r->next * r->places + p] = frame[2 + p];
-        r->post[r->next * r->places + p] = frame[2 + r->places + p];
-        sum += frame[2 + p] + frame[2 + r->places + p];
+        pre[p] = frame[0] == 7 ? wide(first + 2 * p) : first[p];
+        post[p] = frame[0] == 7 ? wide(first + 2 * (r->places + p)) : first[r->places + p];
     }
-    r->next++;
-    if (RULE(86, 0, 1) && sum == 0)
+}
+
+/* Is one of these weights over so many? */
+static int is_over(const struct reading *r, const uint16_t *weights, size_t most) {
+    for (size_t p = 0; p < r->places; p++)
+        if (weights[p] > most)
+            return 1;
+    return 0;
+}
+
+/* Has a frame 07 what it is used for, a weight over 255? "an 07 with none such is refusal 12" */
+static int is_needed(const struct reading *r, const uint16_t *pre, const uint16_t *post) {
+    size_t most = RULE(140, RULE(141, 255, 254), 256);
+    return RULE(138, is_over(r, pre, most), 0) || RULE(139, is_over(r, post, most), 0) || RULE(154, 0, 1);
+}
+
+/* Refusal 18 on the row's own line, refusal 17 "in a file, on the line of the last transition", where the net is loose. */
+static int row_fault(struct reading *r, const uint16_t *pre, const uint16_t *post, int loose) {
+    r->heavy |= RULE(142, is_over(r, pre, HEAVIEST), 0) || RULE(156, RULE(142, is_over(r, post, HEAVIEST), 0), 0);
+    if (r->heavy && RULE(155, 1, r->next == r->transitions) && RULE(143, 1, !loose))
+        return 18;
+    if (RULE(86, 0, 1) && !is_over(r, pre, 0) && !is_over(r, post, 0))
         return 17;
-    return r->next == r->transitions && RULE(95, 1, 0) && is_loose(r) ? 17 : 0;
+    return loose ? 17 : 0;
+}
+
+/* "04 t, P Pre bytes, P Post bytes; one for each t in order from 0"; a "frame 07 has two-byte weights and is used for a
+ * transition exactly when one of its weights is over 255". */
+static int read_row(struct reading *r, const uint8_t *frame, size_t size) {
+    uint16_t *pre = r->pre + r->next * r->places, *post = r->post + r->next * r->places;
+    int has_index = RULE(44, 1, frame[0] == 7) && RULE(137, 1, frame[0] == 4), is_last;
+    if (size != 2 + 2 * r->places * (frame[0] == 7 ? 2 : 1) || (has_index && frame[1] != r->next))
+        return 12;
+    take_weights(r, frame, pre, post);
+    if (frame[0] == 7 && !is_needed(r, pre, post))
+        return 12;
+    r->next++;
+    is_last = r->next == r->transitions && RULE(95, 1, 0) && RULE(144, 1, frame[0] == 4);
+    return row_fault(r, pre, post, is_last && is_loose(r));
 }
 
 /* 05 with 1 to 64 letters; all but the last hold 64, else the next 05 is faulty. */
@@ -124,6 +162,11 @@ static int due(const struct reading *r) {
     return r->next < r->transitions ? 4 : 5;
 }
 
+/* May a frame 07 stand here? It takes the place of a 04. */
+static int may_widen(const struct reading *r) {
+    return due(r) == 4 && RULE(145, 1, r->next > 0);
+}
+
 /* May a frame 06 stand here? It "may follow 02", once. */
 static int may_mark(const struct reading *r) {
     if (RULE(109, 0, 1) && r->heads == 3 && r->next == 0)
@@ -135,7 +178,7 @@ static int may_mark(const struct reading *r) {
 static int read_frame(struct reading *r, const uint8_t *frame, size_t size) {
     if (frame[0] == 6 && may_mark(r))
         return read_marks(r, frame, size);
-    if (frame[0] != due(r))
+    if (frame[0] != due(r) && !(frame[0] == 7 && may_widen(r)))
         return 12;
     switch (frame[0]) {
     case 1:
@@ -144,6 +187,7 @@ static int read_frame(struct reading *r, const uint8_t *frame, size_t size) {
     case 3:
         return read_numbers(r, frame, size);
     case 4:
+    case 7:
         return read_row(r, frame, size);
     default:
         return read_letters(r, frame, size);
@@ -154,7 +198,7 @@ static int read_frame(struct reading *r, const uint8_t *frame, size_t size) {
 static int read_lines(struct reading *r, const uint8_t *file, size_t file_len) {
     size_t at = 0;
     while (at < file_len) {
-        uint8_t frame[130];
+        uint8_t frame[260];
         size_t end = at;
         int number;
         r->line++;
@@ -177,8 +221,8 @@ static int read_lines(struct reading *r, const uint8_t *file, size_t file_len) {
 
 /* Refusal 2 for the rooms, then the file; the rooms are written once the whole file is found right. */
 kaunorpi_case reference_read_case(const uint8_t *file, size_t file_len, uint16_t *caps, size_t caps_len, uint8_t *marks,
-                                  size_t marks_len, uint16_t *initial, size_t initial_len, uint8_t *pre, size_t pre_len,
-                                  uint8_t *post, size_t post_len, uint8_t *word, size_t word_len) {
+                                  size_t marks_len, uint16_t *initial, size_t initial_len, uint16_t *pre,
+                                  size_t pre_len, uint16_t *post, size_t post_len, uint8_t *word, size_t word_len) {
     struct reading r = {.last = 64};
     int number;
     if (caps_len != 64 || marks_len != 64 || initial_len != 64 || pre_len != 4096 || post_len != 4096 || word_len != 65535)

@@ -36,7 +36,7 @@ static kaunorpi_list tokens_refusal(const struct net *net, const struct lists *q
     return fine;
 }
 
-/* The refusals 1 2 3 17 9 in this order. */
+/* The refusals 1 2 18 3 17 9 in this order. */
 static kaunorpi_list refusal(const struct net *net, const struct lists *q, int cover) {
     kaunorpi_list tokens;
     size_t at, count;
@@ -45,6 +45,9 @@ static kaunorpi_list refusal(const struct net *net, const struct lists *q, int c
     if (reference_lengths_fault(net) || q->initial_len != net->places || q->list_len % net->places != 0 ||
         (q->has_target && q->target_len != net->places))
         return refused(2, 0);
+    at = reference_weights_fault(net, q->initial);
+    if (at != NOWHERE)
+        return refused(18, at);
     tokens = tokens_refusal(net, q, cover);
     if (tokens.kind == KAUNORPI_REFUSED)
         return tokens;

@@ -7,12 +7,12 @@ int reference_wrong;
 
 /* Pre(p,t): what t takes from p. */
 int64_t reference_pre(const struct net *net, size_t p, size_t t) {
-    return net->pre[t * net->places + p];
+    return RULE(119, net->pre[t * net->places + p], net->pre[t * net->places + p] % 256);
 }
 
 /* Post(p,t): what t puts into p. */
 int64_t reference_post(const struct net *net, size_t p, size_t t) {
-    return net->post[t * net->places + p];
+    return RULE(119, net->post[t * net->places + p], net->post[t * net->places + p] % 256);
 }
 
 /* Change(p,t) = Post - Pre. */
@@ -67,8 +67,46 @@ int reference_counts_fault(const struct net *net) {
 
 /* Refusal 2 for the net's own lists; the counts are right. */
 int reference_lengths_fault(const struct net *net) {
-    return net->pre_len != net->places * net->transitions || net->post_len != net->places * net->transitions ||
-           net->caps_len != net->places || RULE(100, net->marks_len != net->places, net->marks_len < net->places);
+    size_t cells = net->places * net->transitions;
+    if (RULE(129, 0, 1) && net->pre_len >= cells && net->post_len >= cells && net->caps_len >= net->places &&
+        net->marks_len >= net->places && reference_weights_fault(net, 0) != NOWHERE)
+        return 0;
+    return net->pre_len != cells || net->post_len != cells || net->caps_len != net->places ||
+           RULE(100, net->marks_len != net->places, net->marks_len < net->places);
+}
+
+/* Has a list of weights one over 4,095 for transition t? */
+static int is_heavy(const uint16_t *weights, size_t places, size_t t) {
+    for (size_t p = 0; p < places; p++)
+        if (weights[t * places + p] > RULE(122, RULE(123, HEAVIEST, HEAVIEST + 1), HEAVIEST - 1))
+            return 1;
+    return 0;
+}
+
+/* The lowest transition that has such a weight in one of the lists that are to be looked at. */
+static size_t heavy_transition(const struct net *net, int in_pre, int in_post) {
+    size_t found = NOWHERE;
+    for (size_t t = 0; t < net->transitions; t++) {
+        int heavy = (in_pre && is_heavy(net->pre, net->places, t)) || (in_post && is_heavy(net->post, net->places, t));
+        if (heavy && RULE(124, found == NOWHERE, 1))
+            found = t;
+    }
+    return found;
+}
+
+/* Refusal 18, from request E6 of document 02: "a lent weight over 4,095, position its transition, after 2 and before 3". The
+ * marking is NULL where none is lent. */
+size_t reference_weights_fault(const struct net *net, const uint16_t *marking) {
+    size_t at = heavy_transition(net, RULE(120, 1, 0), RULE(121, 1, 0));
+    if (RULE(125, 0, heavy_transition(net, 1, 0) != NOWHERE))
+        at = heavy_transition(net, 1, 0);
+    if (RULE(126, 0, at != NOWHERE))
+        at = at * net->places;
+    if (RULE(127, 0, marking != 0) && reference_tokens_fault(net, marking) != NOWHERE)
+        return NOWHERE;
+    if (RULE(128, 0, 1) && reference_loose_fault(net) != NOWHERE)
+        return NOWHERE;
+    return RULE(130, at, NOWHERE);
 }
 
 /* Refusal 3 for a marking: the lowest place with 65,535 tokens or tokens above capacity. */

@@ -123,7 +123,7 @@ static size_t bad_letter(const struct net *net, const uint8_t *first, size_t fir
     return RULE(67, then, at);
 }
 
-/* The refusals 1 2 3 17 4 15 5; number 0 is none. "2 for room or work space of another length" */
+/* The refusals 1 2 18 3 17 4 15 5; number 0 is none. "2 for room or work space of another length" */
 static kaunorpi_answer fault_of(const struct net *net, const uint16_t *initial, size_t initial_len, const uint8_t *first,
                                 size_t first_len, const uint8_t *second, size_t second_len, size_t room_len,
                                 size_t work_len) {
@@ -134,6 +134,9 @@ static kaunorpi_answer fault_of(const struct net *net, const uint16_t *initial, 
     if (reference_lengths_fault(net) || initial_len != net->places || RULE(61, room_len != steps, room_len < steps) ||
         RULE(62, work_len != WORK, 0))
         return (kaunorpi_answer){KAUNORPI_REFUSED, 2, 0};
+    at = reference_weights_fault(net, initial);
+    if (at != NOWHERE)
+        return (kaunorpi_answer){KAUNORPI_REFUSED, 18, at};
     at = reference_tokens_fault(net, initial);
     if (at != NOWHERE)
         return (kaunorpi_answer){KAUNORPI_REFUSED, 3, at};

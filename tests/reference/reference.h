@@ -48,9 +48,9 @@ __typeof__(kaunorpi_unread_rest) reference_unread_rest;
 /* The net as lent, and a way to take it from the parameters that KAUNORPI_NET names. */
 struct net {
     size_t places, transitions;
-    const uint8_t *pre;
+    const uint16_t *pre;
     size_t pre_len;
-    const uint8_t *post;
+    const uint16_t *post;
     size_t post_len;
     const uint16_t *caps;
     size_t caps_len;
@@ -63,6 +63,9 @@ struct net {
 /* "nowhere": no place, letter or transition is meant. */
 #define NOWHERE ((size_t)-1)
 
+/* "Raise the weight limit to 4,095" (request E6 of document 02). */
+enum { HEAVIEST = 4095 };
+
 int64_t reference_pre(const struct net *net, size_t p, size_t t);
 int64_t reference_post(const struct net *net, size_t p, size_t t);
 int64_t reference_change(const struct net *net, size_t p, size_t t);
@@ -73,6 +76,7 @@ size_t reference_over(const struct net *net, const int64_t *m, size_t t);
 void reference_fire(const struct net *net, int64_t *m, size_t t);
 int reference_counts_fault(const struct net *net);
 int reference_lengths_fault(const struct net *net);
+size_t reference_weights_fault(const struct net *net, const uint16_t *marking);
 size_t reference_tokens_fault(const struct net *net, const uint16_t *marking);
 size_t reference_loose_fault(const struct net *net);
 size_t reference_letters_fault(const struct net *net, const uint8_t *word, size_t start, size_t end);

@@ -25,7 +25,7 @@ static kaunorpi_replay play(const struct net *net, const uint16_t *initial, cons
     return answer;
 }
 
-/* The refusals 1 2 3 17 4 5 in this order, then the replay. */
+/* The refusals 1 2 18 3 17 4 5 in this order, then the replay. */
 kaunorpi_replay reference_replay_stretch(KAUNORPI_NET, const uint16_t *initial, size_t initial_len, const uint8_t *word,
                                          size_t word_len, size_t start, size_t end, uint32_t *room, size_t room_len) {
     struct net net = LENT_NET;
@@ -42,6 +42,9 @@ kaunorpi_replay reference_replay_stretch(KAUNORPI_NET, const uint16_t *initial, 
         start = 0;
     if (RULE(29, 0, 1))
         end = word_len;
+    at = reference_weights_fault(&net, initial);
+    if (at != NOWHERE)
+        return (kaunorpi_replay){KAUNORPI_REFUSED, 18, at, 0};
     at = reference_tokens_fault(&net, initial);
     if (at != NOWHERE)
         return (kaunorpi_replay){KAUNORPI_REFUSED, 3, at, 0};

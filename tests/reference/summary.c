@@ -49,7 +49,7 @@ static void one_place(const struct net *net, size_t p, const uint8_t *word, size
     *change = (int32_t)so_far;
 }
 
-/* The refusals 1 2 17 4 5 in this order, then each place; slots past the place count are zero. */
+/* The refusals 1 2 18 17 4 5 in this order, then each place; slots past the place count are zero. */
 kaunorpi_summary reference_summary_stretch(KAUNORPI_NET, const uint8_t *word, size_t word_len, size_t start, size_t end,
                                            uint32_t *need, size_t need_len, uint32_t *climb, size_t climb_len,
                                            int32_t *change, size_t change_len) {
@@ -68,6 +68,9 @@ kaunorpi_summary reference_summary_stretch(KAUNORPI_NET, const uint8_t *word, si
         start = 0;
     if (RULE(29, 0, 1))
         end = word_len;
+    at = reference_weights_fault(&net, 0);
+    if (at != NOWHERE)
+        return refused(18, at);
     at = reference_loose_fault(&net);
     if (at != NOWHERE && RULE(89, 1, end - start <= 65535))
         return refused(17, at);
@@ -93,15 +96,16 @@ kaunorpi_summary reference_summary_word(KAUNORPI_NET, const uint8_t *word, size_
 }
 
 /* Refusal 6: "well formed if n <= 65,535 and at each place 0 <= need <= 255n, 0 <= climb <= 255n, -need <= change <=
- * climb; slots past the place count are zero". The position of the fault, 0 if n is too large. */
+ * climb; slots past the place count are zero", "with 4,095n in place of 255n" by request E6 of document 02. The position of
+ * the fault, 0 if n is too large. */
 static size_t summary_fault(size_t places, uint32_t letters, const uint32_t *need, const uint32_t *climb,
                             const int32_t *change) {
-    int64_t n = letters;
+    int64_t n = letters, most = RULE(131, RULE(132, HEAVIEST, HEAVIEST + 1), 255) * n;
     if (n > 65535)
         return 0;
     for (size_t p = 0; p < 64; p++) {
         int64_t d = need[p], c = climb[p], h = change[p];
-        if (p < places && !(d <= 255 * n && c <= 255 * n && -d <= h && h <= c))
+        if (p < places && !(d <= most && c <= most && -d <= h && h <= c))
             return p;
         if (p >= places && !(d == 0 && c == 0 && h == 0))
             return p;
@@ -152,7 +156,7 @@ static int fires_from(const struct net *net, const uint16_t *marking, const uint
     return 1;
 }
 
-/* Yes with the end marking, or no, which leaves the room untouched. Refusals 1 2 3 17 6. */
+/* Yes with the end marking, or no, which leaves the room untouched. Refusals 1 2 18 3 17 6. */
 kaunorpi_answer reference_ask_summary(KAUNORPI_NET, const uint16_t *marking, size_t marking_len, size_t summary_places,
                                       uint32_t summary_letters, const uint32_t *need, size_t need_len,
                                       const uint32_t *climb, size_t climb_len, const int32_t *change, size_t change_len,
@@ -164,6 +168,9 @@ kaunorpi_answer reference_ask_summary(KAUNORPI_NET, const uint16_t *marking, siz
     if (reference_lengths_fault(&net) || marking_len != places || RULE(42, summary_places != places, 0) || need_len != 64 ||
         climb_len != 64 || change_len != 64 || room_len != places)
         return (kaunorpi_answer){KAUNORPI_REFUSED, 2, 0};
+    at = reference_weights_fault(&net, marking);
+    if (at != NOWHERE)
+        return (kaunorpi_answer){KAUNORPI_REFUSED, 18, at};
     at = reference_tokens_fault(&net, marking);
     if (at != NOWHERE)
         return (kaunorpi_answer){KAUNORPI_REFUSED, 3, at};

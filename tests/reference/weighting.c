@@ -41,7 +41,7 @@ static size_t failing_place(const struct net *net, const int16_t *x) {
     return NOWHERE;
 }
 
-/* Is the place weighting invariant? Refusals 1 2 17 8. */
+/* Is the place weighting invariant? Refusals 1 2 18 17 8. */
 kaunorpi_answer reference_place_weighting(KAUNORPI_NET, const int16_t *y, size_t y_len) {
     struct net net = LENT_NET;
     size_t t, at;
@@ -49,6 +49,9 @@ kaunorpi_answer reference_place_weighting(KAUNORPI_NET, const int16_t *y, size_t
         return (kaunorpi_answer){KAUNORPI_REFUSED, 1, 0};
     if (reference_lengths_fault(&net) || y_len != places)
         return (kaunorpi_answer){KAUNORPI_REFUSED, 2, 0};
+    at = reference_weights_fault(&net, 0);
+    if (at != NOWHERE)
+        return (kaunorpi_answer){KAUNORPI_REFUSED, 18, at};
     at = reference_loose_fault(&net);
     if (at != NOWHERE && RULE(91, 1, !all_zero(y, places)))
         return (kaunorpi_answer){KAUNORPI_REFUSED, 17, at};
@@ -62,7 +65,7 @@ kaunorpi_answer reference_place_weighting(KAUNORPI_NET, const int16_t *y, size_t
     return (kaunorpi_answer){KAUNORPI_ANSWERED, 0, 0};
 }
 
-/* Is the transition weighting invariant, and proper? Refusals 1 2 17 8. */
+/* Is the transition weighting invariant, and proper? Refusals 1 2 18 17 8. */
 kaunorpi_answer reference_transition_weighting(KAUNORPI_NET, const int16_t *x, size_t x_len) {
     struct net net = LENT_NET;
     size_t p, at;
@@ -70,6 +73,9 @@ kaunorpi_answer reference_transition_weighting(KAUNORPI_NET, const int16_t *x, s
         return (kaunorpi_answer){KAUNORPI_REFUSED, 1, 0};
     if (reference_lengths_fault(&net) || x_len != transitions)
         return (kaunorpi_answer){KAUNORPI_REFUSED, 2, 0};
+    at = reference_weights_fault(&net, 0);
+    if (at != NOWHERE)
+        return (kaunorpi_answer){KAUNORPI_REFUSED, 18, at};
     at = reference_loose_fault(&net);
     if (at != NOWHERE && RULE(91, 1, !all_zero(x, transitions)))
         return (kaunorpi_answer){KAUNORPI_REFUSED, 17, at};
@@ -81,7 +87,7 @@ kaunorpi_answer reference_transition_weighting(KAUNORPI_NET, const int16_t *x, s
     return (kaunorpi_answer){KAUNORPI_ANSWERED, has_negative(x, transitions) ? 0 : RULE(14, 2, 0), 0};
 }
 
-/* The whole part of (sum of y x initial marking) / y(place), or why there is none. Refusals 1 2 3 17 8 13. */
+/* The whole part of (sum of y x initial marking) / y(place), or why there is none. Refusals 1 2 18 3 17 8 13. */
 kaunorpi_bound reference_place_bound(KAUNORPI_NET, const uint16_t *initial, size_t initial_len, const int16_t *y,
                                      size_t y_len, size_t place) {
     struct net net = LENT_NET;
@@ -91,6 +97,9 @@ kaunorpi_bound reference_place_bound(KAUNORPI_NET, const uint16_t *initial, size
         return (kaunorpi_bound){KAUNORPI_REFUSED, 1, 0, 0};
     if (reference_lengths_fault(&net) || initial_len != places || y_len != places)
         return (kaunorpi_bound){KAUNORPI_REFUSED, 2, 0, 0};
+    at = reference_weights_fault(&net, initial);
+    if (at != NOWHERE)
+        return (kaunorpi_bound){KAUNORPI_REFUSED, 18, at, 0};
     at = reference_tokens_fault(&net, initial);
     if (at != NOWHERE)
         return (kaunorpi_bound){KAUNORPI_REFUSED, 3, at, 0};
@@ -128,7 +137,7 @@ static int puts_into(const struct net *net, const uint8_t *set, size_t t) {
     return 0;
 }
 
-/* Is the set a siphon (or, with trap, a trap)? Refusals 1 2 17 8. */
+/* Is the set a siphon (or, with trap, a trap)? Refusals 1 2 18 17 8. */
 static kaunorpi_answer set_answer(const struct net *net, const uint8_t *set, size_t set_len, int trap) {
     size_t members = 0, at;
     if (reference_counts_fault(net))
@@ -138,6 +147,9 @@ static kaunorpi_answer set_answer(const struct net *net, const uint8_t *set, siz
     for (size_t p = 0; p < net->places; p++)
         if (set[p] != 0)
             members++;
+    at = reference_weights_fault(net, 0);
+    if (at != NOWHERE)
+        return (kaunorpi_answer){KAUNORPI_REFUSED, 18, at};
     at = reference_loose_fault(net);
     if (at != NOWHERE && RULE(91, 1, members > 0))
         return (kaunorpi_answer){KAUNORPI_REFUSED, 17, at};

@@ -2,10 +2,10 @@
  * its own that hold the longest file, from which the room is filled once the length is known to fit. */
 #include "reference.h"
 
-/* The file so far. */
+/* The file so far; `widened` is how many bytes its frames 07 have more than frames 04 would. */
 struct writing {
-    uint8_t text[151390];
-    size_t length, lines;
+    uint8_t text[167774];
+    size_t length, lines, widened;
 };
 
 /* A byte as two digits. */
@@ -54,14 +54,36 @@ static void write_marks(struct writing *w, const struct net *net) {
     end_line(w);
 }
 
-/* "04 t, P Pre bytes, P Post bytes" */
+/* Is a weight of transition t over 255? */
+static int is_wide(const struct net *net, size_t t) {
+    int64_t most = RULE(146, RULE(147, 255, 254), 256);
+    for (size_t p = 0; p < net->places; p++)
+        if (RULE(148, reference_pre(net, p, t), 0) > most || RULE(149, reference_post(net, p, t), 0) > most)
+            return 1;
+    return 0;
+}
+
+/* A weight: of a byte, or in a frame 07 of two. */
+static void write_weight(struct writing *w, size_t weight, int wide) {
+    if (wide && RULE(150, 0, 1))
+        weight = weight % 256 * 256 + weight / 256;
+    if (wide)
+        write_number(w, weight);
+    else
+        write_byte(w, weight % 256);
+}
+
+/* "04 t, P Pre bytes, P Post bytes"; an 07 "has two-byte weights and is used for a transition exactly when one of its weights
+ * is over 255". */
 static void write_transition(struct writing *w, const struct net *net, size_t t) {
-    write_byte(w, 4);
+    int wide = is_wide(net, t) || RULE(151, 0, 1) || RULE(152, 0, t > 0 && is_wide(net, t - 1));
+    w->widened += wide ? 4 * net->places : 0;
+    write_byte(w, RULE(153, wide, 0) ? 7 : 4);
     write_byte(w, t);
     for (size_t p = 0; p < net->places; p++)
-        write_byte(w, (size_t)RULE(50, reference_pre(net, p, t), reference_post(net, p, t)));
+        write_weight(w, (size_t)RULE(50, reference_pre(net, p, t), reference_post(net, p, t)), wide);
     for (size_t p = 0; p < net->places; p++)
-        write_byte(w, (size_t)RULE(50, reference_post(net, p, t), reference_pre(net, p, t)));
+        write_weight(w, (size_t)RULE(50, reference_post(net, p, t), reference_pre(net, p, t)), wide);
     end_line(w);
 }
 
@@ -98,7 +120,7 @@ static void write_file(struct writing *w, const struct net *net, const uint16_t 
     write_letters(w, word, letters);
 }
 
-/* Refusals 1 2 3 17 4 5, else the file. */
+/* Refusals 1 2 18 3 17 4 5, else the file. */
 static kaunorpi_length judge(struct writing *w, const struct net *net, const uint16_t *initial, size_t initial_len,
                              const uint8_t *word, size_t word_len) {
     size_t at;
@@ -106,6 +128,9 @@ static kaunorpi_length judge(struct writing *w, const struct net *net, const uin
         return (kaunorpi_length){KAUNORPI_REFUSED, 1, 0, 0};
     if (reference_lengths_fault(net) || initial_len != net->places)
         return (kaunorpi_length){KAUNORPI_REFUSED, 2, 0, 0};
+    at = reference_weights_fault(net, initial);
+    if (at != NOWHERE)
+        return (kaunorpi_length){KAUNORPI_REFUSED, 18, at, 0};
     at = reference_tokens_fault(net, initial);
     if (at != NOWHERE)
         return (kaunorpi_length){KAUNORPI_REFUSED, 3, at, 0};
@@ -127,9 +152,9 @@ kaunorpi_length reference_case_length(KAUNORPI_NET, const uint16_t *initial, siz
     static struct writing w;
     struct net net = LENT_NET;
     kaunorpi_length answer;
-    w.length = w.lines = 0;
+    w.length = w.lines = w.widened = 0;
     answer = judge(&w, &net, initial, initial_len, word, word_len);
-    answer.length -= RULE(46, 0, w.lines);
+    answer.length -= RULE(46, 0, w.lines) + RULE(157, 0, w.widened);
     return answer;
 }
 
@@ -140,7 +165,7 @@ kaunorpi_length reference_write_case(KAUNORPI_NET, const uint16_t *initial, size
     struct net net = LENT_NET;
     kaunorpi_length answer;
     size_t written;
-    w.length = w.lines = 0;
+    w.length = w.lines = w.widened = 0;
     answer = judge(&w, &net, initial, initial_len, word, word_len);
     if (answer.kind == KAUNORPI_REFUSED)
         return answer;

@@ -11,9 +11,8 @@
 enum { GUARD = 64, MOST = 1 << 21 };
 
 /* The file, and what was read of it. */
-static uint8_t file[MOST], pre[KAUNORPI_MOST_CELLS], post[KAUNORPI_MOST_CELLS], word[KAUNORPI_MOST_LETTERS];
-static uint16_t caps[KAUNORPI_MOST_PLACES], initial[KAUNORPI_MOST_PLACES];
-static uint8_t marks[KAUNORPI_MOST_PLACES];
+static uint8_t file[MOST], marks[KAUNORPI_MOST_PLACES], word[KAUNORPI_MOST_LETTERS];
+static uint16_t pre[KAUNORPI_MOST_CELLS], post[KAUNORPI_MOST_CELLS], caps[KAUNORPI_MOST_PLACES], initial[KAUNORPI_MOST_PLACES];
 static size_t size, written_back, longest;
 static kaunorpi_case read;
 static const char *name;

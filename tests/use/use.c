@@ -1,7 +1,8 @@
 /* The library from C, with kaunorpi.h alone: a case file is read, written back and replayed, a word is summed up, two
- * summaries are joined and one is asked, a list of markings is judged, two logs are put into one order, a pocket jams. What is
- * expected is document 01's case and its samples, worked out by hand there, and of two logs and of pockets by hand here. Prints nothing and ends with 0
- * where every answer is right, else prints the lines that are not. */
+ * summaries are joined and one is asked, a list of markings is judged, two logs are put into one order, a pocket jams, a bin is
+ * counted in kilograms. What is expected is document 01's case and its samples, worked out by hand there, and of two logs, of
+ * pockets and of kilograms by hand here. Prints nothing and ends with 0 where every answer is right, else prints the lines that
+ * are not. */
 #include <stdio.h>
 #include <string.h>
 
@@ -13,8 +14,8 @@ static int wrong;
 static const char case_file[] = "010303\n02FFFFFFFF0005\n03000100000000\n0400010000000100\n0401000100010002\n0402000003000000\n050001000102\n";
 
 /* The rooms of the largest sizes that a case file is read into; the net is then their front. */
-static uint16_t caps[KAUNORPI_MOST_PLACES], initial[KAUNORPI_MOST_PLACES];
-static uint8_t marks[KAUNORPI_MOST_PLACES], pre[KAUNORPI_MOST_CELLS], post[KAUNORPI_MOST_CELLS], word[KAUNORPI_MOST_LETTERS];
+static uint16_t caps[KAUNORPI_MOST_PLACES], initial[KAUNORPI_MOST_PLACES], pre[KAUNORPI_MOST_CELLS], post[KAUNORPI_MOST_CELLS];
+static uint8_t marks[KAUNORPI_MOST_PLACES], word[KAUNORPI_MOST_LETTERS];
 #define NET 3, 3, pre, 9, post, 9, caps, 3, marks, 3
 
 /* A summary as C holds one. */
@@ -179,8 +180,7 @@ static void lists_and_weightings(void) {
     EXPECT(kaunorpi_trap_set(NET, last, 3).number == 1 && kaunorpi_trap_set(NET, last, 3).position == 2);
     kaunorpi_places p = kaunorpi_complement_places(NET);
     EXPECT(p.kind == KAUNORPI_ANSWERED && p.number == 0 && p.position == 0 && p.places == 4);
-    uint8_t pre2[12], post2[12];
-    uint16_t caps2[4], initial2[4];
+    uint16_t pre2[12], post2[12], caps2[4], initial2[4];
     uint8_t marks2[4] = {7, 7, 7, 7};
     a = kaunorpi_complement_net(NET, initial, 3, pre2, 12, post2, 12, caps2, 4, marks2, 4, initial2, 4);
     EXPECT(a.kind == KAUNORPI_ANSWERED && a.number == 0 && initial2[3] == 5 && caps2[3] == KAUNORPI_NONE && pre2[7] == 2 && post2[11] == 3);
@@ -222,12 +222,12 @@ static void two_logs(void) {
  * pocket it jams; without a capacity a pocket passes too. The file of the pocket has a frame 06, and is read with a mark of 1. */
 static void pockets(void) {
     static const char jams[] = "010101\n020001\n060000000000000001\n030001\n04000101\n0500\n";
-    static const uint8_t one[] = {1}, letter[] = {0}, plain[] = {0}, other[] = {255};
-    static const uint16_t capacity[] = {1}, none[] = {KAUNORPI_NONE}, board[] = {1};
+    static const uint8_t letter[] = {0}, plain[] = {0}, other[] = {255};
+    static const uint16_t one[] = {1}, capacity[] = {1}, none[] = {KAUNORPI_NONE}, board[] = {1};
     uint32_t room[1] = {7}, need[64], climb[64];
     int32_t change[64];
-    uint8_t pre2[2], post2[2], marks2[2] = {7, 7}, file[sizeof jams];
-    uint16_t caps2[2], initial2[2];
+    uint8_t marks2[2] = {7, 7}, file[sizeof jams];
+    uint16_t pre2[2], post2[2], caps2[2], initial2[2];
     kaunorpi_replay r = kaunorpi_replay_word(1, 1, one, 1, one, 1, capacity, 1, plain, 1, board, 1, letter, 1, room, 1);
     EXPECT(r.number == 0 && r.position == 1 && room[0] == 1);
     r = kaunorpi_replay_word(1, 1, one, 1, one, 1, capacity, 1, other, 1, board, 1, letter, 1, room, 1);
@@ -250,6 +250,33 @@ static void pockets(void) {
     EXPECT(c.kind == KAUNORPI_ANSWERED && c.places == 1 && caps[0] == 1 && marks[0] == 1 && marks[1] == 0 && initial[0] == 1);
 }
 
+/* A chip bin for 6,000 kilograms with 2,600 in it: transition 0 brings 1,500, transition 1 takes 4,095. Two loads fit, a third
+ * does not; after two the truck can come. The row of both is a frame 07, and a weight of 4,096 is refusal 18. */
+static void kilograms(void) {
+    static const char bin[] = "010102\n021770\n030A28\n0700000005DC\n07010FFF0000\n05000001\n";
+    static const uint16_t takes[] = {0, 4095}, puts[] = {1500, 0}, heavy[] = {0, 4096}, capacity[] = {6000}, held[] = {2600};
+    static const uint8_t plain[] = {0}, loads[] = {0, 0, 1, 0}, three[] = {0, 0, 0};
+    uint32_t room[1] = {7}, need[64], climb[64];
+    int32_t change[64];
+    uint8_t file[sizeof bin];
+    kaunorpi_replay r = kaunorpi_replay_word(1, 2, takes, 2, puts, 2, capacity, 1, plain, 1, held, 1, loads, 4, room, 1);
+    EXPECT(r.kind == KAUNORPI_ANSWERED && r.number == 0 && r.position == 4 && room[0] == 3005);
+    r = kaunorpi_replay_word(1, 2, takes, 2, puts, 2, capacity, 1, plain, 1, held, 1, three, 3, room, 1);
+    EXPECT(r.kind == KAUNORPI_ANSWERED && r.number == 2 && r.position == 2 && r.place == 0 && room[0] == 5600);
+    r = kaunorpi_replay_word(1, 2, takes, 2, puts, 2, capacity, 1, plain, 1, held, 1, loads + 2, 1, room, 1);
+    EXPECT(r.kind == KAUNORPI_ANSWERED && r.number == 1 && r.position == 0 && r.place == 0 && room[0] == 2600);
+    r = kaunorpi_replay_word(1, 2, heavy, 2, puts, 2, capacity, 1, plain, 1, held, 1, loads, 4, room, 1);
+    EXPECT(r.kind == KAUNORPI_REFUSED && r.number == 18 && r.position == 1 && room[0] == 2600);
+    r = kaunorpi_replay_word(1, 2, puts, 2, heavy, 2, capacity, 1, plain, 1, held, 1, loads, 4, room, 1);
+    EXPECT(r.kind == KAUNORPI_REFUSED && r.number == 18 && r.position == 1);
+    kaunorpi_summary s = kaunorpi_summary_word(1, 2, takes, 2, puts, 2, capacity, 1, plain, 1, loads, 3, need, 64, climb, 64, change, 64);
+    EXPECT(s.number == 0 && need[0] == 1095 && climb[0] == 3000 && change[0] == -1095);
+    kaunorpi_length l = kaunorpi_write_case(1, 2, takes, 2, puts, 2, capacity, 1, plain, 1, held, 1, loads, 3, file, sizeof file);
+    EXPECT(l.number == 0 && l.length == sizeof bin - 1 && memcmp(file, bin, sizeof bin - 1) == 0);
+    kaunorpi_case c = kaunorpi_read_case(file, l.length, caps, 64, marks, 64, initial, 64, pre, 4096, post, 4096, word, 65535);
+    EXPECT(c.kind == KAUNORPI_ANSWERED && c.transitions == 2 && pre[0] == 0 && pre[1] == 4095 && post[0] == 1500 && post[1] == 0);
+}
+
 int main(void) {
     read_the_case();
     write_it_back();
@@ -258,5 +285,6 @@ int main(void) {
     lists_and_weightings();
     two_logs();
     pockets();
+    kilograms();
     return wrong;
 }

@@ -6,6 +6,7 @@ from pathlib import Path
 
 NONE = 65535  # "65,535 means none"
 HUGE = 2**64 - 1  # the largest count, position or place number that can be lent
+HEAVIEST = 4095  # "Raise the weight limit to 4,095" (02, E6)
 
 # How many fields the answer of each question has in include/kaunorpi.h.
 FIELDS = {
@@ -95,6 +96,13 @@ def loose(P, T, pre, post):
     return (17, hanging[0]) if hanging else None
 
 
+def heavy(P, T, pre, post):
+    """Refusal 18 of a net, as (18, position), or None: "a lent weight over 4,095, position its transition" (02, E6); of several
+    the lowest, over Pre and Post together."""
+    over = {k // P for weights in (pre, post) for k, weight in enumerate(weights) if weight > HEAVIEST}
+    return (18, min(over)) if over else None
+
+
 # Nets with a loose node: what is loose, P, T, Pre and Post. Those of three places are the net of 01's case without some of its
 # arcs, the others as large as can be; the first transition of these takes from all places, the others from place 0.
 EMPTY, FIRST = [0] * 64, [1] + [0] * 63
@@ -114,6 +122,39 @@ LOOSE = [
 ]
 # Nets of one place and one transition that hang together by one arc, or by a loop.
 WIRED = [("only taken from", 1, 1, [1], [0]), ("only put into", 1, 1, [0], [1]), ("a loop", 1, 1, [1], [1])]
+
+
+# Nets with a weight over 4,095: where it is, P, T, Pre and Post. Those of three places are the net of 01's case with such weights in
+# place of some of its own, the others as large as can be.
+TAKES, PUTS = [1, 0, 0, 0, 1, 0, 0, 0, 3], [0, 1, 0, 1, 0, 2, 0, 0, 0]
+
+
+def with_weight(weights, *cells, weight=HEAVIEST + 1):
+    return [weight if k in cells else w for k, w in enumerate(weights)]
+
+
+HEAVY = [
+    ("4,096 in Pre", 1, 1, [4096], [0]),
+    ("4,096 in Post", 1, 1, [0], [4096]),
+    ("65,535 in Pre", 1, 1, [65535], [1]),
+    ("65,535 in Post", 1, 1, [1], [65535]),
+    ("the first place of the first transition, in Pre", 3, 3, with_weight(TAKES, 0), PUTS),
+    ("its last place, in Post", 3, 3, TAKES, with_weight(PUTS, 2)),
+    ("transition 1, in Pre", 3, 3, with_weight(TAKES, 4), PUTS),
+    ("the first place of the last transition, in Post", 3, 3, TAKES, with_weight(PUTS, 6)),
+    ("its last place, in Pre", 3, 3, with_weight(TAKES, 8), PUTS),
+    ("Post of the first transition and Pre of the last: the first", 3, 3, with_weight(TAKES, 6, 8), with_weight(PUTS, 0)),
+    ("Pre of transition 1 and Post of the last: transition 1", 3, 3, with_weight(TAKES, 5), with_weight(PUTS, 8)),
+    ("Pre of the last transition and Post of transition 1: transition 1", 3, 3, with_weight(TAKES, 6), with_weight(PUTS, 5)),
+    ("all of them", 3, 3, [65535] * 9, [4096] * 9),
+    ("the last weight of 64 places and 64 transitions, in Pre", 64, 64, [1] * 4095 + [4096], [1] * 4096),
+    ("the same in Post", 64, 64, [1] * 4096, [1] * 4095 + [4096]),
+]
+# Nets with weights as large as may be, and such as a byte cannot hold, or just can.
+LIGHT = [
+    ("4,095 taken", 1, 1, [4095], [0]), ("4,095 put", 1, 1, [0], [4095]), ("4,095 taken and put", 1, 1, [4095], [4095]), ("255 taken, 256 put", 1, 1, [255], [256]),
+    ("256 taken, 255 put", 1, 1, [256], [255]), ("4,095 everywhere", 3, 3, [4095] * 9, [4095] * 9),
+]
 
 
 def all_plain(P):

@@ -1,6 +1,6 @@
-"""What closed.py and cover.py share, from document 01's "Marking lists" and its refusal table, with 17 and marks of document 02."""
+"""What closed.py and cover.py share, from document 01's "Marking lists" and its refusal table, with 17, 18 and marks of document 02."""
 
-from shared.calls import NONE, all_plain, call, loose, net as lent_net
+from shared.calls import NONE, all_plain, call, heavy, loose, net as lent_net
 
 
 class Net:
@@ -28,6 +28,8 @@ def refusal(net, initial, flat, target, given):
         return 2, 0
     if target is not None and len(target) != P:
         return 2, 0
+    if heavy(P, T, net.pre, net.post):
+        return heavy(P, T, net.pre, net.post)
     for entries in given:
         for at, tokens in enumerate(entries):  # in a list, "marking number x P + place"
             cap = net.caps[at % P]
