@@ -2,3 +2,4 @@ pub mod Faults
 pub mod Fronts
 pub mod Parts
 pub mod Starts
+pub mod Exactly
