@@ -3,3 +3,4 @@ pub mod Fronts
 pub mod Parts
 pub mod Starts
 pub mod Exactly
+pub mod Cutting
