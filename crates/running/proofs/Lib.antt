@@ -4,3 +4,4 @@ pub mod Parts
 pub mod Starts
 pub mod Exactly
 pub mod Cutting
+pub mod Meaning

@@ -1,14 +1,16 @@
 -- To be believed: a log in parts: document 02, E7: "For any cutting, empty parts allowed, with valid letters and 65,535 in all, the last state agrees with replaying the whole."
-use Prim.Native.Nat.{ℕ}
+use Prim.Native.Nat.{ℕ, _+_, _<_}
 use mathlib.Core.Path.{_≡_}
 use mathlib.Core.List.{List, [], _∷_, _++_}
-use lib.ListN.{length}
+use lib.ListN.{length, getD}
 use Rattle.ground.specs.Limits.{countLimit}
 use Rattle.net.specs.Net.{Net}
-use Rattle.net.specs.Firing.{causeNumber}
+use Rattle.net.specs.Firing.{Names, causeNumber}
+use Rattle.net.specs.declared.Cause.{Cause}
 use Rattle.plays.specs.declared.Replay.{Replay}
 use Rattle.plays.specs.declared.Replay.the-variants.{Fired, Blocked, Refused}
 use Rattle.replay.specs.Entry as replay
+use Rattle.replay.specs.Entry.{Longest}
 use Rattle.running.specs.State.{held, causePlace, fedOf}
 use Rattle.running.specs.Entry.{numbers}
 use Rattle.running.specs.declared.Running.{Running}
@@ -40,3 +42,19 @@ pub record Agrees (net : Net) (f : Fed) (r : Replay) (m : List ℕ) : Type 0 whe
   pub marking : held net (f .state) ≡ m
   pub fired : f .state .fired ≡ replay.lettersFired r
   pub block : HoldsBlock (f .state) r
+
+-- a part goes on from the state's marking: the letters that it fires are its longest prefix that does, which leads to the marking of the state after it
+pub record Resumed (net : Net) (s : Running) (w : List ℕ) (s′ : Running) : Type 0 where
+  pub letters : ℕ
+  pub counted : s′ .fired ≡ s .fired + letters
+  pub longest : Longest net (held net s) w letters (held net s′)
+
+-- a block newly found: a letter's number in the part and a cause that is true of it at the marking left; the position counts from the first part
+pub record BlockedBy (net : Net) (s : Running) (w : List ℕ) (s′ : Running) (number position place : ℕ) : Type 0 where
+  pub letter : ℕ
+  pub why : Cause
+  pub here : letter < length w
+  pub named : Names net (held net s′) (getD w letter 0) why
+  pub counted : position ≡ s .fired + letter
+  pub caused : number ≡ causeNumber why
+  pub placed : place ≡ causePlace why
