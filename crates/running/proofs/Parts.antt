@@ -33,16 +33,19 @@ use Rattle.running.specs.declared.Part.the-variants.{Fired, Blocked, Ref
 use Rattle.running.specs.declared.Fed.{Fed}
 
 -- what holds where nothing is refused, chain by chain
-tokens-met : (net : Net) (s : Running) → tokensFault (net .places) (net .caps) (s .fired) (s .marking) ≡ Sound → (p : ℕ) → p < net .places → TokensAt net s p
-unfolding tokensFault
-tokens-met net s e p h =
-    let x = ltb-false (badTokens (net .places) (net .caps) (s .fired) (s .marking)) (net .places) (refuse-sound _ 3 _ e) in
-    let f = first-below (λ p. tokensOver (s .fired) (getD (net .caps) p 0) (getD (s .marking) p 0)) (net .places) p (omega arith) in
-    let o = or-false (ltb (tokensAfter (s .fired)) (getD (s .marking) p 0)) (ltb (getD (net .caps) p 0) noCapacity && ltb (getD (net .caps) p 0) (getD (s .marking) p 0)) f in
+pub tokens-at : (net : Net) (s : Running) (p : ℕ) → tokensOver (s .fired) (getD (net .caps) p 0) (getD (s .marking) p 0) ≡ false → TokensAt net s p
+tokens-at net s p e =
+    let o = or-false (ltb (tokensAfter (s .fired)) (getD (s .marking) p 0)) (ltb (getD (net .caps) p 0) noCapacity && ltb (getD (net .caps) p 0) (getD (s .marking) p 0)) e in
     record {
       few = ltb-false (tokensAfter (s .fired)) (getD (s .marking) p 0) (o .0);
       within = λ c. ltb-false (getD (net .caps) p 0) (getD (s .marking) p 0) (rw (lt-ltb (getD (net .caps) p 0) noCapacity c) at (o .1));
     }
+
+tokens-met : (net : Net) (s : Running) → tokensFault (net .places) (net .caps) (s .fired) (s .marking) ≡ Sound → (p : ℕ) → p < net .places → TokensAt net s p
+unfolding tokensFault
+tokens-met net s e p h =
+    let x = ltb-false (badTokens (net .places) (net .caps) (s .fired) (s .marking)) (net .places) (refuse-sound _ 3 _ e) in
+    tokens-at net s p (first-below (λ p. tokensOver (s .fired) (getD (net .caps) p 0) (getD (s .marking) p 0)) (net .places) p (omega arith))
 
 letters-met : (T fired : ℕ) (w : List ℕ) → lettersFault T fired w ≡ Sound → (fired + length w ≤ wordLimit) × Letters T w
 unfolding lettersFault
@@ -90,11 +93,11 @@ cause-brief net t m h = go (ltb (lowestShort (arcsAt net t .takes) m) (length m)
     go true = omega (arith, first-most (short (arcsAt net t .takes) m) (length m))
     go false = omega (arith, first-most (over (arcsAt net t) m) (length m))
 
-next-passes : (net : Net) (n t : ℕ) (m w : List ℕ) → passes (arcsAt net t) m ≡ true → playFrom net n m (t ∷ w) ≡ playFrom net (n + 1) (firedAt net t m) w
+pub next-passes : (net : Net) (n t : ℕ) (m w : List ℕ) → passes (arcsAt net t) m ≡ true → playFrom net n m (t ∷ w) ≡ playFrom net (n + 1) (firedAt net t m) w
 unfolding playFrom
 next-passes net n t m w e = rw (e, playFrom)
 
-next-stops : (net : Net) (n t : ℕ) (m w : List ℕ) → passes (arcsAt net t) m ≡ false → playFrom net n m (t ∷ w) ≡ record { answer = replay.Blocked n (cause (arcsAt net t) m); left = m }
+pub next-stops : (net : Net) (n t : ℕ) (m w : List ℕ) → passes (arcsAt net t) m ≡ false → playFrom net n m (t ∷ w) ≡ record { answer = replay.Blocked n (cause (arcsAt net t) m); left = m }
 unfolding playFrom
 next-stops net n t m w e = rw (e, playFrom)
 

@@ -5,15 +5,15 @@ use mathlib.Core.Bool.{true}
 use mathlib.Core.List.{List, [], _∷_}
 use lib.ListN.{length, getD}
 use lib.Seq.{sets}
-use Rattle.ground.specs.Limits.{countLimit, noCapacity, wordLimit, tokensAfter}
+use Rattle.ground.specs.Limits.{countLimit, wordLimit, tokensAfter}
 use Rattle.ground.specs.Lists.{table}
 use Rattle.net.specs.Net.{Net, Sized, Light, capacity, Capped}
 use Rattle.wiring.specs.Wired.{Wired}
-use Rattle.refusals.specs.Given.{markedFault, Letters}
-use Rattle.refusals.specs.First.{First, Given, GivenAt, CountsFirst, LooseFirst}
+use Rattle.refusals.specs.Given.{markedFault, Fine, Letters}
+use Rattle.refusals.specs.First.{First, Given, GivenAt, CountsFirst, LooseFirst, MarkedFirst}
 use Rattle.refusals.specs.declared.Fault.{Fault}
 use Rattle.refusals.specs.declared.Fault.the-variants.{Sound, Faulty}
-use Rattle.running.specs.State.{isBlocked}
+use Rattle.running.specs.State.{isBlocked, fedOf}
 use Rattle.running.specs.declared.Running.{Running}
 use Rattle.running.specs.declared.Part.{Part}
 use Rattle.running.specs.declared.Part.the-variants.{Fired, Blocked, Refused}
@@ -35,11 +35,27 @@ startedBy Sound initial = record { state = freshAt (sets empty 0 initial); answe
 unfoldable pub startOf : Net → List ℕ → Fed
 startOf net initial = startedBy (markedFault net initial true) initial
 
+-- all that is asked of the start: nothing is refused exactly where this holds
+pub record StartAllowed (net : Net) (initial : List ℕ) : Type 0 where
+  pub sized : Sized net
+  pub light : Light net
+  pub marked : length initial ≡ net .places
+  pub fine : Fine (net .caps) initial
+  pub wired : Wired net
+
+-- its refusals in order, each exactly when its demand is the first that does not hold
+abbrev pub StartRefusal : Net → List ℕ → ℕ → ℕ → Type 0
+StartRefusal net initial n at = MarkedFirst net initial (true ≡ true) n at ⊥
+
 -- document 01's numbers for each case, as a replay's
 abbrev pub numbers : Part → List ℕ
 numbers (Fired n) = 0x81 ∷ 0 ∷ n ∷ []
 numbers (Blocked c n p) = 0x81 ∷ c ∷ n ∷ p ∷ []
 numbers (Refused n at) = 0x82 ∷ n ∷ at ∷ []
+
+-- what a part promises of the lent state at its end and of its answer
+abbrev pub Promised : Net → Running → List ℕ → Running → Part → Type 0
+Promised net s w s′ r = (s′ ≡ fedOf net s w .state) × (r ≡ fedOf net s w .answer)
 
 -- 3 unless at each place: no more tokens than so many letters can have led to, nor than its capacity
 pub record TokensAt (net : Net) (s : Running) (p : ℕ) : Type 0 where

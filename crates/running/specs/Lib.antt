@@ -1,3 +1,4 @@
 pub mod State
 pub mod Entry
 pub mod Walk
+pub mod Cutting
