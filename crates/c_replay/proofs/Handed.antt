@@ -6,7 +6,7 @@ use mathlib.Core.List.{List}
 use Rattle.net.specs.Net.{Net}
 use Rattle.replay.specs.Entry as replay
 use Rattle.replay.specs.Entry.{replayOf, Replayed}
-use Rattle.replay.specs.declared.Replay.{Replay}
+use Rattle.plays.specs.declared.Replay.{Replay}
 use Rattle.c_answer.specs.Hand.{handed}
 use Rattle.c_replay.specs.Handed.{handedReplay, HandedReplay}
 use Rattle.c_replay.specs.declared.ReplayAnswer.{ReplayAnswer}

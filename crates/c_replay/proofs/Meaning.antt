@@ -5,10 +5,10 @@ use mathlib.Core.Bool.{cond}
 use mathlib.Core.List.{List}
 use lib.Dec.{eqb}
 use Rattle.net.specs.declared.Cause.the-variants.{Short, Over}
-use Rattle.replay.specs.Replay.{Ran}
+use Rattle.plays.specs.Replay.{Ran}
 use Rattle.replay.specs.Entry as replay
-use Rattle.replay.specs.declared.Replay.{Replay}
-use Rattle.replay.specs.declared.Replay.the-variants as ran
+use Rattle.plays.specs.declared.Replay.{Replay}
+use Rattle.plays.specs.declared.Replay.the-variants as ran
 use Rattle.c_answer.specs.Hand.{handed}
 use Rattle.c_replay.specs.Handed.{handedReplay, HandedReplay}
 use Rattle.c_replay.specs.declared.ReplayAnswer.{ReplayAnswer}

@@ -2,7 +2,7 @@
 use Prim.Native.Nat.{ℕ}
 use mathlib.Core.Path.{_≡_}
 use mathlib.Core.List.{List}
-use Rattle.replay.specs.Replay.{Ran}
+use Rattle.plays.specs.Replay.{Ran}
 use Rattle.replay.specs.Entry as replay
 use Rattle.c_replay.specs.declared.ReplayAnswer.{ReplayAnswer}
 use Rattle.c_answer.specs.Hand.{at, handed}

@@ -15,10 +15,10 @@ use Rattle.refusals.specs.declared.Fault.{Fault}
 use Rattle.refusals.specs.declared.Fault.the-variants.{Sound, Faulty}
 use Rattle.refusals.proofs.Chains.{chain-first, chain-next, or-sound, sound-or}
 use Rattle.refusals.proofs.Refusals.{counts-met, marked-met, met-marked, word-met, met-word, counts-unfit, marked-unfit}
-use Rattle.replay.specs.Replay.{Ran, playFrom, Ended}
+use Rattle.plays.specs.Replay.{Ran, playFrom, Ended}
 use Rattle.replay.specs.Entry.{replayFault, answered, replayOf, numbers, Replayed}
-use Rattle.replay.specs.declared.Replay.{Replay}
-use Rattle.replay.specs.declared.Replay.the-variants.{Refused}
+use Rattle.plays.specs.declared.Replay.{Replay}
+use Rattle.plays.specs.declared.Replay.the-variants.{Refused}
 
 -- which refusal: found is what the tests of the net and its marking gave
 module _ (net : Net) (initial w : List ℕ) (fits : Bool) (found : Fault) (e : found ≡ markedFault net initial fits) where
@@ -79,7 +79,7 @@ module _ (net : Net) (initial w : List ℕ) (within : Bool) (room : List ℕ) (f
   pub replayed-refused : (n at : ℕ) → found ≡ Faulty n at → Replayed net initial w within room (Refused n at) room
   replayed-refused n at q = record { answer = rw (is-found (Faulty n at) q); left = rw (is-found (Faulty n at) q) }
 
-  pub replayed-ended : (m : List ℕ) (r : Replay) (m′ : List ℕ) → found ≡ Sound → m ≡ initial → Ended net m w r m′ → Replayed net initial w within room r m′
+  pub replayed-ended : (m : List ℕ) (r : Replay) (m′ : List ℕ) → found ≡ Sound → m ≡ initial → Ended net 0 m w r m′ → Replayed net initial w within room r m′
   replayed-ended m r m′ q l p =
       record { answer = rw (is-found Sound q, ← l) (ap numbers (p .answer)); left = rw (is-found Sound q, ← l) (p .left) }
 

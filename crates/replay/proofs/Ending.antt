@@ -15,8 +15,8 @@ use Rattle.net.specs.declared.Letter.the-variants.{Passes, Stops}
 use Rattle.net.proofs.Judged.{enabled-of, gives-fired, names-of, passes-judged}
 use Rattle.net.proofs.Meaning.{gives-one, fires-nil, fires-cons}
 use Rattle.refusals.specs.Given.{Letters}
-use Rattle.replay.specs.Replay.{Ran, playFrom}
-use Rattle.replay.specs.declared.Replay.the-variants.{Fired, Blocked}
+use Rattle.plays.specs.Replay.{Ran, playFrom}
+use Rattle.plays.specs.declared.Replay.the-variants.{Fired, Blocked}
 
 -- the replay of w from m ended as `ran`, its first letter being number i
 pub data Ending (net : Net) (i : ℕ) (m w : List ℕ) (ran : Ran) : Type 0 where

@@ -12,9 +12,9 @@ use Rattle.net.specs.declared.Letter.{Letter}
 use Rattle.net.specs.declared.Letter.the-variants.{Passes, Stops}
 use Rattle.net.proofs.Pockets.{alike-judge}
 use Rattle.refusals.proofs.Marks.{remarked-marked}
-use Rattle.replay.specs.Replay.{Ran, playFrom}
+use Rattle.plays.specs.Replay.{Ran, playFrom}
 use Rattle.replay.specs.Entry.{replayFault, replayOf, answered, numbers, Replayed}
-use Rattle.replay.specs.declared.Replay.{Replay}
+use Rattle.plays.specs.declared.Replay.{Replay}
 use Rattle.replay.proofs.Meaning.{unique}
 
 module _ (net : Net) (marks : List ℕ) (alike : MarksAlike (net .caps) (net .marks) marks) where

@@ -21,10 +21,10 @@ use Rattle.net.proofs.Meaning.{cause-apart, cause-some, deterministic, within-s
 use Rattle.refusals.proofs.Exactly.{Answers, Chain, reads-both, reads-all, marked-reads, word-reads, fault-is, exactly-refused, is-answered, is-allowed}
 use Rattle.refusals.specs.declared.Fault.{Fault}
 use Rattle.refusals.specs.declared.Fault.the-variants.{Sound, Faulty}
-use Rattle.replay.specs.Replay.{playFrom}
+use Rattle.plays.specs.Replay.{playFrom}
 use Rattle.replay.specs.Entry.{replayFault, replayOf, numbers, Replayed, Allowed, Refusal, lettersFired, Longest}
-use Rattle.replay.specs.declared.Replay.{Replay}
-use Rattle.replay.specs.declared.Replay.the-variants.{Fired, Blocked, Refused}
+use Rattle.plays.specs.declared.Replay.{Replay}
+use Rattle.plays.specs.declared.Replay.the-variants.{Fired, Blocked, Refused}
 use Rattle.replay.proofs.Answers.{sane-of, sane-is}
 use Rattle.replay.proofs.Ending.{Ending, whole, stops, ending, no-more}
 

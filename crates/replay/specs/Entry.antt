@@ -13,9 +13,9 @@ use Rattle.refusals.specs.Given.{orElse, markedFault, wordFault, Fine, Letters}
 use Rattle.refusals.specs.First.{MarkedFirst, WordFirst}
 use Rattle.refusals.specs.declared.Fault.{Fault}
 use Rattle.refusals.specs.declared.Fault.the-variants.{Sound, Faulty}
-use Rattle.replay.specs.Replay.{Ran, playFrom}
-use Rattle.replay.specs.declared.Replay.{Replay}
-use Rattle.replay.specs.declared.Replay.the-variants.{Fired, Blocked, Refused}
+use Rattle.plays.specs.Replay.{Ran, playFrom}
+use Rattle.plays.specs.declared.Replay.{Replay}
+use Rattle.plays.specs.declared.Replay.the-variants.{Fired, Blocked, Refused}
 
 -- 1, 2, 18, 3 and 17, then 4 and 5; `fits` tells whether the room's length and the stretch's ends are right
 unfoldable pub replayFault : Net → List ℕ → List ℕ → Bool → Fault

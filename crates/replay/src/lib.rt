@@ -1,71 +1,14 @@
 // Replay of a word on a net: whether the events could have happened in this order, and if not, at
 // which letter and for which cause.
 use ground::Weight;
-use net::Cause;
-use net::Letter;
+pub use plays::Replay;
 use refusals::Fault;
 ghost use mathlib.Core.Path.{_≡_};
 ghost use mathlib.Core.Bool.{true, _&&_};
-ghost use Prim.Native.Nat.{_≤_};
 ghost use lib.Dec.{eqb};
-ghost use lib.ListN.{length};
-ghost use Rattle.ground.specs.Limits.{tokenLimit, wordLimit};
-ghost use Rattle.net.specs.Net.{netOf, Sized, Light};
-ghost use Rattle.net.specs.Letter.{Small};
-ghost use Rattle.refusals.specs.Given.{Letters, stretch, inside};
-ghost use Rattle.replay.specs.Replay.{Ended};
+ghost use Rattle.net.specs.Net.{netOf};
+ghost use Rattle.refusals.specs.Given.{stretch, inside};
 ghost use Rattle.replay.specs.Entry.{replayFault, Replayed};
-
-// The answer to a replay: fired, with the number of letters; blocked, with the position of the
-// letter that is not enabled and its cause; or refused, with document 01's number and position.
-pub enum Replay {
-    Fired(usize),
-    Blocked(usize, Cause),
-    Refused(u8, usize),
-}
-
-// A word, letter by letter, up to the first that is not enabled.
-fn play_word(
-    places: usize,
-    transitions: usize,
-    pre: &[Weight],
-    post: &[Weight],
-    caps: &[u16],
-    marks: &[u8],
-    word: &[u8],
-    marking: &mut [u32],
-) -> Replay
-    requires { ⌜ Sized (netOf places transitions (now pre) (now post) (now caps) (now marks)) ⌝ }
-    requires { ⌜ Light (netOf places transitions (now pre) (now post) (now caps) (now marks)) ⌝ }
-    requires { ⌜ length (now marking) ≡ places ⌝ }
-    requires { ⌜ Small tokenLimit (now marking) ⌝ }
-    requires { ⌜ Letters transitions (now word) ⌝ }
-    requires { ⌜ length (now word) ≤ wordLimit ⌝ }
-    ensures { λ r. ⌜ Ended (netOf places transitions (now (pre .entry)) (now (post .entry)) (now (caps .entry)) (now (marks .entry))) (now (marking .entry)) (now (word .entry)) r (now (marking .exit)) ⌝ }
-{
-    let mut i = 0;
-    while i < word.len() {
-        let played = net::play_letter(
-            places,
-            transitions,
-            pre,
-            post,
-            caps,
-            marks,
-            word[i],
-            marking,
-        );
-        match played {
-            Letter::Passes => {
-                i += 1;
-            }
-            Letter::Stops(why) => {
-                return Replay::Blocked(i, why);
-            }
-        }
-    }
-    Replay::Fired(i)
-}
 
 // Refusals 1 to 5, 17 and 18. It is not lent the room, so a refusal cannot touch it.
 fn find_fault(
@@ -126,7 +69,7 @@ fn replay_part(
         Fault::Faulty(number, at) => Replay::Refused(number, at),
         Fault::Sound => {
             net::load(initial, room);
-            play_word(places, transitions, pre, post, caps, marks, part, room)
+            plays::play_word(places, transitions, pre, post, caps, marks, 0, part, room)
         }
     }
 }

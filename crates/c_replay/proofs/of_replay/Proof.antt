@@ -1,6 +1,6 @@
 use borrow.Author.Needs.{needs}
 use Rattle.replay.specs.Entry.{numbers}
-use Rattle.replay.specs.declared.Replay.{Replay}
+use Rattle.plays.specs.declared.Replay.{Replay}
 use Rattle.c_replay.specs.Handed.{handedReplay}
 use Rattle.c_answer.proofs.Hand.{passed}
 use Rattle.c_replay.proofs.of_replay.Statement.{statement}

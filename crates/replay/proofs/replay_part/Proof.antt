@@ -1,5 +1,6 @@
 use mathlib.Core.Path.{_≡_}
 use mathlib.Core.Bool.{_&&_}
+use native.Mathlib.Omega.{arith}
 use lib.Dec.{eqb}
 use lib.ListN.{length}
 use denote.Ref.{now}
@@ -50,7 +51,7 @@ play-word-requires c κs =
     let e : tie.After-enum-told = search needs in
     let s = sane e in
     let l : tie.After-load = search needs in
-    rw (l .load .ensures) (s .sized, (s .light, (s .marked, (s .fine .few, (s .letters, s .short)))))
+    rw (l .load .ensures) (s .sized, (s .light, (s .marked, (s .fine .few, (s .letters, omega (arith, s .short))))))
 
 returns : tie.Need-returns
 returns c = search (replayeds, needs)

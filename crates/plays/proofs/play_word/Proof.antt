@@ -1,16 +1,16 @@
 use Prim.Native.Nat.{_-_}
 use lib.ListN.{length}
 use Rattle.net.specs.Net.{netOf}
-use Rattle.replay.proofs.Words.{Running, runs}
+use Rattle.plays.proofs.Words.{Running, runs}
 use borrow.Author.Needs.{needs}
-use Rattle.replay.proofs.play_word.Statement.{statement}
-use Rattle.replay.proofs.play_word.Tie as tie
+use Rattle.plays.proofs.play_word.Statement.{statement}
+use Rattle.plays.proofs.play_word.Tie as tie
 
 abbrev Inv-loop : tie.InvT-loop
-Inv-loop places transitions pre post caps marks word marking₀ i₀ marking i = Running (netOf places transitions pre post caps marks) marking₀ word i marking
+Inv-loop places transitions pre post caps marks fired word marking₀ i₀ marking i = Running (netOf places transitions pre post caps marks) fired marking₀ word i marking
 
 abbrev μ-loop : tie.MeasureT-loop
-μ-loop places transitions pre post caps marks word marking₀ i₀ marking i = length word - i
+μ-loop places transitions pre post caps marks fired word marking₀ i₀ marking i = length word - i
 
 loop-holds : tie.Need-loop-holds Inv-loop μ-loop
 loop-holds c = search (runs, needs)
@@ -36,11 +36,17 @@ loop-again c = search (runs, needs)
 enum-known-played : tie.Need-enum-known-played Inv-loop μ-loop
 enum-known-played c = search needs
 
+add-t19 : tie.Need-add-t19 Inv-loop μ-loop
+add-t19 c = search needs
+
 same-length : tie.Need-same-length Inv-loop μ-loop
 same-length c = search needs
 
 returns : tie.Need-returns Inv-loop μ-loop
 returns c = search (runs, needs)
+
+add-t20 : tie.Need-add-t20 Inv-loop μ-loop
+add-t20 c = search needs
 
 same-length-2 : tie.Need-same-length-2 Inv-loop μ-loop
 same-length-2 c = search needs
@@ -62,7 +68,9 @@ play-word-spec =
     loop-less
     loop-again
     enum-known-played
+    add-t19
     same-length
     returns
+    add-t20
     same-length-2
     returns-2)

@@ -5,8 +5,8 @@ use mathlib.Core.List.{List, [], _∷_}
 use Rattle.net.specs.Net.{Net}
 use Rattle.net.specs.Letter.{judgeAt, firedAt}
 use Rattle.net.specs.declared.Letter.the-variants.{Passes, Stops}
-use Rattle.replay.specs.declared.Replay.{Replay}
-use Rattle.replay.specs.declared.Replay.the-variants.{Fired, Blocked}
+use Rattle.plays.specs.declared.Replay.{Replay}
+use Rattle.plays.specs.declared.Replay.the-variants.{Fired, Blocked}
 
 -- an answer, and the marking left
 pub record Ran : Type 0 where
@@ -22,7 +22,7 @@ playFrom net i m (t ∷ w) =
       | Stops why ↦ record { answer = Blocked i why; left = m }
     ]
 
--- the whole word was played from m
-pub record Ended (net : Net) (m w : List ℕ) (r : Replay) (m′ : List ℕ) : Type 0 where
-  pub answer : r ≡ playFrom net 0 m w .answer
-  pub left : m′ ≡ playFrom net 0 m w .left
+-- the whole word was played from m, n letters having fired before
+pub record Ended (net : Net) (n : ℕ) (m w : List ℕ) (r : Replay) (m′ : List ℕ) : Type 0 where
+  pub answer : r ≡ playFrom net n m w .answer
+  pub left : m′ ≡ playFrom net n m w .left
