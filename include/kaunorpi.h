@@ -7,7 +7,8 @@
  * is `const` is only read, another is a room that the answer is written to; both are used during the call and
  * never after it. A pointer may be null where its length is 0; else it must be valid for its length and aligned for
  * its type. A room must not overlap anything else that is lent in the same call. The lengths are compared with the
- * counts: a wrong one is refusal 2, and is not used.
+ * counts: a wrong one is refusal 2, and is not used. The state of a running replay is handed over as a pointer alone, never
+ * null: it is read and changed in place, and belongs to the caller, who may keep it anywhere between two calls.
  *
  * Stack. kaunorpi_order_logs needs some 340 KB for two logs of 255 letters, since it calls itself for each letter: 656
  * bytes for each letter of both logs, and 1.4 KB. kaunorpi_read_case needs some 85 KB, for rooms of its own in which a
@@ -17,7 +18,8 @@
  * and without memcpy and memset, which are the C library's. Of kaunorpi_order_logs, where 510 letters fire, 335,936 bytes
  * were seen to be written. All these were taken before marks were lent (version 5) and not again since: allow for some
  * hundred bytes more, and in kaunorpi_order_logs for more in each letter. kaunorpi_read_case has 8 KB more since weights
- * are of 16 bits (version 6): its 85 KB are those 74,960 bytes, these, and what marks may have added.
+ * are of 16 bits (version 6): its 85 KB are those 74,960 bytes, these, and what marks may have added. Version 7's two were
+ * measured by themselves, in the same way: 704 bytes (kaunorpi_replay_part) and 1,184 (kaunorpi_start_replay).
  *
  * What is proved. Each function's comment ends with its contract, which says that the answer is the entry's of that
  * name, number by number, and with theorems that say what such an answer means; docs/STATEMENTS.md has them in words,
@@ -48,9 +50,10 @@
  *    3  65,535 tokens where not allowed, or more tokens than the capacity. position: the place; in a list of
  *       markings, marking number * places + place. The initial marking must keep to the capacities in every question,
  *       cover lists too; a closed list's markings as well; a cover list's entries are free; a target may be above
- *       capacity, but 65,535 in a target is 3, though in a cover list it means any number
- *    4  a word over 65,535 letters
- *    5  a letter that names no transition. position: the letter
+ *       capacity, but 65,535 in a target is 3, though in a cover list it means any number. In the state of a running
+ *       replay: more tokens than 65,534 and 4,095 for each letter fired (exactly as many are allowed), or than the capacity
+ *    4  a word over 65,535 letters; a part of a log that would bring the letters fired over 65,535, blocked or not
+ *    5  a letter that names no transition. position: the letter; of a part in the part
  *    6  a summary that is not well formed. It is well formed if its letters n are at most 65,535, at each place
  *       need <= 4,095 n, climb <= 4,095 n and -need <= change <= climb, and past the place count all is 0. position: 0
  *       if n is too large, else the lowest place or slot. A well-formed summary that no word has is answered by its
@@ -62,7 +65,7 @@
  *   11  a line of a case file breaks the digit rules or lacks its line feed. position: the line, from 1
  *   12  a frame of unknown kind, in the wrong order, of wrong length or index, or missing; a frame 06 that makes no
  *       place a pocket, or one that the net does not have; a frame 07 without a weight over 255. position: the line
- *   13  a place number that is not below the place count
+ *   13  a place number that is not below the place count; in the state of a running replay, that of a block
  *   14  a room that is shorter than what is to be written there
  *   15  a log over 255 letters, after 4
  *   16  a list that is not made of as many 0s and 1s as the two logs have letters, or a step that is not below its
@@ -87,7 +90,7 @@ extern "C" {
 #endif
 
 /* Another number with every change of a function, a struct, an answer or a refusal. */
-#define KAUNORPI_VERSION 6
+#define KAUNORPI_VERSION 7
 
 #define KAUNORPI_ANSWERED 0x81
 #define KAUNORPI_REFUSED 0x82
@@ -175,6 +178,19 @@ typedef struct kaunorpi_rest {
     size_t length;
 } kaunorpi_rest;
 
+/* A replay that goes on. It may hold anything when it is lent: what cannot be is refused, and the rest taken as it stands. */
+typedef struct kaunorpi_running {
+    /* the tokens of each place; the entries past the net's places are not read and stay */
+    uint32_t marking[KAUNORPI_MOST_PLACES];
+    /* the letters fired since the first part */
+    uint32_t fired;
+    /* of a block: its letter, counted from the first part, and its place; while nothing blocks they are not read and stay */
+    uint32_t position;
+    uint32_t place;
+    /* 0 while nothing blocks; 1 short of tokens, 2 over capacity; another number is a block too, handed back as it stands */
+    uint8_t blocked;
+} kaunorpi_running;
+
 /* ---- Replay: can the letters of the word happen in this order? Refusals 1 2 18 3 17 4 5.
  * 0x81 0: all of them. position: how many. room: the tokens of each place afterwards.
  * 0x81 1: letter `position` cannot happen, since `place` has fewer tokens than it takes; no lower place has.
@@ -191,6 +207,30 @@ kaunorpi_replay kaunorpi_replay_word(KAUNORPI_NET, const uint16_t *initial, size
  * crates/replay/proofs/Meaning.antt. */
 kaunorpi_replay kaunorpi_replay_stretch(KAUNORPI_NET, const uint16_t *initial, size_t initial_len, const uint8_t *word,
                                         size_t word_len, size_t start, size_t end, uint32_t *room, size_t room_len);
+
+/* ---- Running replay: a log that comes in parts. A state is set before the first part, and each part is played on it: for
+ * any cutting of a word into parts, empty ones too, the last answer and the last state are those of kaunorpi_replay_word of
+ * the whole. */
+
+/* Sets the state before the first part. Refusals 1 2 18 3 17.
+ * 0x81 0: set, position 0. state: the initial marking, 0 past the places, and 0 everywhere else. A refusal leaves it as
+ * found.
+ * Contract: crates/c_running/src/lib.rt. Theorems: start-as-found in crates/c_running/proofs/Meaning.antt;
+ * start-refused-exactly, start-unique in crates/running/proofs/Exactly.antt. */
+kaunorpi_replay kaunorpi_start_replay(KAUNORPI_NET, const uint16_t *initial, size_t initial_len, kaunorpi_running *state);
+/* Plays a part of the log from where the state stands. Refusals 1 2 18 3 17 4 5 13. Positions count from the first letter of
+ * the first part, but that of 5 from the first letter of this one.
+ * 0x81 0: all letters so far can happen. position: how many, those of this part with them. state: the tokens of each place
+ *         and the letters fired.
+ * 0x81 1: letter `position` cannot happen, since `place` has fewer tokens than it takes; no lower place has.
+ * 0x81 2: letter `position` cannot happen: no place is short, but `place` would hold more than its capacity, a pocket
+ *         before the letter's tokens leave it; no lower place would.
+ * In the last two cases the state has the tokens after the letters before that one, their number, and the block.
+ * A state that holds a block already: the answer is that block as it stands, 0x81 and its `blocked`, position and place, and
+ * nothing changes; a part with a wrong letter is refused all the same. A refusal leaves the state as found.
+ * Contract: crates/c_running/src/lib.rt. Theorems: any-cutting, block-stays, tail-stays, resumes in
+ * crates/running/proofs/Cutting.antt; refused-exactly, refused-as-found in crates/running/proofs/Exactly.antt. */
+kaunorpi_replay kaunorpi_replay_part(KAUNORPI_NET, kaunorpi_running *state, const uint8_t *part, size_t part_len);
 
 /* ---- Summaries: what a word needs, how far it climbs, and what it changes, at each place. At a pocket that has a
  * capacity the climb counts what a letter puts before what it takes: a summary is one of a net with its capacities and

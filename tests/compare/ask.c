@@ -1,11 +1,15 @@
 /* How each question is put to a side, and what must come of it. */
 #include "compare.h"
 
+#include <string.h>
+
 /* The two sides: every question of the library, and of the reference. */
 #define SIDE(question) \
     static __typeof__(kaunorpi_##question) *const side_##question[2] = {kaunorpi_##question, reference_##question};
 SIDE(replay_word)
 SIDE(replay_stretch)
+SIDE(start_replay)
+SIDE(replay_part)
 SIDE(empty_summary)
 SIDE(summary_word)
 SIDE(summary_stretch)
@@ -57,6 +61,57 @@ PLAIN(order_logs, LENT(initial), LENT(log[0]), LENT(log[1]), LENT(room), LENT(wo
     }
 REPLAY(replay_word, LENT(initial), LENT(word), LENT(room))
 REPLAY(replay_stretch, LENT(initial), LENT(word), in.start, in.end, LENT(room))
+
+/* The state as a side has it; the bytes behind its last field are nobody's, and are made as they were lent. */
+static kaunorpi_running *side_state(int side) { return on_side(side, &in.state); }
+static void even_out(int side) {
+    uint8_t *state = on_side(side, &in.state), *end = &side_state(side)->blocked + 1;
+    memcpy(end, (uint8_t *)own(&in.state) + (end - state), sizeof(kaunorpi_running) - (size_t)(end - state));
+}
+
+/* A question of running replay; a block that was held already is counted as 20. */
+static struct given given_running(int side, kaunorpi_replay a, int was_held) {
+    int held = was_held && a.kind == KAUNORPI_ANSWERED;
+    even_out(side);
+    return (struct given){a.kind, a.number, {a.position, a.place}, held ? 20 : a.number};
+}
+
+static struct given ask_start_replay(int side) {
+    return given_running(side, side_start_replay[side](NET, LENT(initial), side_state(side)), 0);
+}
+
+static struct given ask_replay_part(int side) {
+    return given_running(side, side_replay_part[side](NET, side_state(side), LENT(word)), own_state()->blocked != 0);
+}
+
+/* The whole word by the reference's replay, and the state that its parts must have led to. */
+static kaunorpi_replay replay_whole(int side) {
+    kaunorpi_running *state = side_state(side);
+    uint32_t room[80] = {0};
+    kaunorpi_replay a = reference_replay_word(NET, LENT(initial), LENT(word), room, in.places);
+    if (a.kind == KAUNORPI_REFUSED)
+        return a;
+    memcpy(state->marking, room, sizeof state->marking);
+    state->fired = (uint32_t)a.position;
+    state->position = a.number == 0 ? 0 : (uint32_t)a.position;
+    state->place = (uint32_t)a.place;
+    state->blocked = a.number;
+    return a;
+}
+
+/* The same word by the library, part by part. */
+static kaunorpi_replay replay_parts(int side) {
+    const size_t *ends = own(&in.cuts);
+    const uint8_t *word = on_side(side, &in.word);
+    kaunorpi_replay a = kaunorpi_start_replay(NET, LENT(initial), side_state(side));
+    for (size_t k = 0, from = 0; a.kind == KAUNORPI_ANSWERED && k < in.cuts.count; from = ends[k++])
+        a = kaunorpi_replay_part(NET, side_state(side), ends[k] > from ? word + from : NULL, ends[k] - from);
+    return a;
+}
+
+static struct given ask_cut_replay(int side) {
+    return given_running(side, side == LIBRARY ? replay_parts(side) : replay_whole(side), 0);
+}
 
 /* A question whose answer is a summary. */
 #define MAKES(question, ...) \
@@ -132,6 +187,7 @@ static struct given ask_unread_rest(int side) {
      OF_HEAVY)
 #define OF_MARKING (F(INITIAL_LENGTH) | F(INITIAL_FULL) | F(INITIAL_OVER))
 #define OF_WORD (F(LONG_WORD) | F(BAD_LETTER))
+#define OF_PART (F(STATE_MANY) | F(STATE_OVER) | F(LONG_PART) | F(BAD_LETTER) | F(BAD_BLOCK))
 #define OF_STRETCH (OF_WORD | F(BAD_START) | F(BAD_END))
 #define OF_ROOM F(ROOM_LENGTH)
 #define OF_LOGS (F(LONG_LOG) | F(LONG_LOG_1) | F(OVER_LOG) | F(OVER_LOG_1))
@@ -163,6 +219,11 @@ const struct question questions[] = {
      NETS | B(3) | B(4) | B(5), B(3) | B(5) | FURTHER, OF_NET | OF_MARKING | OF_WORD | OF_ROOM},
     {"replay_stretch", make_replay_stretch, ask_replay_stretch, B(0) | B(1) | B(2), B(0) | B(1) | B(2),
      NETS | B(3) | B(4) | B(5), B(3) | B(5) | FURTHER, OF_NET | OF_MARKING | OF_STRETCH | OF_ROOM},
+    {"start_replay", make_start_replay, ask_start_replay, B(0), 0, NETS | B(3), B(3) | FURTHER, OF_NET | OF_MARKING},
+    {"replay_part", make_replay_part, ask_replay_part, B(0) | B(1) | B(2) | B(20), B(0) | B(1) | B(2) | B(20),
+     NETS | B(3) | B(4) | B(5) | B(13), B(3) | B(5) | FURTHER, OF_NET | OF_PART},
+    {"cut_replay", make_cut_replay, ask_cut_replay, B(0) | B(1) | B(2), B(0) | B(1) | B(2), NETS | B(3), B(3) | FURTHER,
+     OF_NET | OF_MARKING},
     {"empty_summary", make_empty, ask_empty_summary, B(0), 0, B(1) | B(2), 0, F(BAD_PLACES) | OF_SUMMARY_ROOMS},
     {"summary_word", make_summary, ask_summary_word, B(0), 0, NETS | B(4) | B(5), B(5) | FURTHER,
      OF_NET | OF_WORD | OF_SUMMARY_ROOMS},

@@ -1,7 +1,7 @@
 /* The comparer: the library and the reference are asked the same questions, and must agree in everything.
  *
  * An input is drawn from a seed, its question and its number alone (random.c), with the faults that plan.c plans for it,
- * into lent memory with guard bytes around each piece (lend.c). What is drawn is up to net.c, wire.c, heavy.c, word.c,
+ * into lent memory with guard bytes around each piece (lend.c). What is drawn is up to net.c, wire.c, heavy.c, word.c, running.c,
  * complement.c, summary.c, weighting.c, lists.c, file.c, damage.c, write.c and order.c; ask.c puts the question to both sides;
  * compare.c compares, counts what came, and reports; faults.c and lines.c find which lent thing a refusal comes from, decided.c
  * counts those, and edges.c knows the edges that must come. every.c asks without chance: all short logs of some small nets.
@@ -27,12 +27,13 @@ struct lent {
 };
 
 /* What an input is made of; a question uses a part of it. Index 0 and 1 of the summaries and of the logs are the first and
- * the second one lent, 2 is a summary's room. A whole word is the stretch from 0 to its end. */
+ * the second one lent, 2 is a summary's room. A whole word is the stretch from 0 to its end, and so is a part of a log; cuts are
+ * the ends of a word's parts. */
 struct input {
     size_t places, transitions;
     struct lent pre, post, caps, marks, initial, word, room, weights, set, list, target;
     struct lent need[3], climb[3], change[3];
-    struct lent pre2, post2, caps2, marks2, initial2, file, log[2], order, work;
+    struct lent pre2, post2, caps2, marks2, initial2, file, log[2], order, work, state, cuts;
     size_t summary_places[2], start, end, place, step;
     uint32_t letters[2];
 };
@@ -64,10 +65,10 @@ enum fault {
     CHANGE_LENGTH, CHANGE_LENGTH_1, CHANGE_LENGTH_2, PRE2_LENGTH, POST2_LENGTH, CAPS2_LENGTH, MARKS2_LENGTH,
     INITIAL2_LENGTH, WORK_LENGTH, BAD_START, BAD_END, NOT_THE_NETS, NOT_THE_OTHERS,
     /* 3 */
-    INITIAL_FULL, INITIAL_OVER, LIST_FULL, LIST_OVER, TARGET_FULL, FILE_FULL, FILE_OVER,
+    INITIAL_FULL, INITIAL_OVER, LIST_FULL, LIST_OVER, TARGET_FULL, FILE_FULL, FILE_OVER, STATE_MANY, STATE_OVER,
     /* 4 to 10, 13 and 14 */
-    LONG_WORD, LONG_FILE, LONG_LOG, LONG_LOG_1, BAD_LETTER, FILE_LETTER, LOG_LETTER, LOG_LETTER_1, BAD_FIRST, BAD_SECOND,
-    LONG_TOGETHER, ALL_ZERO, NO_MARKING, MANY_MARKINGS, MANY_PLACES, BAD_PLACE, SHORT_ROOM,
+    LONG_WORD, LONG_FILE, LONG_LOG, LONG_LOG_1, LONG_PART, BAD_LETTER, FILE_LETTER, LOG_LETTER, LOG_LETTER_1, BAD_FIRST,
+    BAD_SECOND, LONG_TOGETHER, ALL_ZERO, NO_MARKING, MANY_MARKINGS, MANY_PLACES, BAD_PLACE, BAD_BLOCK, SHORT_ROOM,
     /* 11 */
     LINE_FEED, LINE_EMPTY, LINE_ODD, LINE_LONG, LINE_DIGIT,
     /* 12 */
@@ -145,6 +146,9 @@ void draw_marking(void);
 void break_marking(void);
 void fill_up(uint16_t *marking);
 void fill_over(uint16_t *marking);
+size_t find_place(int has_capacity);
+void suit_caps(void);
+int is_whole_net(void);
 int is_whole(void);
 int enabled_now(const int64_t *m, size_t t);
 void fire_now(int64_t *m, size_t t);
@@ -157,8 +161,20 @@ int is_pocket(size_t p);
 int has_capped_loop(void), has_pocket_loop(void);
 
 /* ---- word.c */
+size_t draw_length(void);
+void draw_word_from(uint8_t *word, size_t length, size_t from, int64_t *m, int fires);
 void draw_word(uint8_t *word, size_t length, size_t from);
+void break_letters(void);
+void draw_net_for(int is_long);
+void bend_for_long_words(void);
 void lend_word(size_t length);
+
+/* ---- running.c */
+
+/* The state that is lent, and the most tokens that its letters fired can have led to. */
+kaunorpi_running *own_state(void);
+int64_t most_tokens_held(void);
+int state_many(void), state_over(void), long_part(void), bad_block(void);
 
 /* ---- write.c */
 size_t count_wide(void);
@@ -181,6 +197,9 @@ void damage_text(void);
 /* ---- Each question's input. */
 void make_replay(void);
 void make_replay_stretch(void);
+void make_start_replay(void);
+void make_replay_part(void);
+void make_cut_replay(void);
 void make_empty(void);
 void make_summary(void);
 void make_summary_stretch(void);

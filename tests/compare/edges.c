@@ -270,6 +270,62 @@ static int heavy_on_last(const struct given *g) {
     return refused(g, 18) && is_last_row() && (file_loose_place() || file_loose_transition());
 }
 
+/* States, and parts on them. */
+static size_t together(void) { return own_state()->fired + in.word.count; }
+static int is_held(void) { return own_state()->blocked != 0; }
+static int holds(int64_t tokens) {
+    for (size_t p = 0; p < in.places; p++)
+        if (own_state()->marking[p] == tokens)
+            return 1;
+    return 0;
+}
+static int held_most(const struct given *g) {
+    return g->kind == KAUNORPI_ANSWERED && own_state()->fired > 0 && holds(most_tokens_held());
+}
+static int held_one_more(const struct given *g) {
+    return refused(g, 3) && own_state()->fired > 0 && holds(most_tokens_held() + 1);
+}
+static int all_together(const struct given *g) { return answered(g, 0) && !is_held() && together() == 65535; }
+static int one_together_more(const struct given *g) { return refused(g, 4) && together() == 65536; }
+static int one_more_held(const struct given *g) { return one_together_more(g) && is_held(); }
+static int most_fired(const struct given *g) { return refused(g, 4) && own_state()->fired == UINT32_MAX; }
+static int held_last(const struct given *g) {
+    return g->kind == KAUNORPI_ANSWERED && is_held() && own_state()->place + 1 == in.places && in.places > 1;
+}
+static int held_past(const struct given *g) { return refused(g, 13) && own_state()->place == in.places; }
+static int held_255(const struct given *g) { return answered(g, 255); }
+static int held_empty(const struct given *g) { return g->kind == KAUNORPI_ANSWERED && is_held() && in.word.count == 0; }
+static int held_letter(const struct given *g) { return refused(g, 5) && is_held() && !bad_block(); }
+static int held_both(const struct given *g) { return refused(g, 5) && bad_block(); }
+static int stops_after(const struct given *g) {
+    return !is_held() && (answered(g, 1) || answered(g, 2)) && g->field[0] > own_state()->fired && own_state()->fired > 0;
+}
+
+/* How a word is cut: the part that letter n is of, and whether it begins or ends there. */
+static size_t part_of(size_t n) {
+    const size_t *ends = own(&in.cuts);
+    size_t k = 0;
+    while (k < in.cuts.count && ends[k] <= n)
+        k++;
+    return k;
+}
+static int is_cut_at(size_t n) {
+    const size_t *ends = own(&in.cuts);
+    return n > 0 && part_of(n - 1) < in.cuts.count && ends[part_of(n - 1)] == n;
+}
+static int stopped(const struct given *g) { return answered(g, 1) || answered(g, 2); }
+static int no_part(const struct given *g) { return answered(g, 0) && in.cuts.count == 0; }
+static int cut_long(const struct given *g) { return all_fired_long(g) && in.cuts.count > 1; }
+static int cut_letters(const struct given *g) { return answered(g, 0) && in.word.count > 8 && in.cuts.count >= in.word.count; }
+static int stops_at_cut(const struct given *g) { return stopped(g) && is_cut_at(g->field[0]); }
+static int stops_before_cut(const struct given *g) {
+    return stopped(g) && is_cut_at(g->field[0] + 1) && part_of(g->field[0]) + 1 < in.cuts.count;
+}
+static int empty_after_stop(const struct given *g) {
+    const size_t *ends = own(&in.cuts);
+    return stopped(g) && in.cuts.count > part_of(g->field[0]) + 1 && ends[in.cuts.count - 2] == in.word.count;
+}
+
 /* The edges of weights, for a question that is lent a net. */
 #define HEAVY(question) \
     {question, "a weight of 4,095", at_limit, 0}, {question, "a weight of 4,096, and none larger", one_over, 0}, \
@@ -304,6 +360,30 @@ static struct edge {
     {"replay_word", "refusals 2 and 3 at once", two_faults, 0},
     {"replay_stretch", "65,535 letters of a longer word", part_of_long, 0},
     {"replay_stretch", "an empty stretch at the word's end", empty_at_end, 0},
+    {"start_replay", "64 places", all_places, 0},
+    {"replay_part", "as many tokens as the letters fired can bring", held_most, 0},
+    {"replay_part", "one token more", held_one_more, 0},
+    {"replay_part", "65,535 letters, those fired and the part", all_together, 0},
+    {"replay_part", "65,536", one_together_more, 0},
+    {"replay_part", "65,536, and a block is held", one_more_held, 0},
+    {"replay_part", "4,294,967,295 letters fired", most_fired, 0},
+    {"replay_part", "a block held at the last place", held_last, 0},
+    {"replay_part", "a block held at the place count", held_past, 0},
+    {"replay_part", "a block held with the cause 255", held_255, 0},
+    {"replay_part", "an empty part where a block is held", held_empty, 0},
+    {"replay_part", "a wrong letter where a block is held", held_letter, 0},
+    {"replay_part", "the same, its place past the places", held_both, 0},
+    {"replay_part", "a later letter of a later part blocked", stops_after, 0},
+    {"replay_part", "64 places", all_places, 0},
+    {"replay_part", "64 transitions", all_transitions, 0},
+    {"cut_replay", "no part at all", no_part, 0},
+    {"cut_replay", "all of 65,535 letters fire, in parts", cut_long, 0},
+    {"cut_replay", "a part for each letter", cut_letters, 0},
+    {"cut_replay", "short after 1,000 letters", short_late, 0},
+    {"cut_replay", "over capacity after 1,000 letters", over_late, 0},
+    {"cut_replay", "blocked at a part's first letter", stops_at_cut, 0},
+    {"cut_replay", "blocked at a part's last letter, and parts after it", stops_before_cut, 0},
+    {"cut_replay", "an empty part after the block", empty_after_stop, 0},
     {"summary_word", "65,535 letters", long_summary, 0},
     {"join_summaries", "65,535 letters together", long_summary, 0},
     {"ask_summary", "64 places", all_places, 0},
@@ -391,6 +471,10 @@ static struct edge {
     HEAVY("replay_word"),
     LOOSE("replay_stretch"),
     HEAVY("replay_stretch"),
+    LOOSE("start_replay"),
+    HEAVY("start_replay"),
+    LOOSE("replay_part"),
+    HEAVY("replay_part"),
     LOOSE("summary_word"),
     HEAVY("summary_word"),
     LOOSE("summary_stretch"),

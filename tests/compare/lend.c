@@ -39,9 +39,10 @@ static size_t other_length(size_t count) {
     }
 }
 
-/* Is the piece's length to be another? A piece that may have any gets another only where several things are broken. */
+/* Is the piece's length to be another? A piece that may have any gets another only where several things are broken; a state has
+ * none that could be told, and the ends of the parts are told to nobody. */
 static int wants_other_length(const struct lent *piece) {
-    if (!wants(2))
+    if (!wants(2) || piece == &in.state || piece == &in.cuts)
         return 0;
     for (int f = 0; f < FAULTS; f++)
         if (faults[f].piece == piece)

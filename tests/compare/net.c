@@ -110,7 +110,7 @@ uint16_t within(size_t p, uint16_t tokens) {
 }
 
 /* A place by chance that has a capacity which tokens can pass, or that has none; NOWHERE if there is no such place. */
-static size_t find_place(int has_capacity) {
+size_t find_place(int has_capacity) {
     const uint16_t *caps = own(&in.caps);
     size_t from = in.caps.count > 0 ? below(in.caps.count) : 0;
     for (size_t i = 0; i < in.caps.count; i++) {
@@ -122,13 +122,13 @@ static size_t find_place(int has_capacity) {
 }
 
 /* Gives a place a capacity, or takes one away, where a planned fault needs such a place. */
-static void suit_caps(void) {
+void suit_caps(void) {
     uint16_t *caps = own(&in.caps);
     if (in.caps.count == 0)
         return;
-    if ((breaks(INITIAL_FULL) || breaks(LIST_FULL)) && find_place(0) == NOWHERE)
+    if ((breaks(INITIAL_FULL) || breaks(LIST_FULL) || breaks(STATE_MANY)) && find_place(0) == NOWHERE)
         caps[below(in.caps.count)] = 65535;
-    if ((breaks(INITIAL_OVER) || breaks(LIST_OVER)) && find_place(1) == NOWHERE)
+    if ((breaks(INITIAL_OVER) || breaks(LIST_OVER) || breaks(STATE_OVER)) && find_place(1) == NOWHERE)
         caps[below(in.caps.count)] = (uint16_t)below(8);
 }
 
@@ -192,9 +192,14 @@ void fire_now(int64_t *m, size_t t) {
         m[p] += change_now(p, t);
 }
 
-/* Are the net's lists and the marking as long as the counts say? */
-int is_whole(void) {
+/* Are the net's lists as long as the counts say? */
+int is_whole_net(void) {
     return in.places >= 1 && in.places <= 64 && in.transitions >= 1 && in.transitions <= 64 &&
            in.pre.count == in.places * in.transitions && in.post.count == in.pre.count && in.caps.count == in.places &&
-           in.marks.count == in.places && in.initial.count == in.places;
+           in.marks.count == in.places;
+}
+
+/* And the marking? */
+int is_whole(void) {
+    return is_whole_net() && in.initial.count == in.places;
 }

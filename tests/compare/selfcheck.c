@@ -7,12 +7,12 @@
 
 enum { NAMED = 24 };
 
-/* The questions that are lent a net and a marking, and those that are lent a net alone. */
+/* The questions that are lent a net and a marking, and those that are lent a net without one; a state is no marking. */
 #define MARKED \
-    "replay_word", "replay_stretch", "ask_summary", "place_bound", "closed_list", "closed_target", "closed_stall", \
-        "cover_list", "cover_target", "complement_net", "case_length", "write_case", "order_logs"
+    "replay_word", "replay_stretch", "start_replay", "ask_summary", "place_bound", "closed_list", "closed_target", \
+        "closed_stall", "cover_list", "cover_target", "complement_net", "case_length", "write_case", "order_logs"
 #define UNMARKED \
-    "summary_word", "summary_stretch", "place_weighting", "transition_weighting", "siphon_set", "trap_set", \
+    "replay_part", "summary_word", "summary_stretch", "place_weighting", "transition_weighting", "siphon_set", "trap_set", \
         "complement_places"
 
 /* The rules by number, what is broken, and where it must show. */
@@ -20,8 +20,8 @@ static const struct {
     int number;
     const char *what, *questions[NAMED];
 } rules[] = {
-    {1, "002's capacity rule: tokens plus Post", {"replay_word"}},
-    {2, "over is named before short", {"replay_word"}},
+    {1, "002's capacity rule: tokens plus Post", {"replay_word", "replay_part", "cut_replay"}},
+    {2, "over is named before short", {"replay_word", "replay_part", "cut_replay"}},
     {3, "refusal 5 counts from the word's first letter", {"replay_stretch"}},
     {4, "need from Change alone", {"summary_word"}},
     {5, "a no writes the room", {"ask_summary"}},
@@ -114,7 +114,8 @@ static const struct {
     {87, "places are not looked at for arcs", {MARKED, UNMARKED, "read_case"}},
     {88, "transitions are not looked at for arcs", {MARKED, UNMARKED, "read_case"}},
     {89, "4 comes before 17",
-     {"replay_word", "replay_stretch", "summary_word", "summary_stretch", "case_length", "write_case", "order_logs"}},
+     {"replay_word", "replay_stretch", "replay_part", "summary_word", "summary_stretch", "case_length", "write_case",
+      "order_logs"}},
     {90, "6 comes before 17", {"ask_summary"}},
     {91, "8 comes before 17", {"place_weighting", "transition_weighting", "place_bound", "siphon_set", "trap_set"}},
     {92, "9 comes before 17", {"closed_list", "closed_target", "closed_stall", "cover_list", "cover_target"}},
@@ -123,12 +124,12 @@ static const struct {
     {95, "17 in a file comes after all its letters", {"read_case"}},
     {96, "a capped place that is only taken from has no complement place", {"complement_places", "complement_net"}},
     {97, "a pocket fires as a plain place",
-     {"replay_word", "replay_stretch", "closed_list", "closed_target", "closed_stall", "order_logs"}},
+     {"replay_word", "replay_stretch", "replay_part", "cut_replay", "closed_list", "closed_target", "closed_stall", "order_logs"}},
     {98, "a pocket's Post is compared with the capacity alone",
-     {"replay_word", "replay_stretch", "closed_list", "closed_target", "closed_stall", "order_logs"}},
+     {"replay_word", "replay_stretch", "replay_part", "cut_replay", "closed_list", "closed_target", "closed_stall", "order_logs"}},
     {99, "a mark of 2 is plain",
-     {"replay_word", "replay_stretch", "summary_word", "summary_stretch", "closed_list", "closed_target", "closed_stall",
-      "complement_places", "complement_net", "case_length", "write_case", "order_logs"}},
+     {"replay_word", "replay_stretch", "replay_part", "cut_replay", "summary_word", "summary_stretch", "closed_list",
+      "closed_target", "closed_stall", "complement_places", "complement_net", "case_length", "write_case", "order_logs"}},
     {100, "a longer list of marks is allowed", {MARKED, UNMARKED}},
     {101, "a pocket without capacity climbs as one with", {"summary_word", "summary_stretch"}},
     {102, "a pocket climbs as a plain place", {"summary_word", "summary_stretch"}},
@@ -149,7 +150,7 @@ static const struct {
     {117, "a frame 06 is written where all places are plain", {"case_length", "write_case"}},
     {118, "no frame 06 is written where no pocket has a capacity", {"case_length", "write_case"}},
     {119, "weights are cut to a byte",
-     {"replay_word", "replay_stretch", "summary_word", "summary_stretch", "place_weighting", "transition_weighting",
+     {"replay_word", "replay_stretch", "replay_part", "cut_replay", "summary_word", "summary_stretch", "place_weighting", "transition_weighting",
       "place_bound", "siphon_set", "trap_set", "closed_list", "closed_target", "closed_stall", "cover_list", "cover_target",
       "complement_places", "complement_net", "read_case", "case_length", "write_case", "order_logs"}},
     {120, "weights of Pre may be over 4,095", {MARKED, UNMARKED}},
@@ -190,6 +191,46 @@ static const struct {
     {155, "18 in a file falls on the line of the last transition", {"read_case"}},
     {156, "weights of Post in a file may be over 4,095", {"read_case"}},
     {157, "the length counts each row as a frame 04", {"case_length"}},
+    {158, "a refused start writes the state", {"start_replay"}},
+    {159, "a start leaves the slots past the places as found", {"start_replay"}},
+    {160, "a start counts a letter as fired", {"start_replay"}},
+    {161, "a start leaves a block's position and place as found", {"start_replay"}},
+    {162, "a start leaves a block as found", {"start_replay"}},
+    {163, "a block's position counts from the part", {"replay_part"}},
+    {164, "letters of a part after a block are counted", {"replay_part"}},
+    {165, "a state's tokens are judged by the capacity alone", {"replay_part"}},
+    {166, "a state's tokens are judged by the letters fired alone", {"replay_part"}},
+    {167, "a wrong letter is let through after a block", {"replay_part"}},
+    {168, "slots past the places are cleared", {"replay_part"}},
+    {169, "13 comes before 5", {"replay_part"}},
+    {170, "4 is not given to a state that holds a block", {"replay_part"}},
+    {171, "as many tokens as the letters can bring are refused", {"replay_part"}},
+    {172, "the tokens that are allowed do not grow with the letters", {"replay_part"}},
+    {173, "one token more than the letters can bring is allowed", {"replay_part"}},
+    {174, "65,535 letters, those fired and the part, are refused", {"replay_part"}},
+    {175, "4 looks at the part alone", {"replay_part"}},
+    {176, "a block may be held at the place count", {"replay_part"}},
+    {177, "13 is given without a block", {"replay_part"}},
+    {178, "another cause than 1 and 2 is no block", {"replay_part"}},
+    {179, "a held cause is handed back as 1 or 2", {"replay_part"}},
+    {180, "the position of 13 is the place", {"replay_part"}},
+    {181, "65,535 is a capacity for a state", {"replay_part"}},
+    {182, "the position of 5 counts from the first part", {"replay_part"}},
+    {183, "a part that fires clears a block's position and place", {"replay_part"}},
+    {184, "a block is not held", {"replay_part"}},
+    {185, "a blocked part leaves the tokens as found", {"replay_part"}},
+    {186, "all letters of a blocked part are counted", {"replay_part"}},
+    {187, "13 comes before 4", {"replay_part"}},
+    {188, "a held block comes before 3", {"replay_part"}},
+    {189, "slots past the places are looked at for 3", {"replay_part"}},
+    {190, "what the letters can bring is cut to 32 bits", {"replay_part"}},
+    {191, "letters fired and part are cut to 32 bits", {"replay_part"}},
+    {192, "the letters that are answered count from the part", {"replay_part"}},
+    {193, "over is held as short", {"replay_part"}},
+    {194, "17 comes before 3 for a state", {"replay_part"}},
+    {195, "18 comes after 3 for a state", {"replay_part"}},
+    {196, "a refused part forgets the block", {"replay_part"}},
+    {197, "an empty part forgets the block", {"replay_part"}},
 };
 
 /* Must the rule show in this question? */

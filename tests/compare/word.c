@@ -3,7 +3,7 @@
 
 /* How many letters: mostly few, now and then at the limit; over it where that is planned, and one at least where a
  * letter is to be faulty. */
-static size_t draw_length(void) {
+size_t draw_length(void) {
     size_t kind = below(1000), least = breaks(BAD_LETTER);
     if (breaks(LONG_WORD))
         return 65536 + (chance(2) ? 0 : below(300));
@@ -14,14 +14,9 @@ static size_t draw_length(void) {
     return least + (kind < 150 ? below(80) : below(13));
 }
 
-/* Letters; those from number `from` on are mostly such as fire one after another from the initial marking. */
-void draw_word(uint8_t *word, size_t length, size_t from) {
+/* Letters; those from number `from` on are mostly such as fire one after another from m, where it is wanted that they fire. */
+void draw_word_from(uint8_t *word, size_t length, size_t from, int64_t *m, int fires) {
     size_t t = in.transitions >= 1 && in.transitions <= 64 ? in.transitions : 64;
-    const uint16_t *initial = own(&in.initial);
-    int64_t m[64];
-    int fires = is_whole() && length <= 65535 && !chance(8);
-    for (size_t p = 0; fires && p < in.places; p++)
-        m[p] = initial[p];
     for (size_t i = 0; i < length; i++) {
         word[i] = (uint8_t)below(t);
         for (int tries = 0; fires && i >= from && tries < 6 && !enabled_now(m, word[i]); tries++)
@@ -32,8 +27,18 @@ void draw_word(uint8_t *word, size_t length, size_t from) {
     }
 }
 
+/* Letters that mostly fire from the initial marking, from number `from` on. */
+void draw_word(uint8_t *word, size_t length, size_t from) {
+    const uint16_t *initial = own(&in.initial);
+    int64_t m[64];
+    int fires = is_whole() && length <= 65535 && !chance(8);
+    for (size_t p = 0; fires && p < in.places; p++)
+        m[p] = initial[p];
+    draw_word_from(word, length, from, m, fires);
+}
+
 /* Makes one or two letters of the stretch name no transition where that is planned. */
-static void break_letters(void) {
+void break_letters(void) {
     size_t t = in.transitions >= 1 && in.transitions <= 64 ? in.transitions : 64, start = in.start, length;
     uint8_t *word = own(&in.word);
     if (!breaks(BAD_LETTER) || in.end > in.word.count || start >= in.end)
@@ -46,7 +51,7 @@ static void break_letters(void) {
 }
 
 /* A net; for a long word mostly a small one, since others take long. */
-static void draw_net_for(int is_long) {
+void draw_net_for(int is_long) {
     if (is_long && !chance(4))
         draw_net_of(1 + below(4), 1 + below(4));
     else
@@ -55,7 +60,7 @@ static void draw_net_for(int is_long) {
 
 /* Bends net and marking so that words of thousands of letters fire: every weight the same, and the marking at the limit
  * that they move away from. Either nothing ever blocks, or a place runs empty, or full, near the word's end. */
-static void bend_for_long_words(void) {
+void bend_for_long_words(void) {
     size_t kind = below(4);
     uint16_t takes = kind == 1 ? 1 : kind == 3 ? (uint16_t)(1 + below(MOST_WEIGHT)) : 0;
     uint16_t puts = kind == 0 ? MOST_WEIGHT : kind == 2 ? 1 : kind == 3 ? takes : 0;

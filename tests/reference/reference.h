@@ -19,6 +19,8 @@ extern int reference_wrong;
 
 __typeof__(kaunorpi_replay_word) reference_replay_word;
 __typeof__(kaunorpi_replay_stretch) reference_replay_stretch;
+__typeof__(kaunorpi_start_replay) reference_start_replay;
+__typeof__(kaunorpi_replay_part) reference_replay_part;
 __typeof__(kaunorpi_empty_summary) reference_empty_summary;
 __typeof__(kaunorpi_summary_word) reference_summary_word;
 __typeof__(kaunorpi_summary_stretch) reference_summary_stretch;
@@ -80,6 +82,10 @@ size_t reference_weights_fault(const struct net *net, const uint16_t *marking);
 size_t reference_tokens_fault(const struct net *net, const uint16_t *marking);
 size_t reference_loose_fault(const struct net *net);
 size_t reference_letters_fault(const struct net *net, const uint8_t *word, size_t start, size_t end);
+
+/* ---- Shared by replay.c and running.c. */
+kaunorpi_replay reference_play(const struct net *net, int64_t *m, const uint8_t *word, size_t start, size_t end,
+                               size_t first);
 
 /* ---- The two ways of order.c, for logs that are right: is there an order that fires, and if so, the one to be given. */
 int reference_try_orders(KAUNORPI_NET, const uint16_t *initial, const uint8_t *first, size_t first_len,

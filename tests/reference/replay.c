@@ -1,25 +1,28 @@
 /* Replay of a word and of a stretch. */
 #include "reference.h"
 
-/* The letters from start to end, one after another; the marking after the last letter fired goes to the room. */
+/* The letters from start to end, one after another, at m; the first of them has the number `first`. */
+kaunorpi_replay reference_play(const struct net *net, int64_t *m, const uint8_t *word, size_t start, size_t end,
+                               size_t first) {
+    for (size_t i = start; i < end; i++) {
+        size_t lacks = reference_short(net, m, word[i]), over = reference_over(net, m, word[i]);
+        if (lacks != NOWHERE && RULE(2, 1, over == NOWHERE))
+            return (kaunorpi_replay){KAUNORPI_ANSWERED, 1, first + (i - start), lacks};
+        if (over != NOWHERE)
+            return (kaunorpi_replay){KAUNORPI_ANSWERED, 2, first + (i - start), over};
+        reference_fire(net, m, word[i]);
+    }
+    return (kaunorpi_replay){KAUNORPI_ANSWERED, 0, first + (end - start), 0};
+}
+
+/* A stretch from the initial marking; the marking after the last letter fired goes to the room. */
 static kaunorpi_replay play(const struct net *net, const uint16_t *initial, const uint8_t *word, size_t start,
                             size_t end, uint32_t *room) {
-    kaunorpi_replay answer = {KAUNORPI_ANSWERED, 0, end - start, 0};
+    kaunorpi_replay answer;
     int64_t m[64];
     for (size_t p = 0; p < net->places; p++)
         m[p] = initial[p];
-    for (size_t i = start; i < end; i++) {
-        size_t lacks = reference_short(net, m, word[i]), over = reference_over(net, m, word[i]);
-        if (lacks != NOWHERE && RULE(2, 1, over == NOWHERE)) {
-            answer = (kaunorpi_replay){KAUNORPI_ANSWERED, 1, i - start, lacks};
-            break;
-        }
-        if (over != NOWHERE) {
-            answer = (kaunorpi_replay){KAUNORPI_ANSWERED, 2, i - start, over};
-            break;
-        }
-        reference_fire(net, m, word[i]);
-    }
+    answer = reference_play(net, m, word, start, end, 0);
     for (size_t p = 0; p < net->places; p++)
         room[p] = (uint32_t)m[p];
     return answer;
