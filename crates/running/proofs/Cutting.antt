@@ -293,6 +293,12 @@ slots-stay net s w slots = after-part net s w Slotted slots (λ a k. long) (λ a
     long : length (next net s w) ≡ countLimit
     long = length-sets (s .marking) 0 (playFrom net (s .fired) (held net s) w .left) ∙ slots
 
+pub tails-stay : (net : Net) (f : Fed) (parts : List (List ℕ)) → Slotted (f .state) → drop (net .places) (fedAll net f parts .state .marking) ≡ drop (net .places) (f .state .marking)
+unfolding fedAll
+tails-stay net f [] slots = refl
+tails-stay net f (v ∷ vs) slots =
+    tails-stay net (fedOf net (f .state) v) vs (slots-stay net (f .state) v slots) ∙ tail-stays net (f .state) v slots
+
 -- ---- after a block
 -- an answer that tells a block comes with the state that holds it
 Told : Fed → Type 0

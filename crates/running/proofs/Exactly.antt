@@ -18,7 +18,7 @@ use Rattle.net.specs.Letter.{arcsAt, passes, firedAt}
 use Rattle.refusals.specs.Given.{markedFault, badLetter, Letters}
 use Rattle.refusals.specs.First.{First, Given, GivenAt, LooseFirst, CountsFirst}
 use Rattle.refusals.specs.declared.Fault.{Fault}
-use Rattle.refusals.specs.declared.Fault.the-variants.{Sound}
+use Rattle.refusals.specs.declared.Fault.the-variants.{Sound, Faulty}
 use Rattle.refusals.proofs.Chains.{sound-or, sound-refuse}
 use Rattle.refusals.proofs.Refusals.{marked-met, met-marked, met-counts, met-loose}
 use Rattle.refusals.proofs.Exactly.{Answers, answers-of, Chain, Reads, reads-test, reads-both, reads-all, tells-as, tells-test, tells-scan, counts-reads, loose-reads, marked-reads, fault-is, exactly-refused, is-answered, is-allowed}
@@ -171,6 +171,17 @@ module _ (net : Net) (s : Running) (w : List ℕ) where
 
     pub answered-allowed : ((n at : ℕ) → r ≡ Refused n at → ⊥) → Allowed net s w
     answered-allowed = is-allowed answers (sound-allowed net s w)
+
+    pub refused-unless : (Allowed net s w → ⊥) → (n : ℕ) × (at : ℕ) × (r ≡ Refused n at)
+    refused-unless h = go (partFault net s w) refl
+      where
+        go : (f : Fault) → partFault net s w ≡ f → (n : ℕ) × (at : ℕ) × (r ≡ Refused n at)
+        go Sound e = absurd (h (sound-allowed net s w e))
+        go (Faulty n at) e = (n, at, answers .given n at e)
+
+    -- "A part with a wrong letter is refused, blocked or not."
+    pub wrong-letter : (Letters (net .transitions) w → ⊥) → (n : ℕ) × (at : ℕ) × (r ≡ Refused n at)
+    wrong-letter h = refused-unless (λ a. h (a .letters))
 
 -- ---- the start
 module _ (net : Net) (initial : List ℕ) where

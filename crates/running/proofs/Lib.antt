@@ -5,3 +5,4 @@ pub mod Starts
 pub mod Exactly
 pub mod Cutting
 pub mod Meaning
+pub mod Unread

@@ -1,6 +1,6 @@
 -- What the answer to a part means, over the published relation: the part is played from the state's marking. Assumes nothing.
 use Prim.Native.Nat.{ℕ, _+_, _<_}
-use mathlib.Core.Path.{_≡_, refl}
+use mathlib.Core.Path.{_≡_, refl, ap, _∙_}
 use mathlib.Core.List.{List}
 use mathlib.Core.Logic.{_↔_}
 use native.Mathlib.Omega.{arith}
@@ -19,7 +19,8 @@ use Rattle.running.specs.Cutting.{Slotted, Resumed, BlockedBy}
 use Rattle.running.specs.declared.Running.{Running}
 use Rattle.running.specs.declared.Part.{Part}
 use Rattle.running.specs.declared.Part.the-variants.{Fired, Blocked}
-use Rattle.running.proofs.Cutting.{fed-fires, fed-stops, next-held, held-within, part-ending}
+use Rattle.running.specs.declared.Fed.{Fed}
+use Rattle.running.proofs.Cutting.{fed-stuck, fed-fires, fed-stops, next-held, held-within, part-ending}
 
 -- how a part ended, of the state s′ and the answer r that it left
 data Went (net : Net) (s : Running) (w : List ℕ) (s′ : Running) (r : Part) : Type 0 where
@@ -85,3 +86,9 @@ module _ (net : Net) (s : Running) (w : List ℕ) (a : Allowed net s w) (slots :
 
     pub part-within : Within net (held net s′)
     part-within = within-stays (resumes .longest .fires) (held-within net s w a slots)
+
+-- "A block held in a lent state is handed back as it stands"
+pub handed-back : (net : Net) (s : Running) (w : List ℕ) → Allowed net s w → (s .blocked ≡ 0 → ⊥) → (s′ : Running) (r : Part) → Promised net s w s′ r → (s′ ≡ s) × (r ≡ Blocked (s .blocked) (s .position) (s .place))
+handed-back net s w a b s′ r p =
+    let e = fed-stuck net s w a b in
+    (p .0 ∙ ap (λ (f : Fed). f .state) e, p .1 ∙ ap (λ (f : Fed). f .answer) e)

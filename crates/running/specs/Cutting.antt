@@ -58,3 +58,12 @@ pub record BlockedBy (net : Net) (s : Running) (w : List ℕ) (s′ : Running) (
   pub counted : position ≡ s .fired + letter
   pub caused : number ≡ causeNumber why
   pub placed : place ≡ causePlace why
+
+-- two states and answers that differ at most in the slots past the net's places
+pub record Alike (net : Net) (f g : Fed) : Type 0 where
+  pub answer : f .answer ≡ g .answer
+  pub marking : held net (f .state) ≡ held net (g .state)
+  pub fired : f .state .fired ≡ g .state .fired
+  pub position : f .state .position ≡ g .state .position
+  pub place : f .state .place ≡ g .state .place
+  pub blocked : f .state .blocked ≡ g .state .blocked
