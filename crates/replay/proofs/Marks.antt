@@ -18,7 +18,7 @@ use Rattle.plays.specs.declared.Replay.{Replay}
 use Rattle.replay.proofs.Meaning.{unique}
 
 module _ (net : Net) (marks : List ℕ) (alike : MarksAlike (net .caps) (net .marks) marks) where
-  same-play : (i : ℕ) (m w : List ℕ) → playFrom net i m w ≡ playFrom (remarked net marks) i m w
+  pub same-play : (i : ℕ) (m w : List ℕ) → playFrom net i m w ≡ playFrom (remarked net marks) i m w
   unfolding playFrom
   same-play i m [] = refl
   same-play i m (t ∷ w) = go (judgeAt net t m) refl (same-play (i + 1) (firedAt net t m) w)

@@ -30,8 +30,9 @@ use Rattle.replay.proofs.Meaning as replayed
 use Rattle.running.specs.State.{held, isBlocked, partFault, causePlace, blockedAt, wentOn, playedOn, heldBlock, fedBy, fedOf}
 use Rattle.running.specs.Entry.{freshAt, empty, startOf, StartAllowed, numbers, TokensAt, Allowed}
 use Rattle.running.specs.Cutting as cut
-use Rattle.running.specs.Cutting.{Slotted, fedAll, Agrees}
+use Rattle.running.specs.Cutting.{Slotted, fedAll, Calls, no-call, then-call, Agrees}
 use Rattle.running.specs.declared.Running.{Running}
+use Rattle.running.specs.declared.Part.{Part}
 use Rattle.running.specs.declared.Part.the-variants.{Fired, Blocked, Refused}
 use Rattle.running.specs.declared.Fed.{Fed}
 use Rattle.running.proofs.Fronts.{front-long, front-set}
@@ -416,6 +417,14 @@ module _ (net : Net) (s : Running) (w : List ℕ) (a : Allowed net s w) (slots :
           told (Over p) = refl
       go (replay.Refused n at) e = absurd (play-refuses net (s .fired) (held net s) w n at e)
 
+-- ---- calls, one for each part, come to the same
+pub calls-fed : (net : Net) {s s′ : Running} {r r′ : Part} {parts : List (List ℕ)} → Calls net s r parts s′ r′ → record { state = s′; answer = r′ } ≡ fedAll net (record { state = s; answer = r }) parts
+unfolding fedAll
+calls-fed net no-call = refl
+calls-fed net {s} {s′} {r} {r′} (then-call {s₁ = s₁} {r₁ = r₁} {u = u} {us = us} p c) =
+    let e : record { state = s₁; answer = r₁ } ≡ fedOf net s u = rw (p .0, p .1) in
+    calls-fed net c ∙ ap (λ (f : Fed). fedAll net f us) e
+
 -- ---- any cutting
 module _ (net : Net) (initial : List ℕ) (a : StartAllowed net initial) (parts : List (List ℕ)) (short : length (cut.whole parts) ≤ wordLimit)
     (letters : Letters (net .transitions) (cut.whole parts)) where
@@ -450,7 +459,12 @@ module _ (net : Net) (initial : List ℕ) (a : StartAllowed net initial) (parts 
       let y : m ≡ playFrom net 0 initial (cut.whole parts) .left = rw f at (p .left) in
       rw (x, y) cutting-plays
 
--- after the front parts, whatever they are, the others are allowed, so that nothing is refused on the way
+  -- so with calls that keep their promise, begun with what `start_replay` gave
+  pub calls-agree : (f : Fed) → f ≡ startOf net initial → (s : Running) (x : Part) → Calls net (f .state) (f .answer) parts s x → (room : List ℕ) (r : Replay) (m : List ℕ) → length room ≡ net .places → Replayed net initial (cut.whole parts) true room r m → Agrees net (record { state = s; answer = x }) r m
+  calls-agree f e s x c room r m l p =
+      subst (λ (g : Fed). Agrees net g r m) (sym (calls-fed net c ∙ ap (λ (g : Fed). fedAll net g parts) e)) (any-cutting room r m l p)
+
+-- after the first parts, whatever they are, the others are allowed, so that nothing is refused on the way
 module _ (net : Net) (initial : List ℕ) (a : StartAllowed net initial) (us vs : List (List ℕ)) (short : length (cut.whole (us ++ vs)) ≤ wordLimit)
     (letters : Letters (net .transitions) (cut.whole (us ++ vs))) where
   both-allowed : Allowed net (fresh initial) (cut.whole us ++ cut.whole vs)

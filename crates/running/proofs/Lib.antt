@@ -6,3 +6,4 @@ pub mod Exactly
 pub mod Cutting
 pub mod Meaning
 pub mod Unread
+pub mod Marks

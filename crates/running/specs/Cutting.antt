@@ -12,8 +12,9 @@ use Rattle.plays.specs.declared.Replay.the-variants.{Fired, Blocked, Refused}
 use Rattle.replay.specs.Entry as replay
 use Rattle.replay.specs.Entry.{Longest}
 use Rattle.running.specs.State.{held, causePlace, fedOf}
-use Rattle.running.specs.Entry.{numbers}
+use Rattle.running.specs.Entry.{numbers, Promised}
 use Rattle.running.specs.declared.Running.{Running}
+use Rattle.running.specs.declared.Part.{Part}
 use Rattle.running.specs.declared.Fed.{Fed}
 
 -- a state has a slot for each place that a net can have, as its array does
@@ -29,6 +30,11 @@ whole (u ∷ us) = u ++ whole us
 unfoldable pub fedAll : Net → Fed → List (List ℕ) → Fed
 fedAll net f [] = f
 fedAll net f (u ∷ us) = fedAll net (fedOf net (f .state) u) us
+
+-- calls that keep their promise, one for each part, on one state: s and r before the first of them, s′ and r′ after the last
+pub data Calls (net : Net) : Running → Part → List (List ℕ) → Running → Part → Type 0 where
+  no-call : {s : Running} {r : Part} → Calls net s r [] s r
+  then-call : {s s₁ s′ : Running} {r r₁ r′ : Part} {u : List ℕ} {us : List (List ℕ)} → Promised net s u s₁ r₁ → Calls net s₁ r₁ us s′ r′ → Calls net s r (u ∷ us) s′ r′
 
 -- a state holds the block of a replay's answer, or none
 abbrev pub HoldsBlock : Running → Replay → Type 0
