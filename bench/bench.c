@@ -27,9 +27,8 @@ SIDE(order_logs)
 
 /* What is lent. */
 static volatile size_t P, T, cells, letters, entries, file_size, wide, log_length[2];
-static uint8_t pre[4096], post[4096], word[65535], file[KAUNORPI_FILE_LIMIT], logs[2][KAUNORPI_MOST_LOG];
-static uint16_t caps[64], initial[64], list[4096 * 64];
-static uint8_t marks[64];
+static uint16_t pre[4096], post[4096], caps[64], initial[64], list[4096 * 64];
+static uint8_t marks[64], word[65535], file[KAUNORPI_FILE_LIMIT], logs[2][KAUNORPI_MOST_LOG];
 static int16_t weights[64];
 static uint32_t need[2][64], climb[2][64];
 static int32_t change[2][64];
@@ -40,9 +39,8 @@ static struct written {
     uint64_t answer[4];
     uint32_t room[64], need[64], climb[64];
     int32_t change[64];
-    uint16_t caps[64], initial[64];
-    uint8_t marks[64], pre[4096], post[4096], word[65535], file[KAUNORPI_FILE_LIMIT], order[2 * KAUNORPI_MOST_LOG];
-    uint8_t work[KAUNORPI_WORK_SPACE];
+    uint16_t caps[64], initial[64], pre[4096], post[4096];
+    uint8_t marks[64], word[65535], file[KAUNORPI_FILE_LIMIT], order[2 * KAUNORPI_MOST_LOG], work[KAUNORPI_WORK_SPACE];
 } out[2];
 
 #define NET P, T, pre, cells, post, cells, caps, P, marks, P
@@ -137,9 +135,9 @@ static void make_ring(size_t places) {
     cells = places * 64;
     for (size_t t = 0; t < 64; t++)
         for (size_t p = 0; p < places; p++) {
-            uint8_t loop = (uint8_t)below(3);
-            pre[t * places + p] = (uint8_t)(loop + (p == t % places));
-            post[t * places + p] = (uint8_t)(loop + (p == (t + 1) % places));
+            uint16_t loop = (uint16_t)below(3);
+            pre[t * places + p] = (uint16_t)(loop + (p == t % places));
+            post[t * places + p] = (uint16_t)(loop + (p == (t + 1) % places));
         }
     for (size_t p = 0; p < places; p++) {
         caps[p] = p % 2 ? 65534 : 65535;
@@ -161,6 +159,15 @@ static void make_pockets(void) {
     make_word();
     for (size_t p = 1; p < 64; p += 4)
         marks[p] = 1;
+}
+
+/* The same in kilograms: each transition takes 1,000 more from every place, and puts them back. */
+static void make_kilograms(void) {
+    make_word();
+    for (size_t k = 0; k < cells; k++) {
+        pre[k] = (uint16_t)(pre[k] + 1000);
+        post[k] = (uint16_t)(post[k] + 1000);
+    }
 }
 
 /* A small net and a short word: what a clerk's case file says. */
@@ -234,8 +241,8 @@ static void make_comb(void) {
     caps[0] = caps[1] = 65535;
     initial[0] = 1;
     initial[1] = 0;
-    memset(pre, 0, cells);
-    memset(post, 0, cells);
+    memset(pre, 0, sizeof pre);
+    memset(post, 0, sizeof post);
     pre[0] = pre[2] = post[2] = post[5] = 1;
     memset(logs, 2, sizeof logs);
     logs[0][0] = 0;
@@ -323,6 +330,12 @@ static void make_file(void) {
     file_size = same_write_case(NET, initial, P, word, letters, file, sizeof file).length;
 }
 
+/* The same with a frame 07 for each transition. */
+static void make_wide_file(void) {
+    make_kilograms();
+    file_size = same_write_case(NET, initial, P, word, letters, file, sizeof file).length;
+}
+
 /* A row: the question, its size, its input, how it is asked, in how many rounds of how many calls. */
 struct row {
     const char *question, *size;
@@ -334,12 +347,15 @@ struct row {
 static const struct row rows[] = {
     {"replay_word", "65,535 letters, 64 places", make_word, ask_replay, 60, 1},
     {"replay_word", "the same, half of the capped places pockets", make_pockets, ask_replay, 60, 1},
+    {"replay_word", "the same, weights of 1,000 and more", make_kilograms, ask_replay, 60, 1},
     {"summary_word", "65,535 letters, 64 places", make_word, ask_summary, 12, 1},
     {"join_summaries", "64 places", make_halves, ask_join, 300, 200},
     {"place_weighting", "64 places, 64 transitions, invariant", make_word, ask_weighting, 300, 20},
     {"complement_net", "32 capped places, 64 transitions", make_capped, ask_complement, 300, 20},
-    {"read_case", "the largest file, 151 KB", make_file, ask_case, 100, 1},
-    {"write_case", "the largest file, 151 KB", make_word, ask_write, 100, 1},
+    {"read_case", "64 places, 64 transitions, 65,535 letters: 151 KB", make_file, ask_case, 100, 1},
+    {"read_case", "the same with frames 07: the largest file, 168 KB", make_wide_file, ask_case, 100, 1},
+    {"write_case", "64 places, 64 transitions, 65,535 letters: 151 KB", make_word, ask_write, 100, 1},
+    {"write_case", "the same with frames 07: the largest file, 168 KB", make_kilograms, ask_write, 100, 1},
     {"write_case", "4 places, 4 transitions, 100 letters", make_small, ask_write, 300, 200},
     {"order_logs", "200 letters of one word, 4 places", make_logs, ask_order, 100, 10},
     {"order_logs", "255 letters each that fire at once, 64 places", make_straight, ask_order, 100, 10},

@@ -25,8 +25,30 @@ struct fault {
     size_t at;
 };
 
+/* 1 where one of the two weights is over the limit. */
+static inline uint32_t over_at(uint32_t limit, uint16_t takes, uint16_t puts) {
+    return (limit < takes) | (limit < puts);
+}
+
+/* Whether a row of Pre, or the row of Post beside it, has a weight over the limit: one plain pass, with no way out on the
+ * way. */
+static inline int has_over(uint32_t limit, const uint16_t *takes, const uint16_t *puts, size_t places) {
+    uint32_t over = 0;
+    for (size_t p = 0; p < places; p++)
+        over += over_at(limit, takes[p], puts[p]);
+    return over > 0;
+}
+
+/* Refusal 18: the lowest transition with a weight over what is allowed. */
+static inline struct fault weights_fault(size_t places, size_t transitions, const uint16_t *pre, const uint16_t *post) {
+    for (size_t t = 0; t < transitions; t++)
+        if (has_over(KAUNORPI_MOST_WEIGHT, pre + t * places, post + t * places, places))
+            return (struct fault){18, t};
+    return (struct fault){0, 0};
+}
+
 /* Refusals 1 and 2 for a net. */
-static inline struct fault counts_fault(KAUNORPI_NET, int fits) {
+static inline struct fault sized_fault(KAUNORPI_NET, int fits) {
     (void)pre, (void)post, (void)caps, (void)marks;
     if (places < 1 || places > 64 || transitions < 1 || transitions > 64)
         return (struct fault){1, 0};
@@ -36,8 +58,15 @@ static inline struct fault counts_fault(KAUNORPI_NET, int fits) {
     return (struct fault){0, 0};
 }
 
+/* Refusals 1, 2 and 18. */
+static inline struct fault counts_fault(KAUNORPI_NET, int fits) {
+    struct fault found =
+        sized_fault(places, transitions, pre, pre_len, post, post_len, caps, caps_len, marks, marks_len, fits);
+    return found.number == 0 ? weights_fault(places, transitions, pre, post) : found;
+}
+
 /* Whether no transition has an arc with this place. */
-static inline int is_loose_place(size_t places, size_t transitions, const uint8_t *pre, const uint8_t *post, size_t p) {
+static inline int is_loose_place(size_t places, size_t transitions, const uint16_t *pre, const uint16_t *post, size_t p) {
     for (size_t t = 0; t < transitions; t++)
         if (pre[t * places + p] != 0 || post[t * places + p] != 0)
             return 0;
@@ -45,7 +74,7 @@ static inline int is_loose_place(size_t places, size_t transitions, const uint8_
 }
 
 /* Whether no place has an arc with this transition. */
-static inline int is_loose_transition(size_t places, const uint8_t *pre, const uint8_t *post, size_t t) {
+static inline int is_loose_transition(size_t places, const uint16_t *pre, const uint16_t *post, size_t t) {
     for (size_t p = 0; p < places; p++)
         if (pre[t * places + p] != 0 || post[t * places + p] != 0)
             return 0;
@@ -53,7 +82,7 @@ static inline int is_loose_transition(size_t places, const uint8_t *pre, const u
 }
 
 /* Refusal 17. */
-static inline struct fault loose_fault(size_t places, size_t transitions, const uint8_t *pre, const uint8_t *post) {
+static inline struct fault loose_fault(size_t places, size_t transitions, const uint16_t *pre, const uint16_t *post) {
     size_t p = 0, t = 0;
     while (p < places && !is_loose_place(places, transitions, pre, post, p))
         p++;
@@ -62,7 +91,7 @@ static inline struct fault loose_fault(size_t places, size_t transitions, const 
     return p < places ? (struct fault){17, p} : t < transitions ? (struct fault){17, 64 + t} : (struct fault){0, 0};
 }
 
-/* Refusals 1, 2 and 17 for a net. */
+/* Refusals 1, 2, 18 and 17 for a net. */
 static inline struct fault net_fault(KAUNORPI_NET, int fits) {
     struct fault found =
         counts_fault(places, transitions, pre, pre_len, post, post_len, caps, caps_len, marks, marks_len, fits);
@@ -74,7 +103,7 @@ static inline int is_bad_token(uint16_t cap, uint16_t tokens) {
     return tokens > 65534 || tokens > cap;
 }
 
-/* Refusals 1, 2 and 3 for a net and its initial marking. */
+/* Refusals 1, 2, 18 and 3 for a net and its initial marking. */
 static inline struct fault start_fault(KAUNORPI_NET, const uint16_t *initial, size_t initial_len, int fits) {
     struct fault found = counts_fault(places, transitions, pre, pre_len, post, post_len, caps, caps_len, marks, marks_len,
                                       fits && initial_len == places);
@@ -84,7 +113,7 @@ static inline struct fault start_fault(KAUNORPI_NET, const uint16_t *initial, si
     return found;
 }
 
-/* Refusals 1, 2, 3 and 17. */
+/* Refusals 1, 2, 18, 3 and 17. */
 static inline struct fault marked_fault(KAUNORPI_NET, const uint16_t *initial, size_t initial_len, int fits) {
     struct fault found = start_fault(places, transitions, pre, pre_len, post, post_len, caps, caps_len, marks, marks_len,
                                      initial, initial_len, fits);
@@ -102,7 +131,7 @@ static inline struct fault word_fault(size_t transitions, const uint8_t *word, s
 }
 
 /* Of what is taken from a place, what leaves before anything arrives: from a pocket nothing. */
-static inline uint8_t leaves(uint8_t mark, uint8_t takes) {
+static inline uint16_t leaves(uint8_t mark, uint16_t takes) {
     return mark == 0 ? takes : 0;
 }
 
@@ -112,18 +141,18 @@ static inline uint8_t mark_in_force(uint16_t cap, uint8_t mark) {
 }
 
 /* How far a place rises above its tokens. */
-static inline uint8_t rise(uint8_t mark, uint8_t takes, uint8_t puts) {
-    uint8_t left = leaves(mark, takes);
-    return puts < left ? 0 : (uint8_t)(puts - left);
+static inline uint16_t rise(uint8_t mark, uint16_t takes, uint16_t puts) {
+    uint16_t left = leaves(mark, takes);
+    return puts < left ? 0 : (uint16_t)(puts - left);
 }
 
 /* One place has a capacity and would hold more. */
-static inline int is_over(uint8_t takes, uint8_t puts, uint16_t cap, uint8_t mark, uint32_t tokens) {
+static inline int is_over(uint16_t takes, uint16_t puts, uint16_t cap, uint8_t mark, uint32_t tokens) {
     return (cap < 65535) & ((uint32_t)cap + leaves(mark, takes) < tokens + puts);
 }
 
 /* Whether a letter passes: one plain pass over the places, with no way out on the way. */
-static inline int may_fire(const uint8_t *takes, const uint8_t *puts, const uint16_t *caps, const uint8_t *marks,
+static inline int may_fire(const uint16_t *takes, const uint16_t *puts, const uint16_t *caps, const uint8_t *marks,
                            const uint32_t *marking, size_t places) {
     uint32_t stopped = 0;
     for (size_t p = 0; p < places; p++)
@@ -132,7 +161,7 @@ static inline int may_fire(const uint8_t *takes, const uint8_t *puts, const uint
 }
 
 /* Fires a letter in place. */
-static inline void fire(const uint8_t *restrict takes, const uint8_t *restrict puts, uint32_t *restrict marking,
+static inline void fire(const uint16_t *restrict takes, const uint16_t *restrict puts, uint32_t *restrict marking,
                         size_t places) {
     for (size_t p = 0; p < places; p++)
         marking[p] = marking[p] + puts[p] - takes[p];

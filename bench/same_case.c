@@ -1,5 +1,6 @@
-/* The case file reader, as crates/file_digits, crates/file_line, crates/file_parts and crates/file_entry do it: a line is found, its
- * digits are checked, it is judged by its kind, then stored, into rooms of our own that are copied at the end. */
+/* The case file reader, as crates/file_digits, crates/file_row, crates/file_line, crates/file_parts and crates/file_entry do it: a
+ * line is found, its digits are checked, it is judged by its kind, then stored, into rooms of our own that are copied at the
+ * end. */
 #include "same.h"
 
 struct reading {
@@ -8,8 +9,8 @@ struct reading {
 };
 
 struct rooms {
-    uint16_t caps[64], initial[64];
-    uint8_t marks[64], pre[4096], post[4096], word[65535];
+    uint16_t caps[64], initial[64], pre[4096], post[4096];
+    uint8_t marks[64], word[65535];
 };
 
 /* Whether a byte is one of 0-9 and A-F. */
@@ -34,7 +35,7 @@ static inline uint16_t word_at(const uint8_t *d, size_t i) {
 
 /* The digit rule. */
 static int rule(const uint8_t *d, size_t n) {
-    if (n < 2 || n > 260 || n % 2 == 1)
+    if (n < 2 || n > 516 || n % 2 == 1)
         return 0;
     for (size_t i = 0; i < n; i++)
         if (!is_digit(d[i]))
@@ -67,6 +68,21 @@ static uint8_t tokens_line(const struct reading *s, const uint8_t *d, const uint
             return 3;
     }
     return 0;
+}
+
+/* Whether an 07 has a weight over a limit: one plain pass over its digits. */
+static int digits_over(uint32_t limit, const uint8_t *d, size_t places) {
+    uint32_t over = 0;
+    for (size_t p = 0; p < places; p++)
+        over += over_at(limit, word_at(d, 2 + 2 * p), word_at(d, 2 + 2 * places + 2 * p));
+    return over > 0;
+}
+
+/* 07: a weight is over 255, and none over what is allowed. */
+static uint8_t wide_line(const struct reading *s, const uint8_t *d, size_t n) {
+    if (s->phase != 4 || n != 4 + 8 * s->places || byte_at(d, 1) != s->next || !digits_over(255, d, s->places))
+        return 12;
+    return digits_over(KAUNORPI_MOST_WEIGHT, d, s->places) ? 18 : 0;
 }
 
 /* 05 with 1 to 64 letters, which are looked at in one plain pass. */
@@ -102,9 +118,29 @@ static uint8_t judge(const struct reading *s, const uint8_t *d, size_t n, const 
         return letters_line(s, d, n);
     case 6:
         return marks_line(s, d, n);
+    case 7:
+        return wide_line(s, d, n);
     default:
         return 12;
     }
+}
+
+/* One weight of a row, from byte i on: of a byte in a 04, of two in an 07. */
+static inline uint16_t weight_at(uint8_t kind, const uint8_t *d, size_t i) {
+    return kind == 7 ? word_at(d, i) : byte_at(d, i);
+}
+
+/* A row of weights from byte `from` on. */
+static void store_weights(uint8_t kind, const uint8_t *d, size_t from, uint16_t *room, size_t places) {
+    size_t bytes = kind == 7 ? 2 : 1;
+    for (size_t p = 0; p < places; p++)
+        room[p] = weight_at(kind, d, from + bytes * p);
+}
+
+/* Both rows of a frame. */
+static void store_row(const struct reading *s, uint8_t kind, const uint8_t *d, struct rooms *r) {
+    store_weights(kind, d, 2, r->pre + s->next * s->places, s->places);
+    store_weights(kind, d, 2 + (kind == 7 ? 2 : 1) * s->places, r->post + s->next * s->places, s->places);
 }
 
 /* The stores of an accepted line. */
@@ -119,10 +155,8 @@ static void store(const struct reading *s, const uint8_t *d, size_t n, struct ro
             r->initial[p] = word_at(d, 1 + 2 * p);
         break;
     case 4:
-        for (size_t p = 0; p < s->places; p++)
-            r->pre[s->next * s->places + p] = byte_at(d, 2 + p);
-        for (size_t p = 0; p < s->places; p++)
-            r->post[s->next * s->places + p] = byte_at(d, 2 + s->places + p);
+    case 7:
+        store_row(s, byte_at(d, 0), d, r);
         break;
     case 5:
         for (size_t i = 0; i < n / 2 - 1; i++)
@@ -141,6 +175,7 @@ static struct reading advance(struct reading s, const uint8_t *d, size_t n) {
     case 1:
         return (struct reading){2, 0, byte_at(d, 1), byte_at(d, 2), 0, 0, s.line};
     case 4:
+    case 7:
         s.next++;
         s.phase = s.next == s.transitions ? 5 : 4;
         return s;
@@ -158,7 +193,7 @@ static struct reading advance(struct reading s, const uint8_t *d, size_t n) {
 
 /* 17: with the line of the last transition stored, a node has no arc. */
 static int is_loose(const struct reading *s, const uint8_t *d, const struct rooms *r) {
-    return byte_at(d, 0) == 4 && s->next + 1 == s->transitions &&
+    return (byte_at(d, 0) == 4 || byte_at(d, 0) == 7) && s->next + 1 == s->transitions &&
            loose_fault(s->places, s->transitions, r->pre, r->post).number != 0;
 }
 
@@ -186,8 +221,8 @@ static uint8_t read_lines(struct reading *s, const uint8_t *file, size_t file_le
 
 /* Refusal 2, the file, then the copy. */
 kaunorpi_case same_read_case(const uint8_t *file, size_t file_len, uint16_t *caps, size_t caps_len, uint8_t *marks,
-                             size_t marks_len, uint16_t *initial, size_t initial_len, uint8_t *pre, size_t pre_len,
-                             uint8_t *post, size_t post_len, uint8_t *word, size_t word_len) {
+                             size_t marks_len, uint16_t *initial, size_t initial_len, uint16_t *pre, size_t pre_len,
+                             uint16_t *post, size_t post_len, uint8_t *word, size_t word_len) {
     struct reading s = {1, 0, 0, 0, 0, 0, 0};
     struct rooms r = {{0}, {0}, {0}, {0}, {0}, {0}};
     uint8_t number;

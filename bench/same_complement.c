@@ -3,10 +3,10 @@
 
 /* All transitions' weights: what is kept, then at each place that gets a new one what the other row has more, and of a pocket
  * all of it. */
-static void write_rows(size_t places, size_t transitions, size_t wide, const uint8_t *kept, const uint8_t *other,
-                       const uint8_t *marks, const size_t *sources, uint8_t *room) {
+static void write_rows(size_t places, size_t transitions, size_t wide, const uint16_t *kept, const uint16_t *other,
+                       const uint8_t *marks, const size_t *sources, uint16_t *room) {
     for (size_t t = 0; t < transitions; t++) {
-        const uint8_t *k = kept + t * places, *o = other + t * places;
+        const uint16_t *k = kept + t * places, *o = other + t * places;
         size_t at = t * wide;
         for (size_t p = 0; p < places; p++)
             room[at + p] = k[p];
@@ -19,7 +19,7 @@ static void write_rows(size_t places, size_t transitions, size_t wide, const uin
 }
 
 /* Whether a place gets a new one: it has a capacity, and is a pocket, or some transition changes it. */
-static int is_made(size_t places, size_t transitions, const uint8_t *pre, const uint8_t *post, const uint16_t *caps,
+static int is_made(size_t places, size_t transitions, const uint16_t *pre, const uint16_t *post, const uint16_t *caps,
                    const uint8_t *marks, size_t p) {
     if (caps[p] == 65535)
         return 0;
@@ -32,7 +32,7 @@ static int is_made(size_t places, size_t transitions, const uint8_t *pre, const 
 }
 
 /* How many places get one. */
-static size_t count_made(size_t places, size_t transitions, const uint8_t *pre, const uint8_t *post,
+static size_t count_made(size_t places, size_t transitions, const uint16_t *pre, const uint16_t *post,
                          const uint16_t *caps, const uint8_t *marks) {
     size_t count = 0;
     for (size_t p = 0; p < places; p++)
@@ -41,8 +41,8 @@ static size_t count_made(size_t places, size_t transitions, const uint8_t *pre, 
 }
 
 /* For each place of the complement net the old place that it stands for. */
-static void find_sources(size_t places, size_t transitions, const uint8_t *pre, const uint8_t *post, const uint16_t *caps,
-                         const uint8_t *marks, size_t *sources) {
+static void find_sources(size_t places, size_t transitions, const uint16_t *pre, const uint16_t *post,
+                         const uint16_t *caps, const uint8_t *marks, size_t *sources) {
     size_t at = places;
     for (size_t p = 0; p < 64; p++)
         sources[p] = p;
@@ -52,13 +52,13 @@ static void find_sources(size_t places, size_t transitions, const uint8_t *pre, 
 }
 
 /* The refusals, then the five rooms one after another. */
-kaunorpi_answer same_complement_net(KAUNORPI_NET, const uint16_t *initial, size_t initial_len, uint8_t *pre2,
-                                    size_t pre2_len, uint8_t *post2, size_t post2_len, uint16_t *caps2,
+kaunorpi_answer same_complement_net(KAUNORPI_NET, const uint16_t *initial, size_t initial_len, uint16_t *pre2,
+                                    size_t pre2_len, uint16_t *post2, size_t post2_len, uint16_t *caps2,
                                     size_t caps2_len, uint8_t *marks2, size_t marks2_len, uint16_t *initial2,
                                     size_t initial2_len) {
     size_t wide, sources[64];
     struct fault found =
-        counts_fault(places, transitions, pre, pre_len, post, post_len, caps, caps_len, marks, marks_len, 1);
+        sized_fault(places, transitions, pre, pre_len, post, post_len, caps, caps_len, marks, marks_len, 1);
     if (found.number != 0)
         return (kaunorpi_answer){KAUNORPI_REFUSED, found.number, found.at};
     wide = places + count_made(places, transitions, pre, post, caps, marks);
@@ -85,7 +85,7 @@ kaunorpi_answer same_complement_net(KAUNORPI_NET, const uint16_t *initial, size_
 }
 
 /* What an entry and one cell add to the first of the two sums. */
-static inline uint64_t share_of(int16_t x, uint8_t takes, uint8_t puts) {
+static inline uint64_t share_of(int16_t x, uint16_t takes, uint16_t puts) {
     uint32_t up = x < 0 ? 0 : (uint32_t)x, down = x < 0 ? (uint32_t)~x + 1 : 0;
     return (uint64_t)(up * puts) + (uint64_t)(down * takes);
 }

@@ -63,7 +63,7 @@ static int find(size_t places, const uint16_t *list, const struct index *index, 
 }
 
 /* How many places without an arc a pass over a transition's places, from the last one down, leaves out at each. */
-static void make_skips(size_t places, size_t transitions, const uint8_t *pre, const uint8_t *post, uint8_t *skips) {
+static void make_skips(size_t places, size_t transitions, const uint16_t *pre, const uint16_t *post, uint8_t *skips) {
     for (size_t k = 0; k < transitions * places; k++) {
         size_t most = k % places, n = 0;
         while (n < most && pre[k - n] == 0 && post[k - n] == 0)
@@ -73,12 +73,12 @@ static void make_skips(size_t places, size_t transitions, const uint8_t *pre, co
 }
 
 /* One place within its capacity stops a transition; where there is room for all that is put, its mark is not asked for. */
-static inline int is_stopped(uint8_t takes, uint8_t puts, uint16_t cap, uint8_t mark, uint16_t tokens) {
+static inline int is_stopped(uint16_t takes, uint16_t puts, uint16_t cap, uint8_t mark, uint16_t tokens) {
     return tokens < takes || (cap < tokens + puts && cap < 65535 && cap < tokens + rise(mark, takes, puts));
 }
 
 /* Whether a transition may fire at a listed marking, by its arcs. */
-static inline int may_fire_listed(const uint8_t *takes, const uint8_t *puts, const uint16_t *caps, const uint8_t *marks,
+static inline int may_fire_listed(const uint16_t *takes, const uint16_t *puts, const uint16_t *caps, const uint8_t *marks,
                                   const uint8_t *skips, const uint16_t *listed, size_t places) {
     for (size_t p = places; p > 0;) {
         p = p - 1 - skips[p - 1];
@@ -89,7 +89,7 @@ static inline int may_fire_listed(const uint8_t *takes, const uint8_t *puts, con
 }
 
 /* The result of a transition at a listed marking, into the room. */
-static inline void fire_listed(const uint8_t *takes, const uint8_t *puts, const uint8_t *skips, const uint16_t *listed,
+static inline void fire_listed(const uint16_t *takes, const uint16_t *puts, const uint8_t *skips, const uint16_t *listed,
                                uint32_t *room, size_t places) {
     load(listed, room, places);
     for (size_t p = places; p > 0;) {
@@ -119,7 +119,7 @@ static int is_listed(size_t places, size_t count, const uint16_t *list, const ui
 
 /* The same without them: every place is judged, and all listed markings are compared with. */
 static inline int is_absent(KAUNORPI_NET, const uint16_t *list, size_t count, size_t k, size_t t) {
-    const uint8_t *takes = pre + t * places, *puts = post + t * places;
+    const uint16_t *takes = pre + t * places, *puts = post + t * places;
     uint32_t room[64] = {0};
     (void)transitions, (void)pre_len, (void)post_len, (void)caps_len, (void)marks_len;
     load(list + k * places, room, places);
@@ -145,7 +145,7 @@ static int are_fine(size_t places, const uint16_t *caps, const uint16_t *list, s
     return list_len / places * places == list_len;
 }
 
-/* Refusals 1, 2, 3, 17 and 9; a cover list's own entries are free. */
+/* Refusals 1, 2, 18, 3, 17 and 9; a cover list's own entries are free. */
 static struct fault list_fault(KAUNORPI_NET, const uint16_t *initial, size_t initial_len, const uint16_t *list,
                                size_t list_len, int cover) {
     struct fault found = start_fault(places, transitions, pre, pre_len, post, post_len, caps, caps_len, marks, marks_len,
@@ -228,7 +228,7 @@ static int is_covered(size_t places, size_t count, const uint16_t *list, const u
 }
 
 /* Whether the result of transition t at listed marking k is not covered. */
-static int is_uncovered(size_t places, const uint8_t *takes, const uint8_t *puts, const uint16_t *list, size_t count,
+static int is_uncovered(size_t places, const uint16_t *takes, const uint16_t *puts, const uint16_t *list, size_t count,
                         const uint16_t *listed) {
     uint32_t room[64] = {0};
     for (size_t p = 0; p < places; p++)

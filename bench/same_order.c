@@ -9,8 +9,7 @@ size_t same_order_visits;
 /* What a search has at hand. */
 struct search {
     size_t places, transitions;
-    const uint8_t *pre, *post;
-    const uint16_t *caps;
+    const uint16_t *pre, *post, *caps;
     const uint8_t *marks;
     const uint8_t *first;
     size_t first_len;
@@ -32,7 +31,7 @@ static int look(const struct search *s, size_t n, size_t k);
 /* One step from log `which`, then the rest: taken back where the rest cannot be ordered. */
 static int take(const struct search *s, size_t which, size_t n, size_t k) {
     size_t t = letter_of(s, which, n, k);
-    const uint8_t *takes = s->pre + t * s->places, *puts = s->post + t * s->places;
+    const uint16_t *takes = s->pre + t * s->places, *puts = s->post + t * s->places;
     if (s->transitions <= t || !may_fire(takes, puts, s->caps, s->marks, s->marking, s->places))
         return 0;
     fire(takes, puts, s->marking, s->places);

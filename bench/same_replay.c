@@ -2,7 +2,7 @@
 #include "same.h"
 
 /* Why a letter is stopped: the lowest short place, else the lowest place over. */
-static kaunorpi_replay blocked(size_t i, const uint8_t *takes, const uint8_t *puts, const uint16_t *caps,
+static kaunorpi_replay blocked(size_t i, const uint16_t *takes, const uint16_t *puts, const uint16_t *caps,
                                const uint8_t *marks, const uint32_t *marking, size_t places) {
     size_t p = 0;
     for (p = 0; p < places; p++)
@@ -26,7 +26,7 @@ kaunorpi_replay same_replay_word(KAUNORPI_NET, const uint16_t *initial, size_t i
         return (kaunorpi_replay){KAUNORPI_REFUSED, found.number, found.at, 0};
     load(initial, room, places);
     for (i = 0; i < word_len; i++) {
-        const uint8_t *takes = pre + word[i] * places, *puts = post + word[i] * places;
+        const uint16_t *takes = pre + word[i] * places, *puts = post + word[i] * places;
         if (!may_fire(takes, puts, caps, marks, room, places))
             return blocked(i, takes, puts, caps, marks, room, places);
         fire(takes, puts, room, places);

@@ -15,11 +15,11 @@ static inline uint32_t larger(uint32_t x, uint32_t y, uint32_t l, uint32_t g) {
 }
 
 /* One place of a word's summary. */
-static struct slot slot_of(size_t places, const uint8_t *pre, const uint8_t *post, uint8_t mark, size_t p,
+static struct slot slot_of(size_t places, const uint16_t *pre, const uint16_t *post, uint8_t mark, size_t p,
                            const uint8_t *word, size_t word_len) {
     uint32_t gained = 0, lost = 0, need = 0, climb = 0;
     for (size_t i = 0; i < word_len; i++) {
-        uint8_t takes = pre[word[i] * places + p], puts = post[word[i] * places + p];
+        uint16_t takes = pre[word[i] * places + p], puts = post[word[i] * places + p];
         need = larger(need, takes, lost, gained);
         climb = larger(climb, rise(mark, takes, puts), gained, lost);
         gained += puts;
@@ -75,7 +75,7 @@ static void gather(struct slot *slots, const uint32_t *need, const uint32_t *cli
 static size_t bad_slot(size_t places, uint32_t letters, const struct slot *slots) {
     size_t p;
     for (p = 0; p < 64; p++) {
-        uint32_t cap = p < places ? 255 * letters : 0;
+        uint32_t cap = p < places ? KAUNORPI_MOST_WEIGHT * letters : 0;
         if (cap < slots[p].need || cap < slots[p].climb || slots[p].need < down(slots[p].change) ||
             slots[p].climb < up(slots[p].change))
             break;

@@ -1,5 +1,5 @@
-/* The same loops as crates/file_write, file_out and file_put: a case file put into the room frame by frame. Each function puts
- * its text at a number of the room and answers the number after it. */
+/* The same loops as crates/file_write, file_out, file_row and file_put: a case file put into the room frame by frame. Each
+ * function puts its text at a number of the room and answers the number after it. */
 #include "same.h"
 
 enum { BLOCK = 64 };
@@ -73,16 +73,34 @@ static inline size_t put_marks(uint8_t *out, size_t at, const uint8_t *marks, si
     return put_feed(out, r);
 }
 
-/* A 04 for each transition. */
-static inline size_t put_rows(size_t places, size_t transitions, const uint8_t *pre, const uint8_t *post, uint8_t *out,
+/* Weights, of a byte each, or of two in an 07. */
+static inline size_t put_weights(uint8_t *out, size_t at, uint8_t kind, const uint16_t *list, size_t count) {
+    size_t r = at;
+    for (size_t k = 0; k < count; k++)
+        r = kind == 7 ? put_two(out, r, list[k]) : put_byte(out, r, (uint8_t)list[k]);
+    return r;
+}
+
+/* A 04 for each transition, or an 07 where a weight is over 255. */
+static inline size_t put_rows(size_t places, size_t transitions, const uint16_t *pre, const uint16_t *post, uint8_t *out,
                               size_t at) {
     size_t r = at;
     for (size_t t = 0; t < transitions; t++) {
-        r = put_byte(out, put_byte(out, r, 4), (uint8_t)t);
-        r = put_bytes(out, r, pre + t * places, places);
-        r = put_feed(out, put_bytes(out, r, post + t * places, places));
+        const uint16_t *takes = pre + t * places, *puts = post + t * places;
+        uint8_t kind = has_over(255, takes, puts, places) ? 7 : 4;
+        r = put_byte(out, put_byte(out, r, kind), (uint8_t)t);
+        r = put_weights(out, r, kind, takes, places);
+        r = put_feed(out, put_weights(out, r, kind, puts, places));
     }
     return r;
+}
+
+/* How many transitions have an 07. */
+static inline size_t wide_rows(size_t places, size_t transitions, const uint16_t *pre, const uint16_t *post) {
+    size_t wide = 0;
+    for (size_t t = 0; t < transitions; t++)
+        wide += (size_t)has_over(255, pre + t * places, post + t * places, places);
+    return wide;
 }
 
 /* How many 05 there are. */
@@ -106,11 +124,12 @@ static inline size_t line_length(size_t bytes) {
     return 2 * bytes + 1;
 }
 
-/* How long the file is. */
-static inline size_t file_length(size_t places, size_t transitions, const uint8_t *marks, size_t letters) {
+/* How long the file is; an 07 has two digits more for each weight. */
+static inline size_t file_length(size_t places, size_t transitions, size_t wide, const uint8_t *marks, size_t letters) {
     size_t word = 2 * letters + line_length(1) * letters_lines(letters);
     size_t mask = has_pocket(marks, places) ? line_length(9) : 0;
-    return line_length(3) + 2 * line_length(1 + 2 * places) + mask + transitions * line_length(2 + 2 * places) + word;
+    size_t rows = transitions * line_length(2 + 2 * places) + wide * (4 * places);
+    return line_length(3) + 2 * line_length(1 + 2 * places) + mask + rows + word;
 }
 
 /* The refusals, then the file. */
@@ -122,7 +141,8 @@ kaunorpi_length same_write_case(KAUNORPI_NET, const uint16_t *initial, size_t in
                      1);
     if (found.number == 0)
         found = word_fault(transitions, word, word_len);
-    if (found.number == 0 && room_len < file_length(places, transitions, marks, word_len))
+    if (found.number == 0 &&
+        room_len < file_length(places, transitions, wide_rows(places, transitions, pre, post), marks, word_len))
         found = (struct fault){14, 0};
     if (found.number != 0)
         return (kaunorpi_length){KAUNORPI_REFUSED, found.number, found.at, 0};

@@ -15,8 +15,8 @@ use Rattle.file_parts.specs.declared.Case.the-variants as file
 use Rattle.file_parts.specs.File.{readOf, caseOf}
 use Rattle.file_text.specs.Text.{Limited, fileOf, markingIn, wordIn}
 use Rattle.file_text.proofs.Meaning.{read-file}
-use Rattle.file_out.specs.Length.{fileLimit}
-use Rattle.file_out.proofs.Length.{file-length, longest-file}
+use Rattle.file_out.specs.Length.{wideRows, fileLimit}
+use Rattle.file_out.proofs.Length.{file-length, wide-most, longest-file}
 use Rattle.file_write.specs.Told.{Writable}
 use Rattle.file_write.specs.Entry.{CaseWritten, Allowed}
 use Rattle.file_write.specs.declared.WriteCase.{WriteCase}
@@ -28,11 +28,11 @@ use Rattle.file_again.specs.Again.{againFor, fileAgain, WrittenAgain}
 -- what a file within the limits holds can be written, and is no longer than the longest file
 limited-few : (net : Net) (initial w : List ℕ) → Limited net initial w → length (fileOf net initial w) ≤ fileLimit
 limited-few net initial w m =
-    let l = longest-file (net .places) (net .transitions) (maskOf (net .marks)) (length w) (m .sized .few-places) (m .sized .few-transitions) (m .short) in
+    let l = longest-file (net .places) (net .transitions) (wideRows net) (maskOf (net .marks)) (length w) (m .sized .few-places) (m .sized .few-transitions) (wide-most net) (m .short) in
     omega (arith, file-length net initial w (m .sized) (m .marked))
 
 limited-writable : (net : Net) (initial w : List ℕ) → Limited net initial w → Writable net initial w
-limited-writable net initial w m = record { sized = m .sized; marked = m .marked; fine = m .fine; wired = m .wired; short = m .short; letters = m .letters }
+limited-writable net initial w m = record { sized = m .sized; light = m .weights; marked = m .marked; fine = m .fine; wired = m .wired; short = m .short; letters = m .letters }
 
 -- the promise determines the answer and the room
 pub unique : (c : Case) (x : Rooms) (out : List ℕ) (r r′ : WriteCase) (a b : List ℕ) → WrittenAgain c x out r a → WrittenAgain c x out r′ b → (r ≡ r′) × (a ≡ b)

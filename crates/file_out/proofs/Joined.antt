@@ -1,23 +1,25 @@
 -- Laws of lines put one after another: none yet, one more, all; the part of a list that a line holds, and the room for it. Assumes nothing.
 use mathlib.Core.Path.{_≡_, refl, sym, _∙_, ap}
-use mathlib.Core.List.{List, _∷_}
-use Prim.Native.Nat.{ℕ, _+_, _-_, _*_, _≤_, _<_, min}
+use mathlib.Core.List.{List, _∷_, _++_}
+use Prim.Native.Nat.{ℕ, zero, suc, _+_, _-_, _*_, _≤_, _<_, min}
 use native.Mathlib.Omega.{arith}
 use native.Mathlib.Numerals.{add-one}
-use native.Mathlib.Nat.{add-sub-cancel-left}
-use native.Mathlib.Decide.{decLe}
-use lib.ListN.{length, take, drop, length-take, length-drop}
-use lib.Seq.{length-take-le, take-all}
+use native.Mathlib.Nat.{not-suc-le-zero}
+use native.Mathlib.Decide.{decLe, decLt}
+use lib.ListN.{length, take, drop, length-append, length-take, length-drop}
+use lib.Seq.{take-all}
+use Rattle.ground.specs.Limits.{countLimit}
 use Rattle.net.specs.Net.{Net, Sized}
 use Rattle.net.specs.Letter.{row}
-use Rattle.net.proofs.Rows.{row-end}
+use Rattle.weights.proofs.Heavies.{rows-long}
 use Rattle.file_digits.specs.Frame.{block}
 use Rattle.file_put.specs.Append.{Appended}
 use Rattle.file_put.specs.Put.{lineText}
 use Rattle.file_put.proofs.Appends.{append-then, append-long}
+use Rattle.file_row.specs.Row.{rowKind}
 use Rattle.file_text.specs.Text.{rowLine, lettersLine, lettersLines, joined}
-use Rattle.file_out.specs.Length.{lineLength, rowLength, wordLength}
-use Rattle.file_out.proofs.Length.{rows-long, letters-full, lines-left}
+use Rattle.file_out.specs.Length.{lineLength, rowLength, wideRows, rowsLength, wordLength}
+use Rattle.file_out.proofs.Length.{kind-long, row-long, rows-all, letters-full, lines-left}
 
 module _ (line : ℕ → List ℕ) (l : List ℕ) (at : ℕ) where
   pub lines-start : Appended l at (joined line 0) at l
@@ -35,19 +37,29 @@ module _ (line : ℕ → List ℕ) (l : List ℕ) (at : ℕ) where
 pub append-moved : {l : List ℕ} {at : ℕ} {a : List ℕ} {r : ℕ} {m : List ℕ} {n : ℕ} → Appended l at a r m → length a ≡ n → (r ≡ at + n) × (length m ≡ length l)
 append-moved p e = (omega (arith, p .next, e), append-long p)
 
--- n entries from a on
-part-long : (l : List ℕ) (a n : ℕ) → a + n ≤ length l → length (take (a + n - a) (drop a l)) ≡ n
-part-long l a n h = let e = length-drop a l in rw (add-sub-cancel-left a n) (length-take-le n (drop a l) (omega arith))
+-- a line more has no more room than all have
+joined-room : (line : ℕ → List ℕ) (k n : ℕ) → k < n → length (joined line k) + length (line k) ≤ length (joined line n)
+unfolding joined
+joined-room line k zero h = absurd (not-suc-le-zero h)
+joined-room line k (suc n) h = go (decLt k n) (joined-room line k n)
+  where
+    go : Dec (k < n) → (k < n → length (joined line k) + length (line k) ≤ length (joined line n)) → length (joined line k) + length (line k) ≤ length (joined line n ++ line n)
+    go (yes l) ih = omega (arith, ih l, length-append (joined line n) (line n))
+    go (no l) ih = let e : k ≡ n = omega arith in rw e (omega (arith, length-append (joined line n) (line n)))
 
--- a further 04: there is room for it, whichever rows it has
+-- a further 04 or 07: there is room for it, and its rows are as long as each other
 module _ (net : Net) (sized : Sized net) (t : ℕ) (h : t < net .transitions) where
-  pub row-room : (a : ℕ) → a + net .places ≤ length (net .pre) → a + net .places ≤ length (net .post) → (l : List ℕ) (at r : ℕ) (o : List ℕ) → at + net .transitions * rowLength (net .places) ≤ length l → Appended l at (joined (rowLine net) t) r o → (r + rowLength (length (take (a + net .places - a) (drop a (net .pre)))) ≤ length o) × (length (take (a + net .places - a) (drop a (net .post))) ≡ length (take (a + net .places - a) (drop a (net .pre))))
-  row-room a x y l at r o roomy p =
-      let b = part-long (net .pre) a (net .places) x in
-      let c = part-long (net .post) a (net .places) y in
-      let f = rows-long net (sized .pres) (sized .posts) t (omega arith) in
-      let e : r + rowLength (net .places) ≤ length o = omega (arith, p .next, append-long p, row-end t (net .transitions) (rowLength (net .places)) h) in
-      (rw b e, c ∙ sym b)
+  pub row-room : (l : List ℕ) (at r : ℕ) (o : List ℕ) → at + rowsLength (net .places) (net .transitions) (wideRows net) ≤ length l → Appended l at (joined (rowLine net) t) r o
+      → (r + rowLength (rowKind (row (net .places) t (net .pre)) (row (net .places) t (net .post))) (length (row (net .places) t (net .pre))) ≤ length o)
+      × (length (row (net .places) t (net .post)) ≡ length (row (net .places) t (net .pre)))
+      × (length (row (net .places) t (net .pre)) ≤ countLimit)
+  row-room l at r o roomy p =
+      let a = rows-long net t sized h in
+      let e = joined-room (rowLine net) t (net .transitions) h in
+      let f = rows-all net (sized .pres) (sized .posts) in
+      let g = row-long net (sized .pres) (sized .posts) t h in
+      let k = kind-long (net .places) (row (net .places) t (net .pre)) (row (net .places) t (net .post)) in
+      (rw (a .0) (omega (arith, p .next, append-long p, e, f, g, k)), omega (arith, a), omega (arith, a))
 
 -- n entries from a on, or as many as there are
 part-is : (w : List ℕ) (a n : ℕ) → a ≤ length w → take (min (a + n) (length w) - a) (drop a w) ≡ take n (drop a w)

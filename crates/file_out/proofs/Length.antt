@@ -4,11 +4,13 @@ use mathlib.Core.Path.{_≡_, refl, _∙_, ap}
 use mathlib.Core.Bool.{Bool, true, false, cond}
 use mathlib.Core.List.{List, [], _∷_, _++_}
 use native.Mathlib.Omega.{arith}
-use native.Mathlib.Nat.{suc-mul, mul-le-mul}
+use native.Mathlib.Nat.{suc-mul, add-mul, mul-le-mul}
 use lib.ListN.{length, drop, length-append, length-take, length-drop}
 use lib.Dec.{eqb}
 use borrow.Author.Tests.{eq-eqb, ne-eqb}
 use Rattle.ground.specs.Limits.{countLimit, wordLimit}
+use Rattle.ground.specs.Lists.{bit, tally}
+use Rattle.ground.proofs.Scan.{bit-most, tally-most}
 use Rattle.file_digits.specs.Frame.{block, lineFeed}
 use Rattle.file_put.specs.Put.{digitsOf, lineText, twos}
 use Rattle.file_put.proofs.Round.{digits-long}
@@ -18,8 +20,10 @@ use Rattle.file_mask.proofs.Masks.{eight-long}
 use Rattle.net.specs.Net.{Net, Sized}
 use Rattle.net.specs.Letter.{row}
 use Rattle.net.proofs.Rows.{row-end, row-length}
+use Rattle.file_row.specs.Row.{narrowRow, wideRow, isWide, rowKind, rowFrame}
+use Rattle.file_row.proofs.Framed.{frame-long}
 use Rattle.file_text.specs.Text.{countsLine, capsLine, pocketsLine, pocketsLines, tokensLine, rowLine, lettersLine, lettersLines, joined, fileOf}
-use Rattle.file_out.specs.Length.{lineLength, numbersLength, maskLength, rowLength, wordLength, fileLength, fileLimit}
+use Rattle.file_out.specs.Length.{lineLength, numbersLength, maskLength, rowLength, wideAt, wideRows, rowsLength, wordLength, fileLength, fileLimit}
 
 -- ---- a line
 -- two digits a byte, and a line feed
@@ -67,24 +71,37 @@ pockets-long marks = go (eqb (maskOf marks) 0)
     go true = refl
     go false = mask-line-long (maskOf marks)
 
--- a 04 of a net whose lists have their lengths
+-- a frame of a transition's weights: an 07 has two digits more for each weight
+pub kind-long : (P : ℕ) (takes puts : List ℕ) → rowLength (rowKind takes puts) P ≡ rowLength narrowRow P + bit (isWide takes puts) * (4 * P)
+unfolding rowKind
+kind-long P takes puts = go (isWide takes puts)
+  where
+    go : (b : Bool) → rowLength (cond b wideRow narrowRow) P ≡ rowLength narrowRow P + bit b * (4 * P)
+    go true = omega arith
+    go false = omega arith
+
+-- that of a net whose lists have their lengths
 module _ (net : Net) (pres : length (net .pre) ≡ net .transitions * net .places) (posts : length (net .post) ≡ net .transitions * net .places) where
-  pub row-long : (t : ℕ) → t < net .transitions → length (rowLine net t) ≡ rowLength (net .places)
+  pub row-long : (t : ℕ) → t < net .transitions → length (rowLine net t) ≡ rowLength narrowRow (net .places) + bit (wideAt net t) * (4 * net .places)
   row-long t h =
       let takes = row (net .places) t (net .pre) in
       let puts = row (net .places) t (net .post) in
       let a = row-length (net .places) t (net .pre) (rw pres (row-end t (net .transitions) (net .places) h)) in
       let b = row-length (net .places) t (net .post) (rw posts (row-end t (net .transitions) (net .places) h)) in
-      let l = line-long (4 ∷ t ∷ (takes ++ puts)) in
-      omega (arith, length-append takes puts)
+      line-long (rowFrame t takes puts) ∙ ap lineLength (frame-long t (net .places) takes puts a b) ∙ kind-long (net .places) takes puts
 
-  -- as many 04 as were written so far
-  pub rows-long : (t : ℕ) → t ≤ net .transitions → length (joined (rowLine net) t) ≡ t * rowLength (net .places)
-  unfolding joined
+  -- as many as were written so far
+  pub rows-long : (t : ℕ) → t ≤ net .transitions → length (joined (rowLine net) t) ≡ rowsLength (net .places) t (tally (wideAt net) t)
+  unfolding joined tally
   rows-long zero h = omega arith
   rows-long (suc t) h =
       length-append (joined (rowLine net) t) (rowLine net t)
-      ∙ omega (arith, rows-long t (omega arith), row-long t h, suc-mul t (rowLength (net .places)))
+      ∙ omega (arith, rows-long t (omega arith), row-long t h, suc-mul t (rowLength narrowRow (net .places)), add-mul (tally (wideAt net) t) (bit (wideAt net t)) (4 * net .places))
+
+  -- all of them
+  pub rows-all : length (joined (rowLine net) (net .transitions)) ≡ rowsLength (net .places) (net .transitions) (wideRows net)
+  unfolding wideRows
+  rows-all = rows-long (net .transitions) (omega arith)
 
 -- ---- the 05
 -- line k has the letters of row k
@@ -121,7 +138,7 @@ word-long w = letters-all w (lettersLines (length w)) (lines-end (length w))
 
 -- ---- the file
 module _ (net : Net) (initial w : List ℕ) (sized : Sized net) (marked : length initial ≡ net .places) where
-  pub file-length : length (fileOf net initial w) ≡ fileLength (net .places) (net .transitions) (maskOf (net .marks)) (length w)
+  pub file-length : length (fileOf net initial w) ≡ fileLength (net .places) (net .transitions) (wideRows net) (maskOf (net .marks)) (length w)
   unfolding fileOf
   file-length =
       let a = countsLine (net .places) (net .transitions) in
@@ -134,17 +151,36 @@ module _ (net : Net) (initial w : List ℕ) (sized : Sized net) (marked : length
       let lb : length b ≡ numbersLength (net .places) = caps-long (net .caps) ∙ ap numbersLength (sized .capped) in
       let lp = pockets-long (net .marks) in
       let lc : length c ≡ numbersLength (net .places) = tokens-long initial ∙ ap numbersLength marked in
-      let ld = rows-long net (sized .pres) (sized .posts) (net .transitions) (omega arith) in
+      let ld = rows-all net (sized .pres) (sized .posts) in
       let le = word-long w in
       omega (arith, length-append (a ++ b ++ p ++ c ++ d) e, length-append (a ++ b ++ p ++ c) d, length-append (a ++ b ++ p) c, length-append (a ++ b) p, length-append a b)
 
--- within the limits no file is longer than the longest
-pub longest-file : (P T mask n : ℕ) → P ≤ countLimit → T ≤ countLimit → n ≤ wordLimit → fileLength P T mask n ≤ fileLimit
-longest-file P T mask n p t h =
-    let a : rowLength P ≤ rowLength countLimit = omega arith in
-    let m : maskLength mask ≤ maskLength 1 = rw (mask-some 1 (λ e. omega arith)) (mask-most mask) in
-    omega (arith, mul-le-mul t a, m)
+-- no more transitions have an 07 than there are
+pub wide-most : (net : Net) → wideRows net ≤ net .transitions
+unfolding wideRows
+wide-most net = tally-most (wideAt net) (net .transitions)
 
-pub largest : fileLimit ≡ 151390
+-- a count of them: one more still fits, and all are counted
+pub wide-fits : (net : Net) → Sized net → (t n r : ℕ) → n ≡ tally (wideAt net) t → r ≡ bit (wideAt net t) → t < net .transitions → n + r ≤ countLimit
+wide-fits net sized t n r e f h = omega (arith, tally-most (wideAt net) t, bit-most (wideAt net t), sized .few-transitions)
+
+pub wide-told : (net : Net) (t n : ℕ) → t ≤ net .transitions → net .transitions ≤ t → n ≡ tally (wideAt net) t → n ≡ wideRows net
+unfolding wideRows
+wide-told net t n h l e = let q : t ≡ net .transitions = omega arith in rw q at e
+
+-- within the limits their frames are no longer than the longest ones, and no file is longer than the longest
+pub longest-rows : (P T wide : ℕ) → P ≤ countLimit → T ≤ countLimit → wide ≤ T → rowsLength P T wide ≤ rowsLength countLimit countLimit countLimit
+longest-rows P T wide p t h =
+    let a : rowLength narrowRow P ≤ rowLength narrowRow countLimit = omega arith in
+    let b : 4 * P ≤ 4 * countLimit = omega arith in
+    let c : wide ≤ countLimit = omega arith in
+    omega (arith, mul-le-mul t a, mul-le-mul c b)
+
+pub longest-file : (P T wide mask n : ℕ) → P ≤ countLimit → T ≤ countLimit → wide ≤ T → n ≤ wordLimit → fileLength P T wide mask n ≤ fileLimit
+longest-file P T wide mask n p t k h =
+    let m : maskLength mask ≤ maskLength 1 = rw (mask-some 1 (λ e. omega arith)) (mask-most mask) in
+    omega (arith, longest-rows P T wide p t k, m)
+
+pub largest : fileLimit ≡ 167774
 unfolding maskLength
 largest = refl

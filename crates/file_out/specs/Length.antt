@@ -1,6 +1,6 @@
 -- To be believed: the largest case file. How long one is by its counts (`file-length` in proofs/Length.antt says that this is its text's length).
 use Prim.Native.Nat.{ℕ, _+_, _*_}
-use mathlib.Core.Bool.{cond}
+use mathlib.Core.Bool.{Bool, cond}
 use lib.Dec.{eqb}
 use Rattle.ground.specs.Limits.{countLimit, wordLimit}
 use Rattle.ground.specs.Lists.{tally}
@@ -26,9 +26,12 @@ maskLength mask = cond (eqb mask 0) 0 (lineLength (1 + maskBytes))
 abbrev pub rowLength : ℕ → ℕ → ℕ
 rowLength k P = lineLength (2 + 2 * (weightBytes k * P))
 
--- how many transitions of a net have an 07
+-- transition t of a net has an 07; how many have
+abbrev pub wideAt : Net → ℕ → Bool
+wideAt net t = isWide (row (net .places) t (net .pre)) (row (net .places) t (net .post))
+
 unfoldable pub wideRows : Net → ℕ
-wideRows net = tally (λ t. isWide (row (net .places) t (net .pre)) (row (net .places) t (net .post))) (net .transitions)
+wideRows net = tally (wideAt net) (net .transitions)
 
 -- T frames, `wide` of them 07 and the others 04; an 07 has two digits more for each of its 2 P weights
 abbrev pub rowsLength : ℕ → ℕ → ℕ → ℕ

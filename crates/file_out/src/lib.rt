@@ -2,28 +2,31 @@
 // number of the room and answers the number after it; what stands before and after is as found.
 use file_digits::BLOCK;
 use file_mask::MASK_BYTES;
+use file_row::BYTE_LIMIT;
 use ground::COUNT_LIMIT;
 use ground::WORD_LIMIT;
 use ground::Weight;
 ghost use mathlib.Core.Path.{_≡_};
-ghost use mathlib.Core.List.{[], _∷_, _++_};
+ghost use mathlib.Core.List.{[], _∷_};
 ghost use Prim.Native.Nat.{_+_, _*_, _≤_, min};
 ghost use lib.ListN.{length};
 ghost use Rattle.ground.specs.Limits.{countLimit, wordLimit};
+ghost use Rattle.ground.specs.Lists.{bit};
 ghost use Rattle.net.specs.Net.{netOf, Sized};
 ghost use Rattle.file_digits.specs.Frame.{block, lineLimit};
 ghost use Rattle.file_put.specs.Append.{Appended};
 ghost use Rattle.file_put.specs.Put.{twos, Put, PutLine};
 ghost use Rattle.file_mask.specs.Mask.{maskBytes, maskOf, eight};
+ghost use Rattle.file_row.specs.Row.{isWide};
 ghost use Rattle.file_text.specs.Text.{pocketsLines, lettersLines, lettersLine, rowLine, joined, fileOf};
-ghost use Rattle.file_out.specs.Length.{lineLength, numbersLength, maskLength, rowLength, wordLength, fileLength};
+ghost use Rattle.file_out.specs.Length.{lineLength, numbersLength, maskLength, wideRows, rowsLength, wordLength, fileLength};
 
 // The longest file, of the most places, transitions and letters: 01, twice the capacities or tokens, a mask,
-// a row for each transition, two digits a letter, and a kind and a line feed for each 05.
+// an 07 for each transition, two digits a letter, and a kind and a line feed for each 05.
 pub const FILE_LIMIT: usize = 7
     + 2 * (4 * COUNT_LIMIT + 3)
     + (2 * MASK_BYTES + 3)
-    + COUNT_LIMIT * (4 * COUNT_LIMIT + 5)
+    + COUNT_LIMIT * (8 * COUNT_LIMIT + 5)
     + 2 * WORD_LIMIT
     + 3 * ((WORD_LIMIT + (BLOCK - 1)) / BLOCK);
 
@@ -98,18 +101,6 @@ fn put_pockets(out: &mut [u8], at: usize, marks: &[u8]) -> usize
     put_mask(out, at, mask)
 }
 
-// 04: a transition, what it takes from each place, and what it puts there.
-fn put_row(out: &mut [u8], at: usize, t: u8, takes: &[Weight], puts: &[Weight]) -> usize
-    requires { ⌜ (at + rowLength (length (now takes)) ≤ length (now out)) × (length (now puts) ≡ length (now takes)) ⌝ }
-    ensures { λ r. ⌜ PutLine (now (out .entry)) at (4 ∷ t ∷ (now (takes .entry) ++ now (puts .entry))) r (now (out .exit)) ⌝ }
-{
-    let a = file_put::put_byte(out, at, 4);
-    let b = file_put::put_byte(out, a, t);
-    let c = put_bytes(out, b, takes);
-    let d = put_bytes(out, c, puts);
-    file_put::put_feed(out, d)
-}
-
 // 05: some letters of the word.
 fn put_letters(out: &mut [u8], at: usize, letters: &[u8]) -> usize
     requires { ⌜ at + lineLength (1 + length (now letters)) ≤ length (now out) ⌝ }
@@ -120,7 +111,7 @@ fn put_letters(out: &mut [u8], at: usize, letters: &[u8]) -> usize
     file_put::put_feed(out, b)
 }
 
-// A 04 for each transition, in order from 0.
+// A 04 or an 07 for each transition, in order from 0.
 fn put_rows(
     places: usize,
     transitions: usize,
@@ -132,7 +123,7 @@ fn put_rows(
     at: usize,
 ) -> usize
     requires { ⌜ Sized (netOf places transitions (now pre) (now post) (now caps) (now marks)) ⌝ }
-    requires { ⌜ at + transitions * rowLength places ≤ length (now out) ⌝ }
+    requires { ⌜ at + rowsLength places transitions (wideRows (netOf places transitions (now pre) (now post) (now caps) (now marks))) ≤ length (now out) ⌝ }
     ensures { λ r. ⌜ Appended (now (out .entry)) at (joined (rowLine (netOf places transitions (now (pre .entry)) (now (post .entry)) (now (caps .entry)) (now (marks .entry)))) transitions) r (now (out .exit)) ⌝ }
 {
     let mut r = at;
@@ -140,7 +131,7 @@ fn put_rows(
     while t < transitions {
         let a = t * places;
         let e = a + places;
-        r = put_row(out, r, t as u8, &pre[a..e], &post[a..e]);
+        r = file_row::put_row(out, r, t as u8, &pre[a..e], &post[a..e]);
         t += 1;
     }
     r
@@ -209,20 +200,69 @@ fn mask_length(mask: u64) -> usize
     0
 }
 
-// How long the file is, of a net whose marks have this mask.
-pub fn file_length(places: usize, transitions: usize, mask: u64, letters: usize) -> usize
-    requires { ⌜ (places ≤ countLimit) × (transitions ≤ countLimit) × (letters ≤ wordLimit) ⌝ }
-    ensures { λ r. ⌜ r ≡ fileLength places transitions mask letters ⌝ }
+// 1 for rows of a transition that has an 07, else 0.
+fn wide_row(takes: &[Weight], puts: &[Weight]) -> usize
+    requires { ⌜ (length (now puts) ≡ length (now takes)) × (length (now takes) ≤ countLimit) ⌝ }
+    ensures { λ r. ⌜ r ≡ bit (isWide (now (takes .entry)) (now (puts .entry))) ⌝ }
+{
+    if weights::has_over(BYTE_LIMIT, takes, puts) {
+        1
+    } else {
+        0
+    }
+}
+
+// How many transitions have an 07.
+pub fn wide_rows(
+    places: usize,
+    transitions: usize,
+    pre: &[Weight],
+    post: &[Weight],
+    caps: &[u16],
+    marks: &[u8],
+) -> usize
+    requires { ⌜ Sized (netOf places transitions (now pre) (now post) (now caps) (now marks)) ⌝ }
+    ensures { λ r. ⌜ r ≡ wideRows (netOf places transitions (now (pre .entry)) (now (post .entry)) (now (caps .entry)) (now (marks .entry))) ⌝ }
+{
+    let mut wide: usize = 0;
+    let mut t = 0;
+    while t < transitions {
+        let from = t * places;
+        let to = from + places;
+        wide += wide_row(&pre[from..to], &post[from..to]);
+        t += 1;
+    }
+    wide
+}
+
+// The frames of the transitions' weights: as many as there are, and in each 07 two digits more a weight.
+fn rows_length(places: usize, transitions: usize, wide: usize) -> usize
+    requires { ⌜ (places ≤ countLimit) × (transitions ≤ countLimit) × (wide ≤ transitions) ⌝ }
+    ensures { λ r. ⌜ (r ≡ rowsLength places transitions wide) × (r ≤ rowsLength countLimit countLimit countLimit) ⌝ }
+{
+    transitions * line_length(2 + 2 * places) + wide * (4 * places)
+}
+
+// How long the file is, of a net with so many 07 whose marks have this mask.
+pub fn file_length(
+    places: usize,
+    transitions: usize,
+    wide: usize,
+    mask: u64,
+    letters: usize,
+) -> usize
+    requires { ⌜ (places ≤ countLimit) × (transitions ≤ countLimit) × (wide ≤ transitions) × (letters ≤ wordLimit) ⌝ }
+    ensures { λ r. ⌜ r ≡ fileLength places transitions wide mask letters ⌝ }
 {
     let counts = line_length(3);
     let numbers = line_length(1 + 2 * places);
     let pockets = mask_length(mask);
-    let row = line_length(2 + 2 * places);
+    let rows = rows_length(places, transitions, wide);
     let word = word_length(letters);
-    counts + 2 * numbers + pockets + transitions * row + word
+    counts + 2 * numbers + pockets + rows + word
 }
 
-// The whole file at the front of the room: 01, 02, perhaps 06, 03, the 04 and the 05.
+// The whole file at the front of the room: 01, 02, perhaps 06, 03, the 04 or 07, and the 05.
 pub fn put_file(
     places: usize,
     transitions: usize,
@@ -235,7 +275,7 @@ pub fn put_file(
     out: &mut [u8],
 ) -> usize
     requires { ⌜ (Sized (netOf places transitions (now pre) (now post) (now caps) (now marks))) × (length (now initial) ≡ places) × (length (now word) ≤ wordLimit) ⌝ }
-    requires { ⌜ fileLength places transitions (maskOf (now marks)) (length (now word)) ≤ length (now out) ⌝ }
+    requires { ⌜ fileLength places transitions (wideRows (netOf places transitions (now pre) (now post) (now caps) (now marks))) (maskOf (now marks)) (length (now word)) ≤ length (now out) ⌝ }
     ensures { λ r. ⌜ Appended (now (out .entry)) 0 (fileOf (netOf places transitions (now (pre .entry)) (now (post .entry)) (now (caps .entry)) (now (marks .entry))) (now (initial .entry)) (now (word .entry))) r (now (out .exit)) ⌝ }
 {
     let a = put_counts(out, 0, places, transitions);

@@ -30,7 +30,7 @@ abbrev pub ended : Took → Run
 ended (took.Next t) = going t []
 ended (took.Refused n l) = stopped n l
 
--- one byte: a line feed ends the line, "at most 260 digits" are held, and "the earliest faulty line decides"
+-- one byte: a line feed ends the line, at most as many digits as a line may have are held, and "the earliest faulty line decides"
 unfoldable pub fedTo : Run → Rooms → ℕ → Both
 fedTo (going s d) x b =
     cond (eqb b lineFeed) (both (ended (lineOf s d x)) (roomsOf s d x))

@@ -5,7 +5,6 @@ use mathlib.Core.Bool.{true}
 use mathlib.Core.List.{List}
 use native.Mathlib.Omega.{arith}
 use lib.ListN.{length}
-use Rattle.ground.specs.Limits.{countLimit}
 use Rattle.net.specs.Net.{Net}
 use Rattle.refusals.specs.Given.{markedFault, wordFault}
 use Rattle.refusals.specs.declared.Fault.{Fault}
@@ -14,7 +13,7 @@ use Rattle.refusals.proofs.Chains.{chain-first, chain-next}
 use Rattle.file_put.specs.Append.{Appended}
 use Rattle.file_mask.specs.Mask.{maskOf}
 use Rattle.file_text.specs.Text.{fileOf}
-use Rattle.file_out.specs.Length.{fileLength}
+use Rattle.file_out.specs.Length.{wideRows, fileLength}
 use Rattle.file_out.proofs.Length.{file-length}
 use Rattle.file_write.specs.Told.{textFault, LengthTold, Writable}
 use Rattle.file_write.specs.Entry.{roomFault, writeFault, CaseWritten, Allowed}
@@ -22,7 +21,7 @@ use Rattle.file_write.specs.declared.CaseLength.the-variants.{Told, Refu
 use Rattle.file_write.specs.declared.WriteCase.the-variants.{Written, Refused}
 use Rattle.file_write.proofs.Exactly.{writable-of, allowed-of}
 
--- `found` is what was found of refusals 1 to 3 and 17
+-- `found` is what was found of refusals 1 to 3, 17 and 18
 module _ (net : Net) (initial w : List ℕ) (found : Fault) (e : found ≡ markedFault net initial true) where
   pub text-marked : (n at : ℕ) → found ≡ Faulty n at → Faulty n at ≡ textFault net initial w
   unfolding textFault
@@ -32,41 +31,35 @@ module _ (net : Net) (initial w : List ℕ) (found : Fault) (e : found ≡ marke
   unfolding textFault
   text-word r q f = chain-next _ _ found r e q f
 
--- `found` is what was found of refusals 1 to 5 and 17
+-- `found` is what was found of refusals 1 to 5, 17 and 18
 module _ (net : Net) (initial w : List ℕ) (found : Fault) (e : found ≡ textFault net initial w) where
   pub found-writable : found ≡ Sound → Writable net initial w
   found-writable q = writable-of net initial w (sym e ∙ q)
 
-  -- for its mask the marks are few enough
-  pub found-noted : found ≡ Sound → length (net .marks) ≤ countLimit
-  found-noted q = let a = found-writable q in omega (arith, a .sized .noted, a .sized .few-places)
-
-  -- k is what was reckoned as the length, of the mask that was made of the marks
-  file-is : (mask k : ℕ) → found ≡ Sound → mask ≡ maskOf (net .marks) → k ≡ fileLength (net .places) (net .transitions) mask (length w) → k ≡ length (fileOf net initial w)
-  file-is mask k q m h =
-      let a = found-writable q in
-      h ∙ ap (λ (x : ℕ). fileLength (net .places) (net .transitions) x (length w)) m ∙ sym (file-length net initial w (a .sized) (a .marked))
+  -- k is what was reckoned as the length
+  file-is : (k : ℕ) → found ≡ Sound → k ≡ fileLength (net .places) (net .transitions) (wideRows net) (maskOf (net .marks)) (length w) → k ≡ length (fileOf net initial w)
+  file-is k q h = let a = found-writable q in h ∙ sym (file-length net initial w (a .sized) (a .marked))
 
   pub fault-plain : (room n at : ℕ) → found ≡ Faulty n at → Faulty n at ≡ writeFault net initial w room
   unfolding writeFault
   fault-plain room n at q = chain-first _ _ found n at e q
 
-  pub fault-room : (room mask k : ℕ) (r : Fault) → found ≡ Sound → mask ≡ maskOf (net .marks) → k ≡ fileLength (net .places) (net .transitions) mask (length w) → r ≡ roomFault k room → r ≡ writeFault net initial w room
+  pub fault-room : (room k : ℕ) (r : Fault) → found ≡ Sound → k ≡ fileLength (net .places) (net .transitions) (wideRows net) (maskOf (net .marks)) (length w) → r ≡ roomFault k room → r ≡ writeFault net initial w room
   unfolding writeFault
-  fault-room room mask k r q m h f = chain-next _ _ found r e q (f ∙ ap (λ (n : ℕ). roomFault n room) (file-is mask k q m h))
+  fault-room room k r q h f = chain-next _ _ found r e q (f ∙ ap (λ (n : ℕ). roomFault n room) (file-is k q h))
 
   pub length-refused : (n at : ℕ) → found ≡ Faulty n at → LengthTold net initial w (NotTold n at)
   length-refused n at q = record { answer = rw (sym e ∙ q) }
 
-  pub length-told : (mask k : ℕ) → found ≡ Sound → mask ≡ maskOf (net .marks) → k ≡ fileLength (net .places) (net .transitions) mask (length w) → LengthTold net initial w (Told k)
-  length-told mask k q m h = record { answer = rw (sym e ∙ q, file-is mask k q m h) }
+  pub length-told : (k : ℕ) → found ≡ Sound → k ≡ fileLength (net .places) (net .transitions) (wideRows net) (maskOf (net .marks)) (length w) → LengthTold net initial w (Told k)
+  length-told k q h = record { answer = rw (sym e ∙ q, file-is k q h) }
 
 -- `found` is what was found of all refusals
 module _ (net : Net) (initial w room : List ℕ) (found : Fault) (e : found ≡ writeFault net initial w (length room)) where
   pub found-allowed : found ≡ Sound → Allowed net initial w room
   found-allowed q = allowed-of net initial w room (sym e ∙ q)
 
-  pub found-room : found ≡ Sound → fileLength (net .places) (net .transitions) (maskOf (net .marks)) (length w) ≤ length room
+  pub found-room : found ≡ Sound → fileLength (net .places) (net .transitions) (wideRows net) (maskOf (net .marks)) (length w) ≤ length room
   found-room q = let a = found-allowed q in rw (← file-length net initial w (a .writable .sized) (a .writable .marked)) (a .roomy)
 
   pub case-refused : (n at : ℕ) → found ≡ Faulty n at → CaseWritten net initial w room (Refused n at) room

@@ -59,13 +59,13 @@ module _ (net : Net) (initial w : List ℕ) where
       let a = or-sound (markedFault net initial true) (wordFault (net .transitions) w) e in
       let m = marked-met net initial true (a .0) in
       let l = word-met (net .transitions) w (a .1) in
-      record { sized = m .sized; marked = m .marked; fine = m .fine; wired = m .wired; short = l .short; letters = l .letters }
+      record { sized = m .sized; light = m .light; marked = m .marked; fine = m .fine; wired = m .wired; short = l .short; letters = l .letters }
 
   pub of-writable : Writable net initial w → textFault net initial w ≡ Sound
   unfolding textFault
   of-writable a =
       sound-or _ _
-      (met-marked net initial true (record { sized = a .sized; marked = a .marked; fitting = refl; fine = a .fine; wired = a .wired }))
+      (met-marked net initial true (record { sized = a .sized; light = a .light; marked = a .marked; fitting = refl; fine = a .fine; wired = a .wired }))
       (met-word (net .transitions) w (record { short = a .short; letters = a .letters }))
 
   text-reads : Reads (textFault net initial w) (TextFirst net initial w)

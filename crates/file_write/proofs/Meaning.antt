@@ -10,8 +10,8 @@ use Rattle.file_mask.specs.Mask.{maskOf}
 use Rattle.file_text.specs.Text.{fileOf, filed}
 use Rattle.file_text.proofs.Fronts.{front-of, rest-of}
 use Rattle.file_text.proofs.Meaning.{file-filed}
-use Rattle.file_out.specs.Length.{fileLimit}
-use Rattle.file_out.proofs.Length.{file-length, longest-file}
+use Rattle.file_out.specs.Length.{wideRows, fileLimit}
+use Rattle.file_out.proofs.Length.{file-length, wide-most, longest-file}
 use Rattle.file_write.specs.Told.{LengthTold, Writable}
 use Rattle.file_write.specs.Entry.{CaseWritten, Allowed}
 use Rattle.file_write.specs.declared.CaseLength.{CaseLength}
@@ -77,7 +77,7 @@ module _ (net : Net) (initial w : List ℕ) (n : ℕ) (asked : LengthTold net in
   pub told-few : n ≤ fileLimit
   told-few =
       let a = told-writable in
-      let l = longest-file (net .places) (net .transitions) (maskOf (net .marks)) (length w) (a .sized .few-places) (a .sized .few-transitions) (a .short) in
+      let l = longest-file (net .places) (net .transitions) (wideRows net) (maskOf (net .marks)) (length w) (a .sized .few-places) (a .sized .few-transitions) (wide-most net) (a .short) in
       omega (arith, told-length, file-length net initial w (a .sized) (a .marked))
 
   -- it is the room that is needed: into as much the file is written, and into less nothing is

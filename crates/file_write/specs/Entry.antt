@@ -1,4 +1,4 @@
--- To be believed: a net, its initial marking and a word written as a case file into lent room (document 02, E1); refusals 1 to 5 and 17, "14, .. checked last".
+-- To be believed: a net, its initial marking and a word written as a case file into lent room (document 02, E1); refusals 1 to 5, 17 and 18, "14, .. checked last".
 use Prim.Native.Nat.{ℕ, _≤_}
 use mathlib.Core.Path.{_≡_}
 use mathlib.Core.List.{List, [], _∷_}
@@ -19,7 +19,7 @@ use Rattle.file_write.specs.declared.WriteCase.the-variants.{Written, Re
 unfoldable pub roomFault : ℕ → ℕ → Fault
 roomFault n room = refuse (ltb room n) 14 0
 
--- 1, 2, 3, 17, 4 and 5, then 14
+-- 1, 2, 18, 3, 17, 4 and 5, then 14
 unfoldable pub writeFault : Net → List ℕ → List ℕ → ℕ → Fault
 writeFault net initial w room = orElse (textFault net initial w) (roomFault (length (fileOf net initial w)) room)
 

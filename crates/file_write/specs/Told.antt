@@ -1,11 +1,11 @@
--- To be believed: the public question beside writing a case file, how long it is: refusals 1, 2, 3, 17, 4 and 5 in order, else the length.
+-- To be believed: the public question beside writing a case file, how long it is: refusals 1, 2, 18, 3, 17, 4 and 5 in order, else the length.
 use Prim.Native.Nat.{ℕ, _≤_}
 use mathlib.Core.Path.{_≡_}
 use mathlib.Core.Bool.{true}
 use mathlib.Core.List.{List, [], _∷_}
 use lib.ListN.{length}
 use Rattle.ground.specs.Limits.{wordLimit}
-use Rattle.net.specs.Net.{Net, Sized}
+use Rattle.net.specs.Net.{Net, Sized, Light}
 use Rattle.wiring.specs.Wired.{Wired}
 use Rattle.refusals.specs.Given.{orElse, markedFault, wordFault, Fine, Letters}
 use Rattle.refusals.specs.First.{MarkedFirst, WordFirst}
@@ -15,7 +15,7 @@ use Rattle.file_text.specs.Text.{fileOf}
 use Rattle.file_write.specs.declared.CaseLength.{CaseLength}
 use Rattle.file_write.specs.declared.CaseLength.the-variants.{Told, Refused}
 
--- 1, 2, 3 and 17 for the net and its initial marking, then 4 and 5 for the word; beside these nothing is lent
+-- 1, 2, 18, 3 and 17 for the net and its initial marking, then 4 and 5 for the word; beside these nothing is lent
 unfoldable pub textFault : Net → List ℕ → List ℕ → Fault
 textFault net initial w = orElse (markedFault net initial true) (wordFault (net .transitions) w)
 
@@ -39,6 +39,7 @@ pub record LengthTold (net : Net) (initial w : List ℕ) (r : CaseLength) : Type
 -- all that document 01 asks of a net, its initial marking and a word: nothing is refused exactly where this holds
 pub record Writable (net : Net) (initial w : List ℕ) : Type 0 where
   pub sized : Sized net
+  pub light : Light net
   pub marked : length initial ≡ net .places
   pub fine : Fine (net .caps) initial
   pub wired : Wired net

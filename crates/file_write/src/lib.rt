@@ -3,7 +3,11 @@
 use ground::Weight;
 use refusals::Fault;
 ghost use mathlib.Core.Path.{_≡_};
-ghost use Rattle.net.specs.Net.{netOf};
+ghost use Prim.Native.Nat.{_≤_};
+ghost use Rattle.ground.specs.Limits.{wordLimit};
+ghost use Rattle.net.specs.Net.{netOf, Sized};
+ghost use Rattle.file_mask.specs.Mask.{maskOf};
+ghost use Rattle.file_out.specs.Length.{wideRows, fileLength};
 ghost use Rattle.file_write.specs.Told.{textFault, LengthTold};
 ghost use Rattle.file_write.specs.Entry.{roomFault, writeFault, CaseWritten};
 
@@ -20,7 +24,7 @@ pub enum CaseLength {
     Refused(u8, usize),
 }
 
-// Refusals 1 to 5 and 17: what is wrong with the net, its marking and the word.
+// Refusals 1 to 5, 17 and 18: what is wrong with the net, its marking and the word.
 fn text_fault(
     places: usize,
     transitions: usize,
@@ -38,6 +42,24 @@ fn text_fault(
         Fault::Faulty(number, at) => Fault::Faulty(number, at),
         Fault::Sound => refusals::word_fault(transitions, word),
     }
+}
+
+// How long the file is of what is not refused. Its wide rows are counted first: they have more digits.
+fn text_length(
+    places: usize,
+    transitions: usize,
+    pre: &[Weight],
+    post: &[Weight],
+    caps: &[u16],
+    marks: &[u8],
+    letters: usize,
+) -> usize
+    requires { ⌜ (Sized (netOf places transitions (now pre) (now post) (now caps) (now marks))) × (letters ≤ wordLimit) ⌝ }
+    ensures { λ r. ⌜ r ≡ fileLength places transitions (wideRows (netOf places transitions (now (pre .entry)) (now (post .entry)) (now (caps .entry)) (now (marks .entry)))) (maskOf (now (marks .entry))) letters ⌝ }
+{
+    let wide = file_out::wide_rows(places, transitions, pre, post, caps, marks);
+    let mask = file_mask::mask_of(marks);
+    file_out::file_length(places, transitions, wide, mask, letters)
 }
 
 // Refusal 14: the room is shorter than the file.
@@ -69,8 +91,7 @@ fn write_fault(
     match found {
         Fault::Faulty(number, at) => Fault::Faulty(number, at),
         Fault::Sound => {
-            let mask = file_mask::mask_of(marks);
-            let needed = file_out::file_length(places, transitions, mask, word.len());
+            let needed = text_length(places, transitions, pre, post, caps, marks, word.len());
             room_fault(needed, room)
         }
     }
@@ -93,8 +114,7 @@ pub fn case_length(
     match found {
         Fault::Faulty(number, at) => CaseLength::Refused(number, at),
         Fault::Sound => {
-            let mask = file_mask::mask_of(marks);
-            let length = file_out::file_length(places, transitions, mask, word.len());
+            let length = text_length(places, transitions, pre, post, caps, marks, word.len());
             CaseLength::Told(length)
         }
     }

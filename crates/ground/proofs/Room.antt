@@ -1,4 +1,4 @@
--- The facts about which number `weightLimit` is: that the largest sums fit their types. No proof of another crate asks more of it (document 02, E6: "The proofs should carry the limit as a number"). Assumes nothing.
+-- The facts about which number `weightLimit` is: that the largest sums fit their types, and that a number lent is one that a replay reaches. No proof of another crate asks more of it, but where a case file's frames do (document 02, E6: "The proofs should carry the limit as a number"). Assumes nothing.
 use Prim.Native.Nat.{_+_, _*_, _^_, _<_, _≤_}
 use native.Mathlib.Omega.{arith}
 use Rattle.ground.specs.Limits.{countLimit, weightLimit, tokenLimit, entryLimit, wordLimit, replayLimit}
@@ -11,8 +11,12 @@ weight-room = omega arith
 pub replay-room : replayLimit + weightLimit < 2 ^ 32
 replay-room = omega arith
 
--- what a word gains or loses at a place fits 32 bits with a sign
-pub slot-room : weightLimit * wordLimit < 2 ^ 31
+-- a number lent in 16 bits is one that a replay reaches
+pub lent-room : 2 ^ 16 ≤ replayLimit + 1
+lent-room = omega arith
+
+-- what two words gain or lose at a place fits 32 bits with a sign
+pub slot-room : 2 * (weightLimit * wordLimit) < 2 ^ 31
 slot-room = omega arith
 
 -- the sums of a weighting, over places or over transitions, fit 64 bits with a sign

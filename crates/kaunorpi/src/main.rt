@@ -68,8 +68,8 @@ fn main() {
     let mut caps = [0u16; COUNT_LIMIT];
     let mut marks = [0u8; COUNT_LIMIT];
     let mut initial = [0u16; COUNT_LIMIT];
-    let mut pre = [0u8; CELL_LIMIT];
-    let mut post = [0u8; CELL_LIMIT];
+    let mut pre: [Weight; CELL_LIMIT] = [0; CELL_LIMIT];
+    let mut post: [Weight; CELL_LIMIT] = [0; CELL_LIMIT];
     let mut word = [0u8; WORD_LIMIT];
     let mut out = [0u8; ANSWER_LIMIT];
     answer(

@@ -7,6 +7,7 @@ use native.Mathlib.Omega.{arith}
 use lib.ListN.{length, getD}
 use borrow.Author.Tests.{ltb-false, le-leb, lt-leb}
 use Rattle.ground.specs.Limits.{tokenLimit, replayLimit}
+use Rattle.ground.proofs.Room.{lent-room}
 use Rattle.ground.proofs.Fill.{Made, make-end}
 use Rattle.net.specs.Net.{Net}
 use Rattle.net.specs.Letter.{arcsAt, passes, firedAt, Small}
@@ -39,7 +40,7 @@ module _ (P : ℕ) (pre post : List ℕ) (t : ℕ) (l : List ℕ) where
 
 -- m is a marking l of 16 bits that was loaded: less than a replay reaches
 pub small-as : (m l : List ℕ) → m ≡ l → ((p : ℕ) → getD l p 0 < 65536) → Small replayLimit m
-small-as m l e h = rw e (record { at = λ p. omega (arith, h p) })
+small-as m l e h = rw e (record { at = λ p. omega (arith, h p, lent-room) })
 
 -- a pair in a closed list: r tells whether t is enabled at l
 module _ (net : Net) (n : ℕ) (list : List ℕ) (t : ℕ) (l : List ℕ) (r : Bool) (e : r ≡ passes (arcsAt net t) l) where

@@ -65,7 +65,7 @@ rise net p t = riseOf (inForce (capacity net p) (mark net p)) (Pre net p t) (Pos
 abbrev pub tokens : List ℕ → ℕ → ℕ
 tokens m p = getD m p 0
 
--- no weight is above the limit, as bytes never are
+-- no weight is above the limit (document 02, E6: else refusal 18)
 pub record Light (net : Net) : Type 0 where
   pub pre : (k : ℕ) → getD (net .pre) k 0 ≤ weightLimit
   pub post : (k : ℕ) → getD (net .post) k 0 ≤ weightLimit

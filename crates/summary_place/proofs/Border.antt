@@ -21,7 +21,7 @@ change-fits s h = record { sfits = go (s .change) (omega (arith, slot-room)) (om
 
 -- what two slots gain or lose together has room too, however they were made
 pub slots-room : slotLimit + slotLimit < 2 ^ 31
-slots-room = omega arith
+slots-room = omega (arith, slot-room)
 
 -- what is read back
 pub up-read : (s : Slot) → SFits w32 (s .change) → up (toZ w32 (ofZ w32 (s .change))) ≡ up (s .change)

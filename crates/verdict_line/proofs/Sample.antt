@@ -4,11 +4,13 @@ use mathlib.Core.Path.{_≡_, refl, sym, ap, _∙_}
 use mathlib.Core.List.{List, [], _∷_, _++_}
 use Rattle.ground.specs.Lists.{first, tally, mapAt, table}
 use Rattle.wiring.specs.Wired.{loosePlace, looseTransition}
-use Rattle.refusals.specs.Given.{countsFault, looseFault, netFault, markingFault, startFault, markedFault, wordFault}
+use Rattle.weights.specs.Heavy.{heavy}
+use Rattle.refusals.specs.Given.{weightsFault, countsFault, looseFault, netFault, markingFault, startFault, markedFault, wordFault}
 use Rattle.file_digits.specs.Frame.{lineFeed, valueOf, isDigit, allDigits, byteAt, bytesFrom, wordsFrom}
 use Rattle.file_put.specs.Put.{digitOf, digitsOf, four, fours}
 use Rattle.net.specs.Net.{leavesFirst}
 use Rattle.file_mask.specs.Mask.{bitsOf}
+use Rattle.file_row.specs.Row.{weightsFrom}
 use Rattle.file_line.specs.declared.Reading.{Reading}
 use Rattle.file_line.specs.declared.Took.the-variants.{Next}
 use Rattle.file_line.specs.Read.{Rooms, fresh, ruleOf, formedKind, formedOf, hangsLoose, judgeOf, advancedKind, storedKind, lineOf, roomsOf, rooms}
@@ -98,34 +100,34 @@ module _ (caps marks initial pre post word : List ℕ) where
   rooms7 = rooms (65535 ∷ 65535 ∷ 5 ∷ caps) (0 ∷ 0 ∷ 0 ∷ marks) (1 ∷ 0 ∷ 0 ∷ initial) (1 ∷ 0 ∷ 0 ∷ 0 ∷ 1 ∷ 0 ∷ 0 ∷ 0 ∷ 3 ∷ pre) (0 ∷ 1 ∷ 0 ∷ 1 ∷ 0 ∷ 2 ∷ 0 ∷ 0 ∷ 0 ∷ post) (0 ∷ 1 ∷ 0 ∷ 1 ∷ 2 ∷ word)
 
   read1 : feedAll (both (going fresh []) rooms0) (line1 ++ lineFeed ∷ (line2 ++ lineFeed ∷ (line3 ++ lineFeed ∷ (line4 ++ lineFeed ∷ (line5 ++ lineFeed ∷ (line6 ++ lineFeed ∷ (line7 ++ lineFeed ∷ []))))))) ≡ feedAll (both (going state1 []) rooms1) (line2 ++ lineFeed ∷ (line3 ++ lineFeed ∷ (line4 ++ lineFeed ∷ (line5 ++ lineFeed ∷ (line6 ++ lineFeed ∷ (line7 ++ lineFeed ∷ []))))))
-  unfolding lineLen valueOf isDigit allDigits byteAt bytesFrom wordsFrom bitsOf first ruleOf formedKind formedOf judgeOf advancedKind storedKind lineOf roomsOf
+  unfolding lineLen valueOf isDigit allDigits byteAt bytesFrom wordsFrom weightsFrom bitsOf first ruleOf formedKind formedOf judgeOf advancedKind storedKind lineOf roomsOf
   read1 = step fresh state1 rooms0 rooms1 line1 (line2 ++ lineFeed ∷ (line3 ++ lineFeed ∷ (line4 ++ lineFeed ∷ (line5 ++ lineFeed ∷ (line6 ++ lineFeed ∷ (line7 ++ lineFeed ∷ [])))))) refl refl refl
 
   read2 : feedAll (both (going state1 []) rooms1) (line2 ++ lineFeed ∷ (line3 ++ lineFeed ∷ (line4 ++ lineFeed ∷ (line5 ++ lineFeed ∷ (line6 ++ lineFeed ∷ (line7 ++ lineFeed ∷ [])))))) ≡ feedAll (both (going state2 []) rooms2) (line3 ++ lineFeed ∷ (line4 ++ lineFeed ∷ (line5 ++ lineFeed ∷ (line6 ++ lineFeed ∷ (line7 ++ lineFeed ∷ [])))))
-  unfolding lineLen valueOf isDigit allDigits byteAt bytesFrom wordsFrom bitsOf first ruleOf formedKind formedOf judgeOf advancedKind storedKind lineOf roomsOf
+  unfolding lineLen valueOf isDigit allDigits byteAt bytesFrom wordsFrom weightsFrom bitsOf first ruleOf formedKind formedOf judgeOf advancedKind storedKind lineOf roomsOf
   read2 = step state1 state2 rooms1 rooms2 line2 (line3 ++ lineFeed ∷ (line4 ++ lineFeed ∷ (line5 ++ lineFeed ∷ (line6 ++ lineFeed ∷ (line7 ++ lineFeed ∷ []))))) refl refl refl
 
   read3 : feedAll (both (going state2 []) rooms2) (line3 ++ lineFeed ∷ (line4 ++ lineFeed ∷ (line5 ++ lineFeed ∷ (line6 ++ lineFeed ∷ (line7 ++ lineFeed ∷ []))))) ≡ feedAll (both (going state3 []) rooms3) (line4 ++ lineFeed ∷ (line5 ++ lineFeed ∷ (line6 ++ lineFeed ∷ (line7 ++ lineFeed ∷ []))))
-  unfolding lineLen valueOf isDigit allDigits byteAt bytesFrom wordsFrom bitsOf first ruleOf formedKind formedOf judgeOf advancedKind storedKind lineOf roomsOf
+  unfolding lineLen valueOf isDigit allDigits byteAt bytesFrom wordsFrom weightsFrom bitsOf first ruleOf formedKind formedOf judgeOf advancedKind storedKind lineOf roomsOf
   read3 = step state2 state3 rooms2 rooms3 line3 (line4 ++ lineFeed ∷ (line5 ++ lineFeed ∷ (line6 ++ lineFeed ∷ (line7 ++ lineFeed ∷ [])))) refl refl refl
 
   read4 : feedAll (both (going state3 []) rooms3) (line4 ++ lineFeed ∷ (line5 ++ lineFeed ∷ (line6 ++ lineFeed ∷ (line7 ++ lineFeed ∷ [])))) ≡ feedAll (both (going state4 []) rooms4) (line5 ++ lineFeed ∷ (line6 ++ lineFeed ∷ (line7 ++ lineFeed ∷ [])))
-  unfolding lineLen valueOf isDigit allDigits byteAt bytesFrom wordsFrom bitsOf first ruleOf formedKind formedOf judgeOf advancedKind storedKind lineOf roomsOf
+  unfolding lineLen valueOf isDigit allDigits byteAt bytesFrom wordsFrom weightsFrom bitsOf first ruleOf formedKind formedOf judgeOf advancedKind storedKind lineOf roomsOf
   read4 = step state3 state4 rooms3 rooms4 line4 (line5 ++ lineFeed ∷ (line6 ++ lineFeed ∷ (line7 ++ lineFeed ∷ []))) refl refl refl
 
   read5 : feedAll (both (going state4 []) rooms4) (line5 ++ lineFeed ∷ (line6 ++ lineFeed ∷ (line7 ++ lineFeed ∷ []))) ≡ feedAll (both (going state5 []) rooms5) (line6 ++ lineFeed ∷ (line7 ++ lineFeed ∷ []))
-  unfolding lineLen valueOf isDigit allDigits byteAt bytesFrom wordsFrom bitsOf first ruleOf formedKind formedOf judgeOf advancedKind storedKind lineOf roomsOf
+  unfolding lineLen valueOf isDigit allDigits byteAt bytesFrom wordsFrom weightsFrom bitsOf first ruleOf formedKind formedOf judgeOf advancedKind storedKind lineOf roomsOf
   read5 = step state4 state5 rooms4 rooms5 line5 (line6 ++ lineFeed ∷ (line7 ++ lineFeed ∷ [])) refl refl refl
 
   read6 : feedAll (both (going state5 []) rooms5) (line6 ++ lineFeed ∷ (line7 ++ lineFeed ∷ [])) ≡ feedAll (both (going state6 []) rooms6) (line7 ++ lineFeed ∷ [])
-  unfolding lineLen valueOf isDigit allDigits byteAt bytesFrom wordsFrom bitsOf first ruleOf formedKind formedOf loosePlace looseTransition looseFault hangsLoose judgeOf advancedKind storedKind lineOf roomsOf
+  unfolding lineLen valueOf isDigit allDigits byteAt bytesFrom wordsFrom weightsFrom bitsOf first ruleOf formedKind formedOf loosePlace looseTransition looseFault hangsLoose judgeOf advancedKind storedKind lineOf roomsOf
   read6 = step state5 state6 rooms5 rooms6 line6 (line7 ++ lineFeed ∷ []) refl refl refl
 
   read7 : feedAll (both (going state6 []) rooms6) (line7 ++ lineFeed ∷ []) ≡ feedAll (both (going state7 []) rooms7) []
-  unfolding lineLen valueOf isDigit allDigits byteAt bytesFrom wordsFrom bitsOf first ruleOf formedKind formedOf judgeOf advancedKind storedKind lineOf roomsOf
+  unfolding lineLen valueOf isDigit allDigits byteAt bytesFrom wordsFrom weightsFrom bitsOf first ruleOf formedKind formedOf judgeOf advancedKind storedKind lineOf roomsOf
   read7 = step state6 state7 rooms6 rooms7 line7 [] refl refl refl
 
   -- whatever the rooms hold beyond the case
   pub sample : fileLine file rooms0 ≡ answer
-  unfolding feedAll finishOf caseOf leavesFirst first tally mapAt table countsFault looseFault loosePlace looseTransition netFault markingFault startFault markedFault wordFault digitOf digitsOf playFrom replayFault four fours
+  unfolding feedAll finishOf caseOf leavesFirst first tally mapAt table countsFault looseFault loosePlace looseTransition heavy weightsFault netFault markingFault startFault markedFault wordFault digitOf digitsOf playFrom replayFault four fours
   sample = ap lineAt (read1 ∙ read2 ∙ read3 ∙ read4 ∙ read5 ∙ read6 ∙ read7) ∙ refl

@@ -9,6 +9,7 @@ use lib.ListN.{length, getD, take}
 use lib.Seq.{take-length}
 use Rattle.ground.specs.Lists.{table}
 use Rattle.ground.proofs.Fill.{table-length}
+use Rattle.ground.proofs.Room.{replay-room}
 use Rattle.net.specs.Net.{Net}
 use Rattle.net.specs.Firing.{Enabled, Fires}
 use Rattle.net.specs.declared.Cause.{Cause}
@@ -91,8 +92,8 @@ module _ (file : List ℕ) (x : Rooms) (big : Large x) (f : Written file) (room 
   answer-sayable : (s : Replay) → r ≡ s → Placed s → Sayable s room′
   answer-sayable (Fired n) e q =
       let a = fired-means (f .net) (f .initial) (f .word) true room r room′ p allowed n e in
-      let b = left-small (f .net) (f .initial) (f .word) true room r room′ p allowed (f .limited .weights) in
-      (omega (arith, a .0, f .limited .short), record { at = λ k. let z = b .at k in omega arith })
+      let b = left-small (f .net) (f .initial) (f .word) true room r room′ p allowed in
+      (omega (arith, a .0, f .limited .short), record { at = λ k. let z = b .at k in omega (arith, replay-room) })
   answer-sayable (Blocked i why) e q =
       let b = blocked-cause (f .net) (f .initial) (f .word) true room r room′ p allowed i why e in
       (omega (arith, b .0, f .limited .short), q)

@@ -20,7 +20,7 @@ overAt limit takes puts p = ltb limit (getD takes p 0) || ltb limit (getD puts p
 unfoldable pub rowOver : ℕ → List ℕ → List ℕ → Bool
 rowOver limit takes puts = ltb 0 (tally (overAt limit takes puts) (length takes))
 
--- transition t has a weight over 4,095, in Pre or in Post; the lowest such one, or the number of all
+-- transition t has a weight over the limit, in Pre or in Post; the lowest such one, or the number of all
 unfoldable pub heavy : Net → ℕ → Bool
 heavy net t = ltb 0 (tally (λ p. ltb weightLimit (Pre net p t) || ltb weightLimit (Post net p t)) (net .places))
 

@@ -1,6 +1,5 @@
 use native.Mathlib.Omega.{arith}
 use Rattle.file_out.proofs.Length.{mask-most}
-use Rattle.file_out.proofs.Reckoned.{rows-product}
 use borrow.Author.Needs.{needs}
 use Rattle.file_out.proofs.file_length.Statement.{statement}
 use Rattle.file_out.proofs.file_length.Tie as tie
@@ -20,14 +19,8 @@ line-length-requires-2 c κs = search needs
 mask-length-requires : tie.Need-mask-length-requires
 mask-length-requires c κs = search needs
 
-mul-line-length-2 : tie.Need-mul-line-length-2
-mul-line-length-2 c = search needs
-
-add-line-length-2 : tie.Need-add-line-length-2
-add-line-length-2 c = search needs
-
-line-length-requires-3 : tie.Need-line-length-requires-3
-line-length-requires-3 c κs = search needs
+rows-length-requires : tie.Need-rows-length-requires
+rows-length-requires c κs = search needs
 
 word-length-requires : tie.Need-word-length-requires
 word-length-requires c κs = search needs
@@ -44,21 +37,9 @@ add-result-2 c =
     let a : tie.After-line-length = search needs in
     let b : tie.After-line-length2 = search needs in
     let m : tie.After-mask-length = search needs in
-    let d : tie.After-line-length3 = search needs in
+    let d : tie.After-rows-length = search needs in
     let w : tie.After-word-length = search needs in
-    let p = rows-product (s .args .places) (s .args .transitions) _ (s .pre .0) (s .pre .1) (d .line-length3 .ensures) in
-    omega (arith, p .0, p .1, s .pre .0, s .pre .2, a .line-length .ensures, b .line-length2 .ensures, m .mask-length .ensures, mask-most (s .args .mask), w .word-length .ensures)
-
-mul-result-2 : tie.Need-mul-result-2
-mul-result-2 c =
-    let s : tie.Start = search needs in
-    let a : tie.After-line-length = search needs in
-    let b : tie.After-line-length2 = search needs in
-    let m : tie.After-mask-length = search needs in
-    let d : tie.After-line-length3 = search needs in
-    let w : tie.After-word-length = search needs in
-    let p = rows-product (s .args .places) (s .args .transitions) _ (s .pre .0) (s .pre .1) (d .line-length3 .ensures) in
-    omega (arith, p .0, p .1, s .pre .0, s .pre .2, a .line-length .ensures, b .line-length2 .ensures, m .mask-length .ensures, mask-most (s .args .mask), w .word-length .ensures)
+    omega (arith, d .rows-length .ensures, s .pre .0, s .pre .3, a .line-length .ensures, b .line-length2 .ensures, m .mask-length .ensures, mask-most (s .args .mask), w .word-length .ensures)
 
 add-result-3 : tie.Need-add-result-3
 add-result-3 c =
@@ -66,10 +47,9 @@ add-result-3 c =
     let a : tie.After-line-length = search needs in
     let b : tie.After-line-length2 = search needs in
     let m : tie.After-mask-length = search needs in
-    let d : tie.After-line-length3 = search needs in
+    let d : tie.After-rows-length = search needs in
     let w : tie.After-word-length = search needs in
-    let p = rows-product (s .args .places) (s .args .transitions) _ (s .pre .0) (s .pre .1) (d .line-length3 .ensures) in
-    omega (arith, p .0, p .1, s .pre .0, s .pre .2, a .line-length .ensures, b .line-length2 .ensures, m .mask-length .ensures, mask-most (s .args .mask), w .word-length .ensures)
+    omega (arith, d .rows-length .ensures, s .pre .0, s .pre .3, a .line-length .ensures, b .line-length2 .ensures, m .mask-length .ensures, mask-most (s .args .mask), w .word-length .ensures)
 
 add-result-4 : tie.Need-add-result-4
 add-result-4 c =
@@ -77,10 +57,9 @@ add-result-4 c =
     let a : tie.After-line-length = search needs in
     let b : tie.After-line-length2 = search needs in
     let m : tie.After-mask-length = search needs in
-    let d : tie.After-line-length3 = search needs in
+    let d : tie.After-rows-length = search needs in
     let w : tie.After-word-length = search needs in
-    let p = rows-product (s .args .places) (s .args .transitions) _ (s .pre .0) (s .pre .1) (d .line-length3 .ensures) in
-    omega (arith, p .0, p .1, s .pre .0, s .pre .2, a .line-length .ensures, b .line-length2 .ensures, m .mask-length .ensures, mask-most (s .args .mask), w .word-length .ensures)
+    omega (arith, d .rows-length .ensures, s .pre .0, s .pre .3, a .line-length .ensures, b .line-length2 .ensures, m .mask-length .ensures, mask-most (s .args .mask), w .word-length .ensures)
 
 returns : tie.Need-returns
 returns c =
@@ -88,10 +67,9 @@ returns c =
     let a : tie.After-line-length = search needs in
     let b : tie.After-line-length2 = search needs in
     let m : tie.After-mask-length = search needs in
-    let d : tie.After-line-length3 = search needs in
+    let d : tie.After-rows-length = search needs in
     let w : tie.After-word-length = search needs in
-    let p = rows-product (s .args .places) (s .args .transitions) _ (s .pre .0) (s .pre .1) (d .line-length3 .ensures) in
-    omega (arith, p .0, p .1, s .pre .0, s .pre .2, a .line-length .ensures, b .line-length2 .ensures, m .mask-length .ensures, mask-most (s .args .mask), w .word-length .ensures)
+    omega (arith, d .rows-length .ensures, s .pre .0, s .pre .3, a .line-length .ensures, b .line-length2 .ensures, m .mask-length .ensures, mask-most (s .args .mask), w .word-length .ensures)
 
 pub file-length-spec : {M : Type 1} → statement M
 file-length-spec =
@@ -102,14 +80,11 @@ file-length-spec =
     add-line-length
     line-length-requires-2
     mask-length-requires
-    mul-line-length-2
-    add-line-length-2
-    line-length-requires-3
+    rows-length-requires
     word-length-requires
     mul-result
     add-result
     add-result-2
-    mul-result-2
     add-result-3
     add-result-4
     returns)

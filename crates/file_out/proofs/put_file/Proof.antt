@@ -1,4 +1,3 @@
-use Prim.Native.Nat.{_*_}
 use mathlib.Core.Path.{_≡_}
 use native.Mathlib.Omega.{arith}
 use lib.ListN.{length}
@@ -6,8 +5,8 @@ use denote.Ref.{now}
 use Rattle.net.specs.Net.{Net, netOf}
 use Rattle.file_put.proofs.Appends.{append-then}
 use Rattle.file_text.specs.Text.{rowLine, joined, fileOf}
-use Rattle.file_out.specs.Length.{rowLength}
-use Rattle.file_out.proofs.Length.{counts-long, numbers-long, pockets-long, rows-long}
+use Rattle.file_out.specs.Length.{wideRows, rowsLength}
+use Rattle.file_out.proofs.Length.{counts-long, numbers-long, pockets-long, rows-all}
 use Rattle.file_out.proofs.Joined.{append-moved}
 use borrow.Author.Needs.{needs}
 use Rattle.file_out.proofs.put_file.Statement.{statement}
@@ -32,12 +31,12 @@ marked c = c .before .before .before .before
 abbrev rowed : tie.After-put-word → tie.After-put-rows
 rowed c = c .before .before .before .before
 
--- the net at the function's entry, and how long its 04 are
+-- the net at the function's entry, and how long its 04 and 07 are
 abbrev net : tie.Start → Net
 net s = netOf (s .args .places) (s .args .transitions) (now (s .args .pre)) (now (s .args .post)) (now (s .args .caps)) (now (s .args .marks))
 
-rows-all : (s : tie.Start) → length (joined (rowLine (net s)) (s .args .transitions)) ≡ s .args .transitions * rowLength (s .args .places)
-rows-all s = rows-long (net s) (s .pre .0 .0 .pres) (s .pre .0 .0 .posts) (s .args .transitions) (omega arith)
+rows-in : (s : tie.Start) → length (joined (rowLine (net s)) (s .args .transitions)) ≡ rowsLength (s .args .places) (s .args .transitions) (wideRows (net s))
+rows-in s = rows-all (net s) (s .pre .0 .0 .pres) (s .pre .0 .0 .posts)
 
 put-counts-requires : tie.Need-put-counts-requires
 put-counts-requires c κs =
@@ -84,7 +83,7 @@ put-word-requires c κs =
     let b = capped p in
     let a = counted b in
     let s = entered a in
-    (omega (arith, s .pre .0 .0 .capped, s .pre .0 .1, s .pre .1, append-moved (a .put-counts .ensures) (counts-long _ _), append-moved (b .put-numbers .ensures) (numbers-long _ _), append-moved (p .put-pockets .ensures) (pockets-long (now (s .args .marks))), append-moved (d .put-numbers2 .ensures) (numbers-long _ _), append-moved (f .put-rows .ensures) (rows-all s)), s .pre .0 .2)
+    (omega (arith, s .pre .0 .0 .capped, s .pre .0 .1, s .pre .1, append-moved (a .put-counts .ensures) (counts-long _ _), append-moved (b .put-numbers .ensures) (numbers-long _ _), append-moved (p .put-pockets .ensures) (pockets-long (now (s .args .marks))), append-moved (d .put-numbers2 .ensures) (numbers-long _ _), append-moved (f .put-rows .ensures) (rows-in s)), s .pre .0 .2)
 
 same-length : tie.Need-same-length
 same-length c = search needs

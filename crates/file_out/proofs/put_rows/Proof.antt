@@ -45,6 +45,9 @@ add-e c = let i : tie.In-loop Inv-loop μ-loop = search needs in omega (arith, t
 cast-put-row : tie.Need-cast-put-row Inv-loop μ-loop
 cast-put-row c = let i : tie.In-loop Inv-loop μ-loop = search needs in omega (arith, i .loop-test .taken, start i .pre .0 .few-transitions)
 
+mul-put-row : tie.Need-mul-put-row Inv-loop μ-loop
+mul-put-row c = let i : tie.In-loop Inv-loop μ-loop = search needs in omega (arith, takes-in i)
+
 sub-put-row : tie.Need-sub-put-row Inv-loop μ-loop
 sub-put-row c = search needs
 
@@ -53,6 +56,9 @@ part-put-row-start c = search needs
 
 part-put-row-end : tie.Need-part-put-row-end Inv-loop μ-loop
 part-put-row-end c = let i : tie.In-loop Inv-loop μ-loop = search needs in omega (arith, takes-in i)
+
+mul-put-row-2 : tie.Need-mul-put-row-2 Inv-loop μ-loop
+mul-put-row-2 c = let i : tie.In-loop Inv-loop μ-loop = search needs in omega (arith, puts-in i)
 
 sub-put-row-2 : tie.Need-sub-put-row-2 Inv-loop μ-loop
 sub-put-row-2 c = search needs
@@ -66,7 +72,7 @@ part-put-row-end-2 c = let i : tie.In-loop Inv-loop μ-loop = search needs in om
 put-row-requires : tie.Need-put-row-requires Inv-loop μ-loop
 put-row-requires c κs =
     let i : tie.In-loop Inv-loop μ-loop = search needs in
-    row-room (net i) (start i .pre .0) (i .before .loop .t) (i .loop-test .taken) _ (omega (arith, takes-in i)) (omega (arith, puts-in i)) _ _ _ _ (start i .pre .1) (i .before .loop .inv .1)
+    simp add-sub-cancel-left (row-room (net i) (start i .pre .0) (i .before .loop .t) (i .loop-test .taken) _ _ _ _ (start i .pre .1) (i .before .loop .inv .1))
 
 add-t : tie.Need-add-t Inv-loop μ-loop
 add-t c = search needs
@@ -96,9 +102,11 @@ put-rows-spec =
     mul-a
     add-e
     cast-put-row
+    mul-put-row
     sub-put-row
     part-put-row-start
     part-put-row-end
+    mul-put-row-2
     sub-put-row-2
     part-put-row-start-2
     part-put-row-end-2

@@ -45,7 +45,10 @@ put-weights-requires c κs =
     let k = kinded a in
     let s = start k in
     let e = row-alike {n = length (now (s .args .takes))} (k .row-kind .ensures) refl in
-    (omega (arith, s .pre .0, e, put-moved _ (a .put-byte .ensures) refl, put-moved _ (b .put-byte2 .ensures) refl), rw (k .row-kind .ensures) (takes-fit _ _))
+    let g = row-alike (k .row-kind .ensures) (s .pre .1) in
+    let f = takes-fit (now (s .args .takes)) (now (s .args .puts)) in
+    let h = puts-fit (now (s .args .takes)) (now (s .args .puts)) (s .pre .1) in
+    (omega (arith, s .pre .0, s .pre .1, e, g, put-moved _ (a .put-byte .ensures) refl, put-moved _ (b .put-byte2 .ensures) refl), rw (k .row-kind .ensures) (search needs))
 
 put-weights-requires-2 : tie.Need-put-weights-requires-2
 put-weights-requires-2 c κs =
@@ -56,7 +59,9 @@ put-weights-requires-2 c κs =
     let s = start k in
     let e = row-alike {n = length (now (s .args .takes))} (k .row-kind .ensures) refl in
     let g = row-alike (k .row-kind .ensures) (s .pre .1) in
-    (omega (arith, s .pre .0, e, g, put-moved _ (a .put-byte .ensures) refl, put-moved _ (b .put-byte2 .ensures) refl, put-moved _ (d .put-weights .ensures) (text-long _ _)), rw (k .row-kind .ensures) (puts-fit _ _ (s .pre .1)))
+    let f = takes-fit (now (s .args .takes)) (now (s .args .puts)) in
+    let h = puts-fit (now (s .args .takes)) (now (s .args .puts)) (s .pre .1) in
+    (omega (arith, s .pre .0, s .pre .1, e, g, put-moved _ (a .put-byte .ensures) refl, put-moved _ (b .put-byte2 .ensures) refl, put-moved _ (d .put-weights .ensures) (text-long _ _)), rw (k .row-kind .ensures) (search needs))
 
 put-feed-requires : tie.Need-put-feed-requires
 put-feed-requires c κs =
@@ -68,7 +73,7 @@ put-feed-requires c κs =
     let s = start k in
     let e = row-alike {n = length (now (s .args .takes))} (k .row-kind .ensures) refl in
     let g = row-alike (k .row-kind .ensures) (s .pre .1) in
-    omega (arith, s .pre .0, e, g, put-moved _ (a .put-byte .ensures) refl, put-moved _ (b .put-byte2 .ensures) refl, put-moved _ (d .put-weights .ensures) (text-long _ _), put-moved _ (f .put-weights2 .ensures) (text-long _ _))
+    omega (arith, s .pre .0, s .pre .1, e, g, put-moved _ (a .put-byte .ensures) refl, put-moved _ (b .put-byte2 .ensures) refl, put-moved _ (d .put-weights .ensures) (text-long _ _), put-moved _ (f .put-weights2 .ensures) (text-long _ _))
 
 same-length : tie.Need-same-length
 same-length c = search needs

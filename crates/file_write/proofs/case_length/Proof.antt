@@ -1,7 +1,7 @@
 use native.Mathlib.Omega.{arith}
 use denote.Ref.{now}
 use Rattle.net.specs.Net.{Net, netOf}
-use Rattle.file_write.proofs.Answers.{found-writable, found-noted, length-refused, length-told}
+use Rattle.file_write.proofs.Answers.{found-writable, length-refused, length-told}
 use borrow.Author.Needs.{needs}
 use Rattle.file_write.proofs.case_length.Statement.{statement}
 use Rattle.file_write.proofs.case_length.Tie as tie
@@ -18,18 +18,12 @@ enum-known-found c = search needs
 enum-told : tie.Need-enum-told
 enum-told c = search needs
 
-mask-of-requires : tie.Need-mask-of-requires
-mask-of-requires c κs =
-    let s : tie.Start = search needs in
-    let f : tie.After-text-fault = search needs in
-    found-noted (net s) (now (s .args .initial)) (now (s .args .word)) _ (f .text-fault .ensures) (search needs)
-
-file-length-requires : tie.Need-file-length-requires
-file-length-requires c κs =
+text-length-requires : tie.Need-text-length-requires
+text-length-requires c κs =
     let s : tie.Start = search needs in
     let f : tie.After-text-fault = search needs in
     let a = found-writable (net s) (now (s .args .initial)) (now (s .args .word)) _ (f .text-fault .ensures) (search needs) in
-    (a .sized .few-places, a .sized .few-transitions, omega (arith, a .short))
+    (a .sized, omega (arith, a .short))
 
 returns : tie.Need-returns
 returns c =
@@ -41,9 +35,8 @@ returns-2 : tie.Need-returns-2
 returns-2 c =
     let s : tie.Start = search needs in
     let f : tie.After-text-fault = search needs in
-    let m : tie.After-mask-of = search needs in
-    let l : tie.After-file-length = search needs in
-    length-told (net s) (now (s .args .initial)) (now (s .args .word)) _ (f .text-fault .ensures) _ _ (search needs) (m .mask-of .ensures) (l .file-length .ensures)
+    let l : tie.After-text-length = search needs in
+    length-told (net s) (now (s .args .initial)) (now (s .args .word)) _ (f .text-fault .ensures) _ (search needs) (l .text-length .ensures)
 
 pub case-length-spec : {M : Type 1} → statement M
 case-length-spec =
@@ -52,7 +45,6 @@ case-length-spec =
     text-fault-requires
     enum-known-found
     enum-told
-    mask-of-requires
-    file-length-requires
+    text-length-requires
     returns
     returns-2)

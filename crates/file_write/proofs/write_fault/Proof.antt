@@ -1,7 +1,7 @@
 use native.Mathlib.Omega.{arith}
 use denote.Ref.{now}
 use Rattle.net.specs.Net.{Net, netOf}
-use Rattle.file_write.proofs.Answers.{found-writable, found-noted, fault-plain, fault-room}
+use Rattle.file_write.proofs.Answers.{found-writable, fault-plain, fault-room}
 use borrow.Author.Needs.{needs}
 use Rattle.file_write.proofs.write_fault.Statement.{statement}
 use Rattle.file_write.proofs.write_fault.Tie as tie
@@ -18,18 +18,12 @@ enum-known-found c = search needs
 enum-told : tie.Need-enum-told
 enum-told c = search needs
 
-mask-of-requires : tie.Need-mask-of-requires
-mask-of-requires c κs =
-    let s : tie.Start = search needs in
-    let f : tie.After-text-fault = search needs in
-    found-noted (net s) (now (s .args .initial)) (now (s .args .word)) _ (f .text-fault .ensures) (search needs)
-
-file-length-requires : tie.Need-file-length-requires
-file-length-requires c κs =
+text-length-requires : tie.Need-text-length-requires
+text-length-requires c κs =
     let s : tie.Start = search needs in
     let f : tie.After-text-fault = search needs in
     let a = found-writable (net s) (now (s .args .initial)) (now (s .args .word)) _ (f .text-fault .ensures) (search needs) in
-    (a .sized .few-places, a .sized .few-transitions, omega (arith, a .short))
+    (a .sized, omega (arith, a .short))
 
 room-fault-requires : tie.Need-room-fault-requires
 room-fault-requires c κs = search needs
@@ -44,10 +38,9 @@ returns-2 : tie.Need-returns-2
 returns-2 c =
     let s : tie.Start = search needs in
     let f : tie.After-text-fault = search needs in
-    let m : tie.After-mask-of = search needs in
-    let l : tie.After-file-length = search needs in
+    let l : tie.After-text-length = search needs in
     let g : tie.After-room-fault = search needs in
-    fault-room (net s) (now (s .args .initial)) (now (s .args .word)) _ (f .text-fault .ensures) (s .args .room) _ _ _ (search needs) (m .mask-of .ensures) (l .file-length .ensures) (g .room-fault .ensures)
+    fault-room (net s) (now (s .args .initial)) (now (s .args .word)) _ (f .text-fault .ensures) (s .args .room) _ _ (search needs) (l .text-length .ensures) (g .room-fault .ensures)
 
 pub write-fault-spec : {M : Type 1} → statement M
 write-fault-spec =
@@ -56,8 +49,7 @@ write-fault-spec =
     text-fault-requires
     enum-known-found
     enum-told
-    mask-of-requires
-    file-length-requires
+    text-length-requires
     room-fault-requires
     returns
     returns-2)
