@@ -14,6 +14,8 @@
 #define SIDE(question) \
     static __typeof__(kaunorpi_##question) *volatile side_##question[2] = {kaunorpi_##question, same_##question};
 SIDE(replay_word)
+SIDE(start_replay)
+SIDE(replay_part)
 SIDE(summary_word)
 SIDE(join_summaries)
 SIDE(place_weighting)
@@ -26,7 +28,7 @@ SIDE(write_case)
 SIDE(order_logs)
 
 /* What is lent. */
-static volatile size_t P, T, cells, letters, entries, file_size, wide, log_length[2];
+static volatile size_t P, T, cells, letters, part_letters, entries, file_size, wide, log_length[2];
 static uint16_t pre[4096], post[4096], caps[64], initial[64], list[4096 * 64];
 static uint8_t marks[64], word[65535], file[KAUNORPI_FILE_LIMIT], logs[2][KAUNORPI_MOST_LOG];
 static int16_t weights[64];
@@ -59,6 +61,17 @@ static void ask_replay(int side) {
     struct written *o = &out[side];
     kaunorpi_replay a = side_replay_word[side](NET, initial, P, word, letters, o->room, P);
     keep(o, a.kind, a.number, a.position, a.place);
+}
+
+/* The word in parts; the state's numbers are kept beside the answer, since the bytes behind its last field are nobody's. */
+static void ask_parts(int side) {
+    static kaunorpi_running states[2];
+    kaunorpi_running *s = &states[side];
+    kaunorpi_replay a = side_start_replay[side](NET, initial, P, s);
+    for (size_t from = 0; from < letters; from += part_letters)
+        a = side_replay_part[side](NET, s, word + from, letters - from < part_letters ? letters - from : part_letters);
+    memcpy(out[side].room, s->marking, sizeof s->marking);
+    keep(&out[side], a.kind, (uint8_t)(a.number | s->blocked), a.position, s->fired);
 }
 
 static void ask_summary(int side) {
@@ -153,6 +166,16 @@ static void make_word(void) {
     for (size_t i = 0; i < 65535; i++)
         word[i] = (uint8_t)below(64);
 }
+
+/* 4,096 letters of it, in parts of so many. */
+static void make_parts(size_t length) {
+    make_word();
+    letters = 4096;
+    part_letters = length;
+}
+static void make_parts_1(void) { make_parts(1); }
+static void make_parts_64(void) { make_parts(64); }
+static void make_parts_4096(void) { make_parts(4096); }
 
 /* The same with every other of the capped places a pocket: there is always room for what a letter puts before it takes. */
 static void make_pockets(void) {
@@ -348,6 +371,10 @@ static const struct row rows[] = {
     {"replay_word", "65,535 letters, 64 places", make_word, ask_replay, 60, 1},
     {"replay_word", "the same, half of the capped places pockets", make_pockets, ask_replay, 60, 1},
     {"replay_word", "the same, weights of 1,000 and more", make_kilograms, ask_replay, 60, 1},
+    {"replay_part", "4,096 letters, 64 places, in 4096 parts", make_parts_1, ask_parts, 3, 1},
+    {"replay_part", "4,096 letters, 64 places, in 64 parts", make_parts_64, ask_parts, 60, 1},
+    {"replay_part", "4,096 letters, 64 places, in 1 part", make_parts_4096, ask_parts, 200, 2},
+    {"replay_part", "4,096 letters, 64 places, whole by replay_word", make_parts_4096, ask_replay, 200, 2},
     {"summary_word", "65,535 letters, 64 places", make_word, ask_summary, 12, 1},
     {"join_summaries", "64 places", make_halves, ask_join, 300, 200},
     {"place_weighting", "64 places, 64 transitions, invariant", make_word, ask_weighting, 300, 20},

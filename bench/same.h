@@ -6,6 +6,8 @@
 #include "../include/kaunorpi.h"
 
 __typeof__(kaunorpi_replay_word) same_replay_word;
+__typeof__(kaunorpi_start_replay) same_start_replay;
+__typeof__(kaunorpi_replay_part) same_replay_part;
 __typeof__(kaunorpi_summary_word) same_summary_word;
 __typeof__(kaunorpi_join_summaries) same_join_summaries;
 __typeof__(kaunorpi_place_weighting) same_place_weighting;

@@ -59,6 +59,10 @@ void start_lending(int round);
 const struct piece *lend(const char *name, struct type type, int is_room);
 int right_memory(void);
 
+/* The state of a running replay, which the line tells field by field: lent as the struct of the header. */
+struct kaunorpi_running *lend_state(void);
+void take_state_back(void);
+
 void report(void);
 
 #endif

@@ -6,6 +6,8 @@
 #include <stdio.h>
 #include <string.h>
 
+#include "kaunorpi.h"
+
 enum { MOST = 1 << 20, GUARD = 64, PIECES = 16 };
 
 static _Alignas(64) uint8_t memory[MOST], wanted[MOST];
@@ -14,11 +16,20 @@ static size_t piece_count, used;
 static int round_now;
 static const uint8_t guards[ROUNDS] = {0xA5, 0x5A};
 
+/* A state between guard bytes; is_lent is whether this round has one. */
+static struct {
+    uint8_t before[GUARD];
+    kaunorpi_running state;
+    uint8_t behind[GUARD];
+} running;
+static int is_lent;
+
 /* Begins a round of the call: nothing is lent. In the second one what has no entry is lent as a null pointer. */
 void start_lending(int round) {
     round_now = round;
     piece_count = 0;
     used = 0;
+    is_lent = 0;
 }
 
 /* Puts guard bytes behind what is used, up to there. */
@@ -52,6 +63,48 @@ const struct piece *lend(const char *name, struct type type, int is_room) {
         malformed("more lent than the runner holds", name);
     lay_out(&pieces[piece_count], name, type, is_room);
     return &pieces[piece_count++];
+}
+
+/* The pieces that a line tells a state by, in the struct's order, and where each lies in it; all are read and written. */
+static void state_pieces(const struct piece *pieces_of[5], void *fields[5]) {
+    kaunorpi_running *s = &running.state;
+    static const char *const names[] = {"marking", "fired", "position", "place", "blocked"};
+    void *at[] = {s->marking, &s->fired, &s->position, &s->place, &s->blocked};
+    for (size_t k = 0; k < 5; k++) {
+        pieces_of[k] = lend(names[k], k < 4 ? TYPE(uint32_t) : TYPE(uint8_t), 1);
+        fields[k] = at[k];
+        if (pieces_of[k]->count != (k == 0 ? KAUNORPI_MOST_PLACES : 1))
+            malformed("not as many numbers as a state has", names[k]);
+    }
+}
+
+/* The state that the line tells, between guard bytes of the round; what lies behind its last field is as the guards. */
+kaunorpi_running *lend_state(void) {
+    const struct piece *of[5];
+    void *fields[5];
+    memset(&running, guards[round_now], sizeof running);
+    state_pieces(of, fields);
+    for (size_t k = 0; k < 5; k++)
+        memcpy(fields[k], of[k]->at, of[k]->count * of[k]->type.size);
+    is_lent = 1;
+    return &running.state;
+}
+
+/* Puts what the state has become where it is compared, and looks at the guard bytes around it. */
+void take_state_back(void) {
+    const struct piece *of[5];
+    void *fields[5];
+    uint8_t guard[GUARD];
+    if (!is_lent)
+        return;
+    state_pieces(of, fields);
+    for (size_t k = 0; k < 5; k++)
+        memcpy(of[k]->at, fields[k], of[k]->count * of[k]->type.size);
+    memset(guard, guards[round_now], sizeof guard);
+    if (memcmp(running.before, guard, sizeof guard) != 0 || memcmp(running.behind, guard, sizeof guard) != 0) {
+        report();
+        puts("wrote outside the state");
+    }
 }
 
 /* Prints an entry of a piece that lies there. */

@@ -55,6 +55,7 @@ typedef int32_t i32;
 #define SUMMARY(which) \
     NUMBER(size_t, which##places), NUMBER(u32, which##letters), LENT(u32, which##need), LENT(u32, which##climb), \
         LENT(i32, which##change)
+#define STATE lend_state()
 #define SUMMARY_ROOMS ROOM(u32, need), ROOM(u32, climb), ROOM(i32, change)
 
 /* Is it the question kaunorpi_ASKED? Then the call is made, and its answer, a struct kaunorpi_ANSWER, kept. */
@@ -69,6 +70,8 @@ static void ask(void) {
     QUESTION(replay_word, replay, NET, LENT(u16, initial), LENT(u8, word), ROOM(u32, room))
     QUESTION(replay_stretch, replay, NET, LENT(u16, initial), LENT(u8, word), NUMBER(size_t, start), NUMBER(size_t, end),
              ROOM(u32, room))
+    QUESTION(start_replay, replay, NET, LENT(u16, initial), STATE)
+    QUESTION(replay_part, replay, NET, STATE, LENT(u8, part))
     QUESTION(empty_summary, summary, NUMBER(size_t, places), SUMMARY_ROOMS)
     QUESTION(summary_word, summary, NET, LENT(u8, word), SUMMARY_ROOMS)
     QUESTION(summary_stretch, summary, NET, LENT(u8, word), NUMBER(size_t, start), NUMBER(size_t, end), SUMMARY_ROOMS)
@@ -124,6 +127,7 @@ static void run_call(char *line) {
     for (int round = 0, right = 1; round < ROUNDS && right; round++) {
         start_lending(round);
         ask();
+        take_state_back();
         check_used(&call.lent);
         check_used(&call.left);
         right = right_answer() & right_memory();

@@ -1,7 +1,7 @@
 /* The library from C, with kaunorpi.h alone: a case file is read, written back and replayed, a word is summed up, two
- * summaries are joined and one is asked, a list of markings is judged, two logs are put into one order, a pocket jams, a bin is
- * counted in kilograms. What is expected is document 01's case and its samples, worked out by hand there, and of two logs, of
- * pockets and of kilograms by hand here. Prints nothing and ends with 0 where every answer is right, else prints the lines that
+ * summaries are joined and one is asked, a list of markings is judged, two logs are put into one order, a log comes in parts, a
+ * pocket jams, a bin is counted in kilograms. What is expected is document 01's case and its samples, worked out by hand there,
+ * and of two logs, of parts, of pockets and of kilograms by hand here. Prints nothing and ends with 0 where every answer is right, else prints the lines that
  * are not. */
 #include <stdio.h>
 #include <string.h>
@@ -218,6 +218,44 @@ static void two_logs(void) {
     EXPECT(a.kind == KAUNORPI_ANSWERED && a.number == 1 && order[0] == 7 && work[0] == 0);
 }
 
+/* The case's word 0 1 0 1 2 in parts, an empty one among them, from a state that held anything; then sample 2's, which is over at
+ * letter 5: the block stays, a wrong letter is refused all the same, and what is past the three places is never touched. */
+static void parts(void) {
+    static const uint8_t over[] = {0, 1, 0, 1}, wrong_letter[] = {0, 3};
+    kaunorpi_running s, before;
+    memset(&s, 7, sizeof s);
+    kaunorpi_replay r = kaunorpi_start_replay(NET, initial, 2, &s);
+    EXPECT(r.kind == KAUNORPI_REFUSED && r.number == 2 && r.position == 0 && s.blocked == 7 && s.marking[0] == 0x07070707);
+    r = kaunorpi_start_replay(NET, initial, 3, &s);
+    EXPECT(r.kind == KAUNORPI_ANSWERED && r.number == 0 && r.position == 0 && r.place == 0);
+    EXPECT(s.marking[0] == 1 && s.marking[2] == 0 && s.marking[63] == 0 && s.fired == 0 && s.blocked == 0);
+    s.marking[3] = 4000000000;
+    r = kaunorpi_replay_part(NET, &s, word, 2);
+    EXPECT(r.kind == KAUNORPI_ANSWERED && r.number == 0 && r.position == 2 && s.fired == 2 && s.marking[2] == 2);
+    r = kaunorpi_replay_part(NET, &s, NULL, 0);
+    EXPECT(r.kind == KAUNORPI_ANSWERED && r.number == 0 && r.position == 2 && s.fired == 2);
+    before = s;
+    r = kaunorpi_replay_part(NET, &s, word + 2, 3);
+    EXPECT(r.kind == KAUNORPI_ANSWERED && r.number == 0 && r.position == 5 && s.fired == 5 && s.marking[2] == 1);
+    /* a state that was kept goes on as if nothing had happened */
+    s = before;
+    r = kaunorpi_replay_part(NET, &s, over, 4);
+    EXPECT(r.kind == KAUNORPI_ANSWERED && r.number == 2 && r.position == 5 && r.place == 2);
+    EXPECT(s.fired == 5 && s.position == 5 && s.place == 2 && s.blocked == 2 && s.marking[1] == 1 && s.marking[2] == 4);
+    r = kaunorpi_replay_part(NET, &s, NULL, 0);
+    EXPECT(r.kind == KAUNORPI_ANSWERED && r.number == 2 && r.position == 5 && r.place == 2 && s.fired == 5);
+    r = kaunorpi_replay_part(NET, &s, wrong_letter, 2);
+    EXPECT(r.kind == KAUNORPI_REFUSED && r.number == 5 && r.position == 1 && s.blocked == 2 && s.fired == 5);
+    s.place = 3;
+    r = kaunorpi_replay_part(NET, &s, word, 1);
+    EXPECT(r.kind == KAUNORPI_REFUSED && r.number == 13 && r.position == 0);
+    s.marking[2] = 6;
+    EXPECT(kaunorpi_replay_part(NET, &s, word, 1).number == 3 && s.marking[3] == 4000000000);
+    s.marking[2] = 4;
+    s.fired = 65535;
+    EXPECT(kaunorpi_replay_part(NET, &s, word, 1).number == 4);
+}
+
 /* A belt pocket for one board, with one in it: transition 0 takes it and brings the next. As a plain place it passes, as a
  * pocket it jams; without a capacity a pocket passes too. The file of the pocket has a frame 06, and is read with a mark of 1. */
 static void pockets(void) {
@@ -284,6 +322,7 @@ int main(void) {
     summaries();
     lists_and_weightings();
     two_logs();
+    parts();
     pockets();
     kilograms();
     return wrong;
