@@ -8,7 +8,7 @@ use lib.ListN.{length, length-append}
 use Rattle.file_digits.specs.Frame.{allDigits, byteAt, bytesFrom}
 use Rattle.file_digits.proofs.Bytes.{Below, none, more, below-append, bytes-split}
 use Rattle.file_put.specs.Put.{digitsOf}
-use Rattle.file_put.proofs.Round.{canon, digits-long, byte-digits}
+use Rattle.file_put.proofs.Round.{canon, byte-digits}
 use Rattle.file_row.specs.Row.{weightBytes, rowKind, weightsText, rowFrame, takesIn, putsIn}
 use Rattle.file_row.proofs.Weights.{text-long, text-small, text-from, from-text}
 use Rattle.file_row.proofs.Narrow.{kind-small, takes-fit, puts-fit}

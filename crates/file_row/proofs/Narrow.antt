@@ -1,7 +1,7 @@
 -- Laws of the two kinds of frame that have a transition's weights. Assumes nothing.
-use mathlib.Core.Path.{_≡_, refl, sym, _∙_}
-use mathlib.Core.Bool.{Bool, true, false, cond, _||_}
-use mathlib.Core.List.{List, []}
+use mathlib.Core.Path.{_≡_, refl}
+use mathlib.Core.Bool.{Bool, true, false, cond}
+use mathlib.Core.List.{List}
 use Prim.Native.Nat.{ℕ, _+_, _*_, _≤_, _<_}
 use native.Mathlib.Omega.{arith}
 use lib.ListN.{length, getD}
@@ -64,21 +64,6 @@ module _ (takes puts : List ℕ) where
       go : (b : Bool) → isWide takes puts ≡ b → isWide takes puts ≡ true
       go true q = q
       go false q = absurd (omega (arith, kind-narrow q))
-
-  pub narrow-kind : rowKind takes puts ≡ narrowRow → isWide takes puts ≡ false
-  narrow-kind e = go (isWide takes puts) refl
-    where
-      go : (b : Bool) → isWide takes puts ≡ b → isWide takes puts ≡ false
-      go true q = absurd (omega (arith, kind-wide q))
-      go false q = q
-
-  pub kind-row : isRow (rowKind takes puts) ≡ true
-  unfolding rowKind
-  kind-row = go (isWide takes puts)
-    where
-      go : (b : Bool) → isRow (cond b wideRow narrowRow) ≡ true
-      go true = refl
-      go false = refl
 
   pub kind-small : rowKind takes puts < 256
   unfolding rowKind

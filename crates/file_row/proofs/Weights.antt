@@ -1,28 +1,24 @@
--- Laws of a row of weights in a frame: how many, which, how large; read from digits, written as bytes, and back. Assumes nothing.
+-- Laws of a row of weights in a frame: how many; read from digits, written as bytes, and back. Assumes nothing.
 use mathlib.Core.Path.{_≡_, refl, sym, _∙_, ap}
 use mathlib.Core.Bool.{Bool, true, false, cond}
-use mathlib.Core.List.{List, [], _∷_, _++_}
+use mathlib.Core.List.{List, _++_}
 use Prim.Native.Nat.{ℕ, _+_, _-_, _*_, _≤_, _<_}
 use native.Mathlib.Omega.{arith}
 use native.Mathlib.Nat.{one-mul}
-use lib.ListN.{length, getD, set}
+use lib.ListN.{length, set}
 use lib.Dec.{eqb}
 use lib.Seq.{sets}
 use Rattle.file_digits.specs.Frame.{byteAt, wordAt, bytesFrom, wordsFrom}
 use Rattle.file_digits.proofs.Frames.{bytes-turn, words-turn, bytes-none, words-none}
-use Rattle.file_digits.proofs.Bytes.{Below, below-of, below-more, below-append, bytes-long, words-long, bytes-at, words-at, bytes-small, words-small}
+use Rattle.file_digits.proofs.Bytes.{Below, below-of, below-append, bytes-long, words-long}
 use Rattle.file_put.specs.Put.{digitsOf, twos}
 use Rattle.file_put.proofs.Round.{piece}
 use Rattle.file_put.proofs.Twos.{twos-long, twos-small, twos-apart, words-bytes}
-use Rattle.file_row.specs.Row.{byteLimit, wideRow, weightBytes, weightsText, weightsFrom}
+use Rattle.file_row.specs.Row.{wideRow, weightBytes, weightsText, weightsFrom}
 use Rattle.file_row.specs.Walk.{weightAt, Fit}
 
--- one number or two bytes
-once : (i n : ℕ) → i + 1 * n ≡ i + n
-once i n = omega arith
-
 module _ (k : ℕ) where
-  -- as many as asked for, and entry j of them
+  -- as many as asked for
   pub from-long : (d : List ℕ) (i n : ℕ) → length (weightsFrom k d i n) ≡ n
   unfolding weightsFrom
   from-long d i n = go (eqb k wideRow)
@@ -30,23 +26,6 @@ module _ (k : ℕ) where
       go : (b : Bool) → length (cond b (wordsFrom d i n) (bytesFrom d i n)) ≡ n
       go true = words-long d i n
       go false = bytes-long d i n
-
-  pub from-at : (d : List ℕ) (i n j : ℕ) → j < n → getD (weightsFrom k d i n) j 0 ≡ weightAt k d (i + weightBytes k * j)
-  unfolding weightsFrom weightAt
-  from-at d i n j h = go (eqb k wideRow)
-    where
-      go : (b : Bool) → getD (cond b (wordsFrom d i n) (bytesFrom d i n)) j 0 ≡ cond b (wordAt d (i + cond b 2 1 * j)) (byteAt d (i + cond b 2 1 * j))
-      go true = words-at d i n j h
-      go false = bytes-at d i n j h ∙ ap (byteAt d) (sym (once i j))
-
-  -- each fits 16 bits
-  pub from-small : (d : List ℕ) (i n : ℕ) → Below 65536 (weightsFrom k d i n)
-  unfolding weightsFrom
-  from-small d i n = go (eqb k wideRow)
-    where
-      go : (b : Bool) → Below 65536 (cond b (wordsFrom d i n) (bytesFrom d i n))
-      go true = words-small d i n
-      go false = below-more 65536 (bytesFrom d i n) (omega arith) (bytes-small d i n)
 
   -- the bytes of a row: how many, and each is one
   pub text-long : (l : List ℕ) → length (weightsText k l) ≡ weightBytes k * length l

@@ -1,9 +1,9 @@
-use mathlib.Core.Path.{_≡_, _∙_, ap}
-use Prim.Native.Nat.{ℕ, _+_, _*_}
+use mathlib.Core.Path.{_∙_, ap}
+use Prim.Native.Nat.{ℕ, _+_}
 use native.Mathlib.Omega.{arith}
 use denote.Ref.{now}
 use lib.Seq.{sets}
-use Rattle.file_row.specs.Row.{weightBytes, weightsFrom}
+use Rattle.file_row.specs.Row.{weightsFrom}
 use Rattle.file_row.proofs.Narrow.{row-bytes}
 use borrow.Author.Needs.{needs}
 use Rattle.file_row.proofs.store_row.Statement.{statement}
