@@ -228,8 +228,9 @@ kaunorpi_replay kaunorpi_start_replay(KAUNORPI_NET, const uint16_t *initial, siz
  * In the last two cases the state has the tokens after the letters before that one, their number, and the block.
  * A state that holds a block already: the answer is that block as it stands, 0x81 and its `blocked`, position and place, and
  * nothing changes; a part with a wrong letter is refused all the same. A refusal leaves the state as found.
- * Contract: crates/c_running/src/lib.rt. Theorems: any-cutting, block-stays, tail-stays, resumes in
- * crates/running/proofs/Cutting.antt; refused-exactly, refused-as-found in crates/running/proofs/Exactly.antt. */
+ * Contract: crates/c_running/src/lib.rt. Theorems: any-cutting, block-stays, tail-stays in
+ * crates/running/proofs/Cutting.antt; resumes in crates/running/proofs/Meaning.antt; refused-exactly, refused-as-found in
+ * crates/running/proofs/Exactly.antt. */
 kaunorpi_replay kaunorpi_replay_part(KAUNORPI_NET, kaunorpi_running *state, const uint8_t *part, size_t part_len);
 
 /* ---- Summaries: what a word needs, how far it climbs, and what it changes, at each place. At a pocket that has a
