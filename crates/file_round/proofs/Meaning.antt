@@ -3,7 +3,9 @@ use Prim.Native.Nat.{ℕ, _≤_}
 use mathlib.Core.Path.{_≡_, refl, sym, ap, _∙_}
 use mathlib.Core.List.{List}
 use lib.ListN.{length, take, drop}
+use Rattle.ground.specs.Limits.{noCapacity}
 use Rattle.net.specs.Net.{Net}
+use Rattle.net.specs.Letter.{Small}
 use Rattle.file_line.specs.Read.{Rooms}
 use Rattle.file_text.specs.Text.{fileOf, Limited, Written as WrittenFile, filled, filed}
 use Rattle.file_text.proofs.Meaning.{filled-net, filled-marking, filled-word, file-filed, file-apart}
@@ -21,21 +23,21 @@ use Rattle.file_write.specs.Told.{LengthTold, Writable}
 use Rattle.file_write.specs.Entry.{CaseWritten}
 use Rattle.file_write.proofs.Exactly.{allowed-told, allowed-written}
 use Rattle.file_write.proofs.Meaning.{written-allowed, written-file, written-rest}
-use Rattle.file_round.specs.Fronts.{Bytes, frontNet, frontMarking, frontWord}
+use Rattle.file_round.specs.Fronts.{frontNet, frontMarking, frontWord}
 
--- what is written is within the limits as a file has it, its numbers being of their types
-limited-of : (net : Net) (initial w : List ℕ) → Writable net initial w → Bytes net → Limited (filed net) initial w
-limited-of net initial w a b = filed-limited net initial w (a .sized) (a .wired) (b .weights) (b .capacities) (a .marked) (a .fine) (a .short) (a .letters)
+-- what is written is within the limits as a file has it, its capacities being numbers in 16 bits
+limited-of : (net : Net) (initial w : List ℕ) → Writable net initial w → Small noCapacity (net .caps) → Limited (filed net) initial w
+limited-of net initial w a capacities = filed-limited net initial w (a .sized) (a .wired) (a .light) capacities (a .marked) (a .fine) (a .short) (a .letters)
 
 of-limited : (net : Net) (initial w : List ℕ) → Limited net initial w → Writable net initial w
-of-limited net initial w m = record { sized = m .sized; marked = m .marked; fine = m .fine; wired = m .wired; short = m .short; letters = m .letters }
+of-limited net initial w m = record { sized = m .sized; light = m .weights; marked = m .marked; fine = m .fine; wired = m .wired; short = m .short; letters = m .letters }
 
 -- "reading what was written gives the same net and word", its marks as the reader gives them, 1 for any but 0: the first n bytes of
 -- the room, into rooms of the largest sizes
-module _ (net : Net) (initial w room : List ℕ) (n : ℕ) (room′ : List ℕ) (written : CaseWritten net initial w room (Written n) room′) (bytes : Bytes net)
+module _ (net : Net) (initial w room : List ℕ) (n : ℕ) (room′ : List ℕ) (written : CaseWritten net initial w room (Written n) room′) (capacities : Small noCapacity (net .caps))
     (x : Rooms) (largest : Largest x) (r : CaseFile) (x′ : Rooms) (read : CaseRead (take n room′) x r x′) where
   limited : Limited (filed net) initial w
-  limited = limited-of net initial w (written-allowed net initial w room n room′ written .writable) bytes
+  limited = limited-of net initial w (written-allowed net initial w room n room′ written .writable) capacities
 
   came : (r ≡ Read (net .places) (net .transitions) (length w)) × (x′ ≡ filled x (filed net) initial w)
   came = filed-read net initial w limited x r x′ largest (rw (written-file net initial w room n room′ written) at read)
@@ -79,7 +81,7 @@ module _ (file : List ℕ) (x : Rooms) (P T n : ℕ) (x′ : Rooms) (read : Case
 -- no two nets, markings or words have one file: where the bytes are the same, so are they, but for marks that are not 0, which count as 1
 module _ (net net′ : Net) (initial w room initial′ w′ other : List ℕ) (n k : ℕ) (room′ other′ : List ℕ)
     (written : CaseWritten net initial w room (Written n) room′) (written′ : CaseWritten net′ initial′ w′ other (Written k) other′)
-    (bytes : Bytes net) (bytes′ : Bytes net′) where
+    (capacities : Small noCapacity (net .caps)) (capacities′ : Small noCapacity (net′ .caps)) where
   pub written-apart : take n room′ ≡ take k other′ → (filed net ≡ filed net′) × (initial ≡ initial′) × (w ≡ w′)
   written-apart e = file-apart (take n room′) one two
     where
@@ -89,7 +91,7 @@ module _ (net net′ : Net) (initial w room initial′ w′ other : List ℕ) (n
             net = filed net;
             initial = initial;
             word = w;
-            limited = limited-of net initial w (written-allowed net initial w room n room′ written .writable) bytes;
+            limited = limited-of net initial w (written-allowed net initial w room n room′ written .writable) capacities;
             text = written-file net initial w room n room′ written ∙ sym (file-filed net initial w);
           }
 
@@ -99,6 +101,6 @@ module _ (net net′ : Net) (initial w room initial′ w′ other : List ℕ) (n
             net = filed net′;
             initial = initial′;
             word = w′;
-            limited = limited-of net′ initial′ w′ (written-allowed net′ initial′ w′ other k other′ written′ .writable) bytes′;
+            limited = limited-of net′ initial′ w′ (written-allowed net′ initial′ w′ other k other′ written′ .writable) capacities′;
             text = e ∙ written-file net′ initial′ w′ other k other′ written′ ∙ sym (file-filed net′ initial′ w′);
           }

@@ -93,8 +93,8 @@ fn main() {
     let mut caps = [0u16; COUNT_LIMIT];
     let mut marks = [0u8; COUNT_LIMIT];
     let mut initial = [0u16; COUNT_LIMIT];
-    let mut pre = [0u8; CELL_LIMIT];
-    let mut post = [0u8; CELL_LIMIT];
+    let mut pre = [0u16; CELL_LIMIT];
+    let mut post = [0u16; CELL_LIMIT];
     let mut word = [0u8; WORD_LIMIT];
     let mut out = [0u8; FILE_LIMIT];
     let mut told = [0u8; ANSWER_LIMIT];
