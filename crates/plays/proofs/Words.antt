@@ -80,11 +80,12 @@ module _ (net : Net) (n : ℕ) (m₀ w : List ℕ) (i : ℕ) (m : List ℕ) (run
         same = rw z (sym (play-letter net (n + i) i m w h (sym (s .answer) ∙ q)) ∙ run .same);
       })
 
-  pub run-stops : (r : Letter) (why : Cause) (m′ : List ℕ) → i < length w → Played (arcsAt net (getD w i 0)) m r m′ → r ≡ Stops why → Ended net n m₀ w (Blocked (n + i) why) m′
-  run-stops r why m′ h s q =
+  -- k is the position that the code gives
+  pub run-stops : (r : Letter) (why : Cause) (m′ : List ℕ) (k : ℕ) → i < length w → Played (arcsAt net (getD w i 0)) m r m′ → r ≡ Stops why → k ≡ n + i → Ended net n m₀ w (Blocked k why) m′
+  run-stops r why m′ k h s q z =
       let f : m′ ≡ m = stopped-at net (getD w i 0) m r why m′ s q in
       let a : record { answer = Blocked (n + i) why; left = m } ≡ playFrom net n m₀ w = sym (play-block net (n + i) i m w why h (sym (s .answer) ∙ q)) ∙ run .same in
-      record { answer = ap (λ (z : Ran). z .answer) a; left = f ∙ ap (λ (z : Ran). z .left) a }
+      record { answer = ap (λ (j : ℕ). Blocked j why) z ∙ ap (λ (z : Ran). z .answer) a; left = f ∙ ap (λ (z : Ran). z .left) a }
 
   pub run-ends : length w ≤ i → Ended net n m₀ w (Fired (n + i)) m
   unfolding playFrom

@@ -57,9 +57,11 @@ pub fn play_word(
                 i += 1;
             }
             Letter::Stops(why) => {
-                return Replay::Blocked(fired + i, why);
+                let at = fired + i;
+                return Replay::Blocked(at, why);
             }
         }
     }
-    Replay::Fired(fired + i)
+    let letters = fired + i;
+    Replay::Fired(letters)
 }

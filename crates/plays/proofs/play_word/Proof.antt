@@ -1,7 +1,8 @@
 use Prim.Native.Nat.{_-_}
 use lib.ListN.{length}
+use native.Mathlib.Omega.{arith}
 use Rattle.net.specs.Net.{netOf}
-use Rattle.plays.proofs.Words.{Running, runs}
+use Rattle.plays.proofs.Words.{Running, run-stops, runs}
 use borrow.Author.Needs.{needs}
 use Rattle.plays.proofs.play_word.Statement.{statement}
 use Rattle.plays.proofs.play_word.Tie as tie
@@ -36,17 +37,21 @@ loop-again c = search (runs, needs)
 enum-known-played : tie.Need-enum-known-played Inv-loop μ-loop
 enum-known-played c = search needs
 
-add-t19 : tie.Need-add-t19 Inv-loop μ-loop
-add-t19 c = search needs
+add-at : tie.Need-add-at Inv-loop μ-loop
+add-at c = search needs
 
 same-length : tie.Need-same-length Inv-loop μ-loop
 same-length c = search needs
 
 returns : tie.Need-returns Inv-loop μ-loop
-returns c = search (runs, needs)
+returns c =
+    let s : tie.Start Inv-loop μ-loop = search needs in
+    let l : tie.In-loop Inv-loop μ-loop = search needs in
+    let p : tie.After-play-letter Inv-loop μ-loop = search needs in
+    run-stops _ (s .args .fired) _ _ (l .before .loop .i) _ (l .before .loop .inv) _ _ _ _ (search needs) (p .play-letter .ensures) (search needs) (omega arith)
 
-add-t20 : tie.Need-add-t20 Inv-loop μ-loop
-add-t20 c = search needs
+add-letters : tie.Need-add-letters Inv-loop μ-loop
+add-letters c = search needs
 
 same-length-2 : tie.Need-same-length-2 Inv-loop μ-loop
 same-length-2 c = search needs
@@ -68,9 +73,9 @@ play-word-spec =
     loop-less
     loop-again
     enum-known-played
-    add-t19
+    add-at
     same-length
     returns
-    add-t20
+    add-letters
     same-length-2
     returns-2)
