@@ -14,8 +14,8 @@ module _ (fed : Fed) (s : Running) where
   pub begun-blocked : (c n p : ℕ) → fed .answer ≡ Blocked c n p → record { state = fed .state; answer = Blocked c n p } ≡ begun fed s
   begun-blocked c n p e = rw e
 
-  pub begun-refused : (n at : ℕ) → fed .answer ≡ Refused n at → record { state = s; answer = Refused n at } ≡ begun fed s
-  begun-refused n at e = rw e
+  pub begun-refused : (x : Running) (n at : ℕ) → fed .answer ≡ Refused n at → x ≡ s → record { state = x; answer = Refused n at } ≡ begun fed s
+  begun-refused x n at e q = rw (e, q)
 
 pub ruleset begins = (begun-fired, begun-blocked, begun-refused)
 

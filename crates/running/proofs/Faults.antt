@@ -22,8 +22,16 @@ module _ (fired cap tokens : ℕ) where
   pub over-many : tokensAfter fired < tokens → true ≡ tokensOver fired cap tokens
   over-many h = rw (lt-ltb (tokensAfter fired) tokens h)
 
-  pub over-cap : tokens ≤ tokensAfter fired → cap < noCapacity → ltb cap tokens ≡ tokensOver fired cap tokens
-  over-cap h l = rw (le-ltb (tokensAfter fired) tokens h, lt-ltb cap noCapacity l)
+  -- a capacity is no more than any number of letters can have led to, so that it decides alone
+  pub over-cap : (t : Bool) → cap < noCapacity → (t ≡ true → cap < tokens) → (t ≡ false → tokens ≤ cap) → t ≡ tokensOver fired cap tokens
+  over-cap true l p q = rw (lt-ltb cap noCapacity l, lt-ltb cap tokens (p refl)) (either (ltb (tokensAfter fired) tokens))
+    where
+      either : (b : Bool) → true ≡ (b || true)
+      either true = refl
+      either false = refl
+  over-cap false l p q =
+      let h = q refl in
+      rw (le-ltb (tokensAfter fired) tokens (omega arith), le-ltb cap tokens h, lt-ltb cap noCapacity l)
 
   pub over-none : tokens ≤ tokensAfter fired → noCapacity ≤ cap → false ≡ tokensOver fired cap tokens
   over-none h l = rw (le-ltb (tokensAfter fired) tokens h, le-ltb cap noCapacity l)

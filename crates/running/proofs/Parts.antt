@@ -116,8 +116,8 @@ module _ (net : Net) (s : Running) (w : List ℕ) (ran : Replay) (e : ran ≡ pl
       let z = a .sized .few-places in
       rw e (play-brief net (s .fired) (held net s) w (rw length-take (omega arith)) (a .short))
 
-  pub ran-on : (m : List ℕ) (r : Fed) → m ≡ sets (s .marking) 0 (playFrom net (s .fired) (held net s) w .left) → r ≡ wentOn s m ran → r ≡ playedOn net s w
-  ran-on m r l q = rw (l, e) at q
+  pub ran-on : (m : List ℕ) (r : Fed) → r ≡ wentOn s m ran → m ≡ sets (s .marking) 0 (playFrom net (s .fired) (held net s) w .left) → r ≡ playedOn net s w
+  ran-on m r q l = rw (l, e) at q
 
 -- a block's number and place, by its cause
 module _ (why : Cause) (p : ℕ) where

@@ -1,6 +1,6 @@
--- Laws of the state before the first part: the refusal that comes with it, or the initial marking. Assumes nothing.
+-- Laws of a state by its fields, and of the one before the first part: the refusal that comes with it, or the initial marking. Assumes nothing.
 use Prim.Native.Nat.{ℕ, _≤_}
-use mathlib.Core.Path.{_≡_, refl, sym, _∙_}
+use mathlib.Core.Path.{_≡_, refl, sym, ap, _∙_}
 use mathlib.Core.Bool.{true}
 use mathlib.Core.List.{List}
 use native.Mathlib.Omega.{arith}
@@ -16,6 +16,15 @@ use Rattle.refusals.proofs.Refusals.{marked-met}
 use Rattle.running.specs.Entry.{freshAt, empty, startOf}
 use Rattle.running.specs.declared.Running.{Running}
 use Rattle.running.specs.declared.Part.the-variants.{Fired, Refused}
+
+-- a state is its five fields, however each was come by
+pub state-is : (s t : Running) → s .marking ≡ t .marking → s .fired ≡ t .fired → s .position ≡ t .position → s .place ≡ t .place → s .blocked ≡ t .blocked → s ≡ t
+state-is s t m f n p b =
+    ap (λ (x : List ℕ). record { marking = x; fired = s .fired; position = s .position; place = s .place; blocked = s .blocked }) m
+    ∙ ap (λ (x : ℕ). record { marking = t .marking; fired = x; position = s .position; place = s .place; blocked = s .blocked }) f
+    ∙ ap (λ (x : ℕ). record { marking = t .marking; fired = t .fired; position = x; place = s .place; blocked = s .blocked }) n
+    ∙ ap (λ (x : ℕ). record { marking = t .marking; fired = t .fired; position = t .position; place = x; blocked = s .blocked }) p
+    ∙ ap (λ (x : ℕ). record { marking = t .marking; fired = t .fired; position = t .position; place = t .place; blocked = x }) b
 
 -- the room as the code makes it
 blank : replicate countLimit 0 ≡ empty

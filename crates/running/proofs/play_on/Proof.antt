@@ -19,12 +19,13 @@ play-front-requires c κs =
 went-on-requires : tie.Need-went-on-requires
 went-on-requires c κs =
     let s : tie.Start = search needs in
-    ran-brief _ _ _ _ (c .before .play-front .ensures .0) (sound-allowed _ _ _ (s .pre))
+    let p : tie.After-play-front = search needs in
+    ran-brief _ _ _ _ (p .play-front .ensures .0) (sound-allowed _ _ _ (s .pre))
 
 returns : tie.Need-returns
 returns c =
     let p : tie.After-play-front = search needs in
-    ran-on _ _ _ _ (p .play-front .ensures .0) _ _ (p .play-front .ensures .1) (c .went-on .ensures)
+    ran-on _ _ _ _ (p .play-front .ensures .0) _ _ (c .went-on .ensures) (p .play-front .ensures .1)
 
 pub play-on-spec : {M : Type 1} → statement M
 play-on-spec =
