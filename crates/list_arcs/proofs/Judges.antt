@@ -1,17 +1,17 @@
 -- Laws of a transition judged by its arcs: a place without one does not stop it, and a pass over the others tells what a pass over all would. Assumes nothing.
 use Prim.Native.Nat.{ℕ, _+_, _-_, _*_, _≤_, _<_}
-use mathlib.Core.Path.{_≡_, refl, sym, ap, _∙_}
+use mathlib.Core.Path.{_≡_, refl, sym, _∙_}
 use mathlib.Core.Bool.{Bool, true, false, _&&_, _||_}
 use mathlib.Core.List.{List}
 use native.Mathlib.Omega.{arith}
 use native.Mathlib.Decide.{decLe, decLt}
 use lib.ListN.{length, getD}
 use lib.Dec.{ltb, eqb}
-use borrow.Author.Tests.{lt-ltb, le-ltb, ltb-false, ltb-true, eqb-true, eq-eqb}
+use borrow.Author.Tests.{le-ltb, eqb-true, eq-eqb}
 use Rattle.ground.specs.Limits.{noCapacity}
 use Rattle.ground.specs.Lists.{tally}
-use Rattle.ground.proofs.Tests.{never, both-false, or-false}
-use Rattle.ground.proofs.Scan.{Below, none-of, tally-none}
+use Rattle.ground.proofs.Tests.{never, both-false}
+use Rattle.ground.proofs.Scan.{none-of, tally-none}
 use Rattle.net.specs.Net.{Net, leavesFirst, Sized}
 use Rattle.net.specs.Letter.{shortAt, overAt, arcsAt, stops, passes}
 use Rattle.net.proofs.Rows.{row-at, pre-end}

@@ -1,5 +1,5 @@
 -- Only for the code's walk, tied to `passes` and `firedAt` of net by the promises of `may_fire_listed` and `fire_listed`: how many places without an arc a pass over a transition's places, from the last one down, may leave out.
-use Prim.Native.Nat.{ℕ, _+_, _-_, _*_, _%_, _≤_, _<_}
+use Prim.Native.Nat.{ℕ, _-_, _*_, _%_, _≤_, _<_}
 use mathlib.Core.Path.{_≡_}
 use mathlib.Core.Bool.{Bool, _||_}
 use mathlib.Core.List.{List}

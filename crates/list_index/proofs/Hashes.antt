@@ -1,11 +1,12 @@
 -- Laws of a marking's hash: the turns of a loop that makes it, and that it gives one of the buckets. Assumes nothing.
-use Prim.Native.Nat.{ℕ, zero, suc, _+_, _/_, _≤_, _<_}
+use Prim.Native.Nat.{ℕ, zero, suc, _+_, _-_, _≤_, _<_}
 use mathlib.Core.Path.{_≡_, refl, ap, _∙_}
 use mathlib.Core.List.{List}
 use native.Mathlib.Omega.{arith}
 use native.Mathlib.Numerals.{add-one}
+use native.Mathlib.Nat.{mod-lt}
 use lib.ListN.{length, getD}
-use Rattle.list_index.specs.Index.{hashLimit, bucketSize, bucketCount, mixOf, mixed, bucketOf}
+use Rattle.list_index.specs.Index.{hashLimit, bucketCount, mixOf, mixed, hashOf, bucketOf, changeOf}
 
 pub mixed-below : (m : List ℕ) (n : ℕ) → mixed m n < hashLimit
 unfolding mixed
@@ -26,16 +27,18 @@ pub mixed-next : (m : List ℕ) (p h r : ℕ) → h ≡ mixed m p → r ≡ mixO
 unfolding mixed
 mixed-next m p h r e q = rw (q, e, add-one p)
 
-pub mixed-wide : (m : List ℕ) (p h r x : ℕ) → h ≡ mixed m p → r ≡ mixOf h x → x ≡ getD m p 0 → r ≡ mixed m (p + 1)
-mixed-wide m p h r x e q w = mixed-next m p h r e (q ∙ ap (mixOf h) w)
-
-pub mixed-end : (m : List ℕ) (p h r : ℕ) → h ≡ mixed m p → p ≤ length m → length m ≤ p → r ≡ h / bucketSize → r ≡ bucketOf m
-mixed-end m p h r e a b q =
-    let s : p ≡ length m = omega arith in
-    q ∙ ap (λ (k : ℕ). k / bucketSize) (e ∙ ap (mixed m) s)
+pub mixed-end : (m : List ℕ) (p h : ℕ) → h ≡ mixed m p → p ≤ length m → length m ≤ p → h ≡ hashOf m
+mixed-end m p h e a b = let s : p ≡ length m = omega arith in e ∙ ap (mixed m) s
 
 -- a hash that a loop has come to
 pub hash-below : (m : List ℕ) (p h : ℕ) → h ≡ mixed m p → h < hashLimit
 hash-below m p h e = rw e (mixed-below m p)
 
-pub ruleset hashes = (mixed-start, mixed-next, mixed-wide, mixed-end, hash-below)
+pub ruleset hashes = (mixed-start, mixed-next, mixed-end, hash-below)
+
+-- a hash is below its limit, and so is what a transition adds to one
+pub hashed-below : (m : List ℕ) (h : ℕ) → h ≡ hashOf m → h < hashLimit
+hashed-below m h e = hash-below m (length m) h e
+
+pub change-below : (takes puts : List ℕ) (c : ℕ) → c ≡ changeOf takes puts → c < hashLimit
+change-below takes puts c e = rw e (mod-lt (hashOf puts + hashLimit - hashOf takes) (omega arith))

@@ -1,4 +1,5 @@
 pub mod Hashes
+pub mod Sums
 pub mod Latest
 pub mod Linked
 pub mod Walks

@@ -1,10 +1,11 @@
--- Only for the code's walk, tied to `held` of lists by the promise of `find`: the bucket of a marking, and the index that links the listed markings of each bucket.
-use Prim.Native.Nat.{ℕ, zero, suc, _+_, _*_, _/_, _%_, _≤_, _<_}
+-- Only for the code's walk, tied to `held` of lists by the promise of `find`: the hash of a marking, what a transition adds to it, and the index that links the listed markings of each bucket.
+use Prim.Native.Nat.{ℕ, zero, suc, _+_, _-_, _*_, _/_, _%_, _≤_, _<_}
 use mathlib.Core.Path.{_≡_}
 use mathlib.Core.Bool.{cond}
 use mathlib.Core.List.{List}
 use lib.ListN.{length, getD}
 use lib.Dec.{eqb}
+use Rattle.net.specs.Letter.{row}
 use Rattle.lists.specs.Whole.{markingAt}
 
 -- how many buckets there are
@@ -32,9 +33,22 @@ unfoldable pub mixed : List ℕ → ℕ → ℕ
 mixed m zero = 0
 mixed m (suc n) = mixOf (mixed m n) (getD m n 0)
 
+-- the hash of a marking
+abbrev pub hashOf : List ℕ → ℕ
+hashOf m = mixed m (length m)
+
 -- the bucket of a marking
 abbrev pub bucketOf : List ℕ → ℕ
-bucketOf m = mixed m (length m) / bucketSize
+bucketOf m = hashOf m / bucketSize
+
+-- what a transition adds to a hash: the hash of what it puts, without that of what it takes
+abbrev pub changeOf : List ℕ → List ℕ → ℕ
+changeOf takes puts = (hashOf puts + hashLimit - hashOf takes) % hashLimit
+
+-- the table of these, for each transition of a net
+pub record Changes (P T : ℕ) (pre post changes : List ℕ) : Type 0 where
+  pub long : T ≤ length changes
+  pub at : (t : ℕ) → t < T → getD changes t 0 ≡ changeOf (row P t pre) (row P t post)
 
 -- one more than the highest number below n whose bucket is b, or 0 where there is none; h tells the bucket of each
 unfoldable pub latest : (ℕ → ℕ) → ℕ → ℕ → ℕ

@@ -12,7 +12,7 @@ use Rattle.lists.specs.Pairs.{resultsOf, lookedOf}
 use Rattle.lists.specs.declared.Kind.{Kind}
 use Rattle.lists.specs.declared.Kind.the-variants.{Closed, Cover}
 use Rattle.lists.specs.declared.ListAnswer.{ListAnswer}
-use Rattle.list_index.specs.Index.{Indexed}
+use Rattle.list_index.specs.Index.{hashOf, Changes, Indexed}
 use Rattle.list_arcs.specs.Arc.{Skips, Within}
 use Rattle.list_pairs.specs.Fire.{passesAny, firedAny}
 
@@ -29,7 +29,15 @@ pub record Found (kind : Kind) (P n : ℕ) (list heads links : List ℕ) : Type 
 pub record Skipped (kind : Kind) (P : ℕ) (pre post skips : List ℕ) : Type 0 where
   pub table : kind ≡ Closed → Skips P pre post skips
 
--- ... and a marking within the capacities, as no other is in a closed list that is not refused
+-- what the hash of a result needs: what each transition adds to one for a closed list, and nothing for a cover list
+pub record Shifted (kind : Kind) (P T : ℕ) (pre post changes : List ℕ) : Type 0 where
+  pub table : kind ≡ Closed → Changes P T pre post changes
+
+-- ... and the hash of the marking
+pub record Hashed (kind : Kind) (h : ℕ) (m : List ℕ) : Type 0 where
+  pub known : kind ≡ Closed → h ≡ hashOf m
+
+-- what judging needs beside the skips: a marking within the capacities, as no other is in a closed list that is not refused
 pub record Fitting (kind : Kind) (caps m : List ℕ) : Type 0 where
   pub within : kind ≡ Closed → Within caps m
 

@@ -12,11 +12,11 @@ ghost use Prim.Native.Nat.{_+_, _*_, _<_, _≤_};
 ghost use lib.ListN.{length, replicate};
 ghost use Rattle.ground.specs.Limits.{countLimit, listLimit};
 ghost use Rattle.net.specs.Net.{netOf};
-ghost use Rattle.lists.specs.Whole.{count};
-ghost use Rattle.list_index.specs.Index.{bucketCount, Indexed};
+ghost use Rattle.lists.specs.Whole.{markingAt};
+ghost use Rattle.list_index.specs.Index.{bucketCount, hashOf, Changes, Indexed};
 ghost use Rattle.list_arcs.specs.Arc.{Skips, Within};
 ghost use Rattle.list_pairs.specs.Fire.{lacks, passesAny, afterAny, firedAny};
-ghost use Rattle.list_pairs.specs.Look.{Ready, Found, Skipped, Fitting, Kept, unlisted, uncovered, absent, missing, results};
+ghost use Rattle.list_pairs.specs.Look.{Ready, Found, Skipped, Shifted, Hashed, Fitting, Kept, unlisted, uncovered, absent, missing, results};
 
 // One place is a number, and less than is taken.
 fn is_lacking(takes: Weight, entry: u16) -> bool
@@ -79,7 +79,8 @@ fn fire_any(
 }
 
 // Whether a transition is enabled at a marking of a closed list with a result that the list does not
-// hold. It is judged and fired by its arcs; the result is looked for by the list's index.
+// hold. It is judged and fired by its arcs; the result is looked for by the list's index, with a hash
+// that is made from the marking's.
 fn is_unlisted(
     places: usize,
     transitions: usize,
@@ -92,6 +93,8 @@ fn is_unlisted(
     heads: &[u16],
     links: &[u16],
     skips: &[u8],
+    changes: &[u64],
+    hash: u64,
     t: usize,
     listed: &[u16],
     room: &mut [u32],
@@ -101,6 +104,7 @@ fn is_unlisted(
     requires { ⌜ t < transitions ⌝ }
     requires { ⌜ Indexed places count (now list) (now heads) (now links) ⌝ }
     requires { ⌜ Skips places (now pre) (now post) (now skips) × Within (now caps) (now listed) ⌝ }
+    requires { ⌜ Changes places transitions (now pre) (now post) (now changes) × (hash ≡ hashOf (now listed)) ⌝ }
     ensures { λ r. ⌜ r ≡ unlisted (netOf places transitions (now (pre .entry)) (now (post .entry)) (now (caps .entry)) (now (marks .entry))) count (now (list .entry)) t (now (listed .entry)) ⌝ }
 {
     if list_arcs::may_fire_listed(
@@ -126,7 +130,8 @@ fn is_unlisted(
             listed,
             room,
         );
-        return !list_index::find(places, count, list, heads, links, room);
+        let after = list_index::hash_after(hash, changes[t]);
+        return !list_index::find(places, count, list, heads, links, after, room);
     }
     false
 }
@@ -169,6 +174,8 @@ fn is_absent(
     heads: &[u16],
     links: &[u16],
     skips: &[u8],
+    changes: &[u64],
+    hash: u64,
     t: usize,
     listed: &[u16],
     room: &mut [u32],
@@ -178,6 +185,7 @@ fn is_absent(
     requires { ⌜ t < transitions ⌝ }
     requires { ⌜ Found kind places count (now list) (now heads) (now links) ⌝ }
     requires { ⌜ Skipped kind places (now pre) (now post) (now skips) × Fitting kind (now caps) (now listed) ⌝ }
+    requires { ⌜ Shifted kind places transitions (now pre) (now post) (now changes) × Hashed kind hash (now listed) ⌝ }
     ensures { λ r. ⌜ r ≡ absent kind (netOf places transitions (now (pre .entry)) (now (post .entry)) (now (caps .entry)) (now (marks .entry))) count (now (list .entry)) t (now (listed .entry)) ⌝ }
 {
     match kind {
@@ -193,6 +201,8 @@ fn is_absent(
             heads,
             links,
             skips,
+            changes,
+            hash,
             t,
             listed,
             room,
@@ -215,7 +225,9 @@ fn is_missing(
     heads: &[u16],
     links: &[u16],
     skips: &[u8],
+    changes: &[u64],
     k: usize,
+    hash: u64,
     t: usize,
     room: &mut [u32],
 ) -> bool
@@ -225,6 +237,8 @@ fn is_missing(
     requires { ⌜ Skipped kind places (now pre) (now post) (now skips) ⌝ }
     requires { ⌜ Kept kind (netOf places transitions (now pre) (now post) (now caps) (now marks)) count (now list) ⌝ }
     requires { ⌜ length (now room) ≡ places ⌝ }
+    requires { ⌜ Shifted kind places transitions (now pre) (now post) (now changes) ⌝ }
+    requires { ⌜ Hashed kind hash (markingAt places (now list) k) ⌝ }
     ensures { λ r. ⌜ r ≡ missing kind (netOf places transitions (now (pre .entry)) (now (post .entry)) (now (caps .entry)) (now (marks .entry))) count (now (list .entry)) k t ⌝ }
 {
     let a = k * places;
@@ -242,13 +256,31 @@ fn is_missing(
         heads,
         links,
         skips,
+        changes,
+        hash,
         t,
         &list[a..e],
         room,
     )
 }
 
-// The first listed marking, and in it the lowest transition, whose result is missing.
+// The hash of a marking of a closed list; that of a cover list's is not asked for.
+fn hash_listed(kind: Kind, places: usize, list: &[u16], k: usize) -> u64
+    requires { ⌜ k * places + places ≤ length (now list) ⌝ }
+    ensures { λ r. ⌜ Hashed kind r (markingAt places (now (list .entry)) k) ⌝ }
+{
+    match kind {
+        Kind::Closed => {
+            let a = k * places;
+            let e = a + places;
+            list_index::hash_of(&list[a..e])
+        }
+        Kind::Cover => 0,
+    }
+}
+
+// The first listed marking, and in it the lowest transition, whose result is missing. A marking's hash
+// is made once for all transitions.
 fn first_missing(
     kind: Kind,
     places: usize,
@@ -262,6 +294,7 @@ fn first_missing(
     heads: &[u16],
     links: &[u16],
     skips: &[u8],
+    changes: &[u64],
     room: &mut [u32],
 ) -> ListAnswer
     requires { ⌜ Ready (netOf places transitions (now pre) (now post) (now caps) (now marks)) count (now list) ⌝ }
@@ -269,11 +302,13 @@ fn first_missing(
     requires { ⌜ Skipped kind places (now pre) (now post) (now skips) ⌝ }
     requires { ⌜ Kept kind (netOf places transitions (now pre) (now post) (now caps) (now marks)) count (now list) ⌝ }
     requires { ⌜ length (now room) ≡ places ⌝ }
+    requires { ⌜ Shifted kind places transitions (now pre) (now post) (now changes) ⌝ }
     ensures { λ r. ⌜ r ≡ results kind (netOf places transitions (now (pre .entry)) (now (post .entry)) (now (caps .entry)) (now (marks .entry))) count (now (list .entry)) ⌝ }
 {
     let mut k = 0;
     let mut t = 0;
     'markings: while k < count {
+        let hash = hash_listed(kind, places, list, k);
         t = 0;
         while t < transitions {
             if is_missing(
@@ -289,7 +324,9 @@ fn first_missing(
                 heads,
                 links,
                 skips,
+                changes,
                 k,
+                hash,
                 t,
                 room,
             ) {
@@ -306,11 +343,12 @@ fn first_missing(
     }
 }
 
-// The index of a closed list, and the skips of its net; a cover list is compared by order and judged
-// without capacities, and has neither.
+// The index of a closed list, the skips of its net, and what each transition adds to a hash; a cover
+// list is compared by order and judged without capacities, and has none of them.
 fn fill_index(
     kind: Kind,
     places: usize,
+    transitions: usize,
     pre: &[Weight],
     post: &[Weight],
     count: usize,
@@ -318,24 +356,27 @@ fn fill_index(
     heads: &mut [u16],
     links: &mut [u16],
     skips: &mut [u8],
+    changes: &mut [u64],
 )
     requires { ⌜ (length (now list) ≡ count * places) × (count ≤ listLimit) ⌝ }
     requires { ⌜ now heads ≡ replicate bucketCount 0 ⌝ }
     requires { ⌜ length (now links) ≡ listLimit ⌝ }
     requires { ⌜ (1 ≤ places) × (places ≤ countLimit) ⌝ }
-    requires { ⌜ (length (now pre) ≤ length (now skips)) × (length (now post) ≡ length (now pre)) ⌝ }
-    ensures { λ r. ⌜ Found kind places count (now (list .entry)) (now (heads .exit)) (now (links .exit)) × Skipped kind places (now (pre .entry)) (now (post .entry)) (now (skips .exit)) ⌝ }
+    requires { ⌜ (length (now pre) ≡ transitions * places) × (length (now post) ≡ transitions * places) ⌝ }
+    requires { ⌜ (length (now pre) ≤ length (now skips)) × (transitions ≤ length (now changes)) ⌝ }
+    ensures { λ r. ⌜ Found kind places count (now (list .entry)) (now (heads .exit)) (now (links .exit)) × (Skipped kind places (now (pre .entry)) (now (post .entry)) (now (skips .exit)) × Shifted kind places transitions (now (pre .entry)) (now (post .entry)) (now (changes .exit))) ⌝ }
 {
     match kind {
         Kind::Closed => {
             list_index::make_index(places, count, list, heads, links);
             list_arcs::make_skips(places, pre, post, skips);
+            list_index::make_changes(places, transitions, pre, post, changes);
         }
         Kind::Cover => {}
     }
 }
 
-// The same, with an index, skips and a room of its own.
+// The same, with an index, skips, changes and a room of its own.
 pub fn look_up(
     kind: Kind,
     places: usize,
@@ -355,10 +396,12 @@ pub fn look_up(
     let mut heads = list_index::no_heads();
     let mut links = list_index::no_links();
     let mut skips = list_arcs::no_skips();
+    let mut changes = list_index::no_changes();
     let mut room = lists::no_tokens();
     fill_index(
         kind,
         places,
+        transitions,
         pre,
         post,
         count,
@@ -366,6 +409,7 @@ pub fn look_up(
         &mut heads,
         &mut links,
         &mut skips,
+        &mut changes,
     );
     first_missing(
         kind,
@@ -380,6 +424,7 @@ pub fn look_up(
         &heads,
         &links,
         &skips,
+        &changes,
         &mut room[..places],
     )
 }

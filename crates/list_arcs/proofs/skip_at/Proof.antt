@@ -1,7 +1,6 @@
 use Prim.Native.Nat.{_-_, _%_, _≤_}
 use native.Mathlib.Omega.{arith}
-use lib.ListN.{length, getD}
-use denote.Ref.{now}
+use lib.ListN.{getD}
 use Rattle.ground.proofs.Scan.{Below, scans}
 use Rattle.list_arcs.specs.Arc.{arcAt}
 use Rattle.list_arcs.proofs.Nexts.{row-below}

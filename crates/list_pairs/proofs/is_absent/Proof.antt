@@ -16,7 +16,8 @@ enum-told c = search needs
 is-unlisted-requires : tie.Need-is-unlisted-requires
 is-unlisted-requires c κs =
     let s : tie.Start = search needs in
-    (s .pre .0, (s .pre .1 .0, (s .pre .1 .1 .0, (s .pre .1 .1 .1 .0 .index (search needs), (s .pre .1 .1 .1 .1 .0 .table (search needs), s .pre .1 .1 .1 .1 .1 .within (search needs))))))
+    let q = s .pre .1 .1 .1 in
+    (s .pre .0, (s .pre .1 .0, (s .pre .1 .1 .0, (q .0 .index (search needs), ((q .1 .0 .0 .table (search needs), q .1 .0 .1 .within (search needs)), (q .1 .1 .0 .table (search needs), q .1 .1 .1 .known (search needs)))))))
 
 enum-told-2 : tie.Need-enum-told-2
 enum-told-2 c = search needs

@@ -36,7 +36,7 @@ is-absent-requires c κs =
     let l = marking-long (s .args .places) (s .args .count) (now (s .args .list)) (s .args .k) (s .pre .0 .long) (s .pre .1 .0 .0) in
     let q = s .pre .1 .1 in
     rw (add-sub-cancel-left (s .args .k * s .args .places) (s .args .places))
-    (s .pre .0, ((l, q .1 .1 .1), (s .pre .1 .0 .1, (q .0, (q .1 .0, q .1 .1 .0 .at (s .args .k) (s .pre .1 .0 .0))))))
+    (s .pre .0, ((l, q .1 .1 .1 .0), (s .pre .1 .0 .1, (q .0, ((q .1 .0, q .1 .1 .0 .at (s .args .k) (s .pre .1 .0 .0)), q .1 .1 .1 .1)))))
 
 same-length : tie.Need-same-length
 same-length c = search needs

@@ -2,16 +2,16 @@ use mathlib.Core.Path.{_≡_}
 use Prim.Native.Nat.{_≤_, _-_}
 use lib.ListN.{length}
 use Rattle.list_index.specs.Index.{mixed}
-use Rattle.list_index.proofs.Hashes.{hashes}
+use Rattle.list_index.proofs.Hashes.{mixed-next, hashes}
 use borrow.Author.Needs.{needs}
-use Rattle.list_index.proofs.sought_bucket.Statement.{statement}
-use Rattle.list_index.proofs.sought_bucket.Tie as tie
+use Rattle.list_index.proofs.hash_of.Statement.{statement}
+use Rattle.list_index.proofs.hash_of.Tie as tie
 
 abbrev Inv-loop : tie.InvT-loop
-Inv-loop marking h₀ p₀ h p = (p ≤ length marking) × (h ≡ mixed marking p)
+Inv-loop numbers h₀ p₀ h p = (p ≤ length numbers) × (h ≡ mixed numbers p)
 
 abbrev μ-loop : tie.MeasureT-loop
-μ-loop marking h₀ p₀ h p = length marking - p
+μ-loop numbers h₀ p₀ h p = length numbers - p
 
 loop-holds : tie.Need-loop-holds Inv-loop μ-loop
 loop-holds c = search (hashes, needs)
@@ -32,16 +32,16 @@ loop-less : tie.Need-loop-less Inv-loop μ-loop
 loop-less c = search needs
 
 loop-again : tie.Need-loop-again Inv-loop μ-loop
-loop-again c = search (hashes, needs)
-
-bucket-at-requires : tie.Need-bucket-at-requires Inv-loop μ-loop
-bucket-at-requires c κs = search needs
+loop-again c =
+    let l : tie.In-loop Inv-loop μ-loop = search needs in
+    let f : tie.After-mix Inv-loop μ-loop = search needs in
+    (search needs, mixed-next _ _ _ _ (l .before .loop .inv .1) (f .mix .ensures))
 
 returns : tie.Need-returns Inv-loop μ-loop
 returns c = search (hashes, needs)
 
-pub sought-bucket-spec : {M : Type 1} → statement M
-sought-bucket-spec =
+pub hash-of-spec : {M : Type 1} → statement M
+hash-of-spec =
     tie.close
     (tie.spec
     Inv-loop
@@ -53,5 +53,4 @@ sought-bucket-spec =
     add-p
     loop-less
     loop-again
-    bucket-at-requires
     returns)
