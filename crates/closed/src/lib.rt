@@ -24,8 +24,8 @@ fn enables_none(
     transitions: usize,
     pre: &[Weight],
     post: &[Weight],
-    caps: &[u16],
-    marks: &[u8],
+    caps: &[u32],
+    marks: &[u32],
     listed: &[u16],
     room: &mut [u32],
 ) -> bool
@@ -60,6 +60,8 @@ fn is_dead(
     requires { ⌜ k < count ⌝ }
     ensures { λ r. ⌜ r ≡ dead (netOf places transitions (now (pre .entry)) (now (post .entry)) (now (caps .entry)) (now (marks .entry))) (now (list .entry)) k ⌝ }
 {
+    let limits = net::wide_caps(caps);
+    let kinds = net::wide_marks(marks);
     let mut room = lists::no_tokens();
     let a = k * places;
     let e = a + places;
@@ -68,8 +70,8 @@ fn is_dead(
         transitions,
         pre,
         post,
-        caps,
-        marks,
+        &limits[..places],
+        &kinds[..places],
         &list[a..e],
         &mut room[..places],
     )

@@ -6,7 +6,7 @@ use mathlib.Core.Logic.{_↔_}
 use Prim.Native.Nat.{ℕ, zero, suc, _+_, _-_, _*_, _/_, _%_, _≤_, _<_, zero-le}
 use native.Mathlib.Omega.{arith}
 use native.Mathlib.Nat.{not-suc-le-zero, zero-add, suc-add}
-use lib.ListN.{length, getD, take, drop, length-append, take-append-drop, length-drop, length-map, List·getD-map}
+use lib.ListN.{length, getD, take, drop, length-append, take-append-drop, length-drop, List·getD-map}
 use lib.Seq.{length-take-le}
 use lib.Dec.{eqb}
 use borrow.Author.Tests.{eq-eqb, ne-eqb, eqb-true, eqb-false}
@@ -137,9 +137,6 @@ plain-all (x ∷ l) h =
 
 pub mask-none : (marks : List ℕ) → maskOf marks ≡ 0 ↔ ((p : ℕ) → getD marks p 0 ≡ 0)
 mask-none marks = (plain-each marks, plain-all marks)
-
-pub bits-none-of : (marks : List ℕ) → maskOf marks ≡ 0 → bitsOf 0 (length marks) ≡ map bitOf marks
-bits-none-of marks h = ap (λ (m : ℕ). bitsOf m (length marks)) (sym h) ∙ bits-of-mask marks
 
 -- ---- "any other pocket, all alike; the file reader gives 1"
 pub mask-filed : (marks : List ℕ) → maskOf (map bitOf marks) ≡ maskOf marks

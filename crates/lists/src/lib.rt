@@ -54,7 +54,7 @@ fn is_unlike(listed: u16, tokens: u32) -> bool
 
 // Whether two markings are the same, compared from the last place down: neighbours in a list differ
 // mostly in their last places.
-pub fn same_marking(listed: &[u16], marking: &[u32]) -> bool
+fn same_marking(listed: &[u16], marking: &[u32]) -> bool
     requires { ⌜ length (now listed) ≡ length (now marking) ⌝ }
     ensures { λ r. ⌜ r ≡ alike (now (listed .entry)) (now (marking .entry)) ⌝ }
 {

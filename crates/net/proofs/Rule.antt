@@ -1,11 +1,11 @@
 -- Laws of the capacity rule that a place's mark chooses: 001's for a plain place, 002's for a pocket. Assumes nothing.
 use Prim.Native.Nat.{ℕ, _+_, _≤_, _<_, zero-le}
-use mathlib.Core.Path.{_≡_, refl, sym}
+use mathlib.Core.Path.{_≡_, refl}
 use mathlib.Core.Bool.{Bool, true, false, cond}
 use mathlib.Core.List.{List}
 use mathlib.Core.Logic.{_↔_}
 use native.Mathlib.Omega.{arith}
-use lib.Dec.{ltb, eqb}
+use lib.Dec.{eqb}
 use lib.IntN.{pos}
 use lib.Signed.{_≤ℤ_, _<ℤ_}
 use borrow.Author.Tests.{lt-ltb, le-ltb, eq-eqb, ne-eqb, eqb-true, eqb-false}
@@ -30,10 +30,6 @@ leaves-most mark takes = go (eqb mark 0)
     go : (b : Bool) → cond b takes 0 ≤ takes
     go true = omega arith
     go false = zero-le
-
--- "0 plain, any other pocket, all alike"
-pub leaves-alike : (a b takes : ℕ) → (a ≡ 0 → ⊥) → (b ≡ 0 → ⊥) → leavesFirst a takes ≡ leavesFirst b takes
-leaves-alike a b takes h l = rw (leaves-pocket a takes h, leaves-pocket b takes l)
 
 -- ---- the mark that counts
 pub force-capped : (cap mark : ℕ) → cap < noCapacity → inForce cap mark ≡ mark

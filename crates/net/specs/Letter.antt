@@ -106,3 +106,8 @@ pub record Rows (arcs : Arcs) (m : List ℕ) : Type 0 where
 pub record Played (arcs : Arcs) (m : List ℕ) (r : Letter) (m′ : List ℕ) : Type 0 where
   pub answer : r ≡ judge arcs m
   pub left : m′ ≡ settled arcs m
+
+-- a list copied into room for the largest, as its front
+pub record Widened (l room : List ℕ) : Type 0 where
+  pub long : length room ≡ countLimit
+  pub front : take (length l) room ≡ l

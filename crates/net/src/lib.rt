@@ -1,15 +1,18 @@
 // Inner: the net as lent, and one letter judged and fired. A net is its counts, Pre and Post (flat,
-// transition by transition), the capacities and the marks, in this order everywhere.
+// transition by transition), the capacities and the marks, in this order everywhere. Whoever judges
+// letters has capacities and marks in 32 bits (`wide_caps`, `wide_marks`), as the tokens are: a pass
+// over the places then turns none of them anew for each letter.
+use ground::COUNT_LIMIT;
 use ground::NO_CAPACITY;
 use ground::Weight;
 ghost use mathlib.Core.Path.{_≡_};
 ghost use mathlib.Core.Bool.{true, false, _||_};
 ghost use Prim.Native.Nat.{_+_, _-_, _<_, _≤_};
 ghost use lib.ListN.{length};
-ghost use Rattle.ground.specs.Limits.{replayLimit};
+ghost use Rattle.ground.specs.Limits.{countLimit, replayLimit};
 ghost use Rattle.ground.specs.Lists.{bit};
 ghost use Rattle.net.specs.Net.{netOf, inForce, leavesFirst, riseOf, Sized};
-ghost use Rattle.net.specs.Letter.{shortAt, overAt, arcsOf, arcsAt, lowestShort, lowestOver, cause, passes, fired, firedAt, Small, Enough, Rows, Played};
+ghost use Rattle.net.specs.Letter.{shortAt, overAt, arcsOf, arcsAt, lowestShort, lowestOver, cause, passes, fired, firedAt, Small, Enough, Rows, Played, Widened};
 
 // Why a letter is not enabled: short of tokens, or over capacity, at a place.
 pub enum Cause {
@@ -32,7 +35,7 @@ fn is_short(takes: Weight, tokens: u32) -> bool
 
 // Of what is taken from a place, what leaves before anything arrives: all of it from a plain place,
 // nothing from a pocket. Here and in `leavesFirst` alone stands which rule a mark means.
-fn leaves(mark: u8, takes: Weight) -> Weight
+fn leaves(mark: u32, takes: Weight) -> Weight
     ensures { λ r. ⌜ r ≡ leavesFirst mark takes ⌝ }
 {
     if mark == 0 { takes } else { 0 }
@@ -49,25 +52,25 @@ pub fn mark_in_force(cap: u16, mark: u8) -> u8
 pub fn rise(mark: u8, takes: Weight, puts: Weight) -> Weight
     ensures { λ r. ⌜ r ≡ riseOf mark takes puts ⌝ }
 {
-    let left = leaves(mark, takes);
+    let left = leaves(mark as u32, takes);
     if puts < left { 0 } else { puts - left }
 }
 
 // One place has a capacity and would hold more. Both sides have what leaves first added, so that
 // nothing is subtracted.
-fn is_over(takes: Weight, puts: Weight, cap: u16, mark: u8, tokens: u32) -> bool
+fn is_over(takes: Weight, puts: Weight, cap: u32, mark: u32, tokens: u32) -> bool
     requires { ⌜ tokens ≤ replayLimit ⌝ }
     ensures { λ r. ⌜ r ≡ overAt takes puts cap mark tokens ⌝ }
 {
-    if cap < NO_CAPACITY {
+    if cap < NO_CAPACITY as u32 {
         let left = leaves(mark, takes);
-        return cap as u32 + (left as u32) < tokens + puts as u32;
+        return cap + (left as u32) < tokens + puts as u32;
     }
     false
 }
 
 // 1 where one place stops a letter, else 0: a number, so that a pass over the places only adds.
-fn stops_at(takes: Weight, puts: Weight, cap: u16, mark: u8, tokens: u32) -> u32
+fn stops_at(takes: Weight, puts: Weight, cap: u32, mark: u32, tokens: u32) -> u32
     requires { ⌜ tokens ≤ replayLimit ⌝ }
     ensures { λ r. ⌜ r ≡ bit (shortAt takes tokens || overAt takes puts cap mark tokens) ⌝ }
 {
@@ -91,7 +94,7 @@ fn moved(takes: Weight, puts: Weight, tokens: u32) -> u32
 }
 
 // Whether a letter passes: one plain pass over the places, with no way out on the way.
-fn may_fire(takes: &[Weight], puts: &[Weight], caps: &[u16], marks: &[u8], marking: &[u32]) -> bool
+fn may_fire(takes: &[Weight], puts: &[Weight], caps: &[u32], marks: &[u32], marking: &[u32]) -> bool
     requires { ⌜ Rows (arcsOf (now takes) (now puts) (now caps) (now marks)) (now marking) ⌝ }
     ensures { λ r. ⌜ r ≡ passes (arcsOf (now (takes .entry)) (now (puts .entry)) (now (caps .entry)) (now (marks .entry))) (now (marking .entry)) ⌝ }
 {
@@ -123,8 +126,8 @@ fn lowest_short(takes: &[Weight], marking: &[u32]) -> usize
 fn lowest_over(
     takes: &[Weight],
     puts: &[Weight],
-    caps: &[u16],
-    marks: &[u8],
+    caps: &[u32],
+    marks: &[u32],
     marking: &[u32],
 ) -> usize
     requires { ⌜ Rows (arcsOf (now takes) (now puts) (now caps) (now marks)) (now marking) ⌝ }
@@ -144,8 +147,8 @@ fn lowest_over(
 fn why_stopped(
     takes: &[Weight],
     puts: &[Weight],
-    caps: &[u16],
-    marks: &[u8],
+    caps: &[u32],
+    marks: &[u32],
     marking: &[u32],
 ) -> Cause
     requires { ⌜ Rows (arcsOf (now takes) (now puts) (now caps) (now marks)) (now marking) ⌝ }
@@ -179,8 +182,8 @@ pub fn fire(takes: &[Weight], puts: &[Weight], marking: &mut [u32])
 fn play_rows(
     takes: &[Weight],
     puts: &[Weight],
-    caps: &[u16],
-    marks: &[u8],
+    caps: &[u32],
+    marks: &[u32],
     marking: &mut [u32],
 ) -> Letter
     requires { ⌜ Rows (arcsOf (now takes) (now puts) (now caps) (now marks)) (now marking) ⌝ }
@@ -200,8 +203,8 @@ pub fn play_letter(
     transitions: usize,
     pre: &[Weight],
     post: &[Weight],
-    caps: &[u16],
-    marks: &[u8],
+    caps: &[u32],
+    marks: &[u32],
     t: u8,
     marking: &mut [u32],
 ) -> Letter
@@ -222,8 +225,8 @@ pub fn may_fire_at(
     transitions: usize,
     pre: &[Weight],
     post: &[Weight],
-    caps: &[u16],
-    marks: &[u8],
+    caps: &[u32],
+    marks: &[u32],
     t: usize,
     marking: &[u32],
 ) -> bool
@@ -244,8 +247,8 @@ pub fn fire_at(
     transitions: usize,
     pre: &[Weight],
     post: &[Weight],
-    caps: &[u16],
-    marks: &[u8],
+    caps: &[u32],
+    marks: &[u32],
     t: usize,
     marking: &mut [u32],
 )
@@ -278,4 +281,39 @@ pub fn load(given: &[u16], room: &mut [u32])
         room[p] = wide(given[p]);
         p += 1;
     }
+}
+
+// The capacities in 32 bits, and zeros behind them.
+pub fn wide_caps(caps: &[u16]) -> [u32; COUNT_LIMIT]
+    requires { ⌜ length (now caps) ≤ countLimit ⌝ }
+    ensures { λ r. ⌜ Widened (now (caps .entry)) r ⌝ }
+{
+    let mut room = [0; COUNT_LIMIT];
+    let mut p = 0;
+    while p < caps.len() {
+        room[p] = wide(caps[p]);
+        p += 1;
+    }
+    room
+}
+
+// A mark in 32 bits.
+fn wide_mark(mark: u8) -> u32
+    ensures { λ r. ⌜ r ≡ mark ⌝ }
+{
+    mark as u32
+}
+
+// The marks in 32 bits, and zeros behind them.
+pub fn wide_marks(marks: &[u8]) -> [u32; COUNT_LIMIT]
+    requires { ⌜ length (now marks) ≤ countLimit ⌝ }
+    ensures { λ r. ⌜ Widened (now (marks .entry)) r ⌝ }
+{
+    let mut room = [0; COUNT_LIMIT];
+    let mut p = 0;
+    while p < marks.len() {
+        room[p] = wide_mark(marks[p]);
+        p += 1;
+    }
+    room
 }

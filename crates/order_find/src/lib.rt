@@ -100,8 +100,8 @@ fn take(
     transitions: usize,
     pre: &[Weight],
     post: &[Weight],
-    caps: &[u16],
-    marks: &[u8],
+    caps: &[u32],
+    marks: &[u32],
     first: &[u8],
     second: &[u8],
     which: usize,
@@ -151,8 +151,8 @@ fn look(
     transitions: usize,
     pre: &[Weight],
     post: &[Weight],
-    caps: &[u16],
-    marks: &[u8],
+    caps: &[u32],
+    marks: &[u32],
     first: &[u8],
     second: &[u8],
     n: usize,
@@ -222,7 +222,7 @@ fn clear(work: &mut [u8])
     }
 }
 
-// The search from the initial marking, in a marking of its own.
+// The search from the initial marking, in a marking of its own; capacities and marks are copied once.
 fn start(
     places: usize,
     transitions: usize,
@@ -241,14 +241,16 @@ fn start(
     requires { ⌜ Stands (logsOf (netOf places transitions (now pre) (now post) (now caps) (now marks)) (now first) (now second)) 0 0 (now initial) (now path) (now work) ⌝ }
     ensures { λ r. ⌜ Ends (logsOf (netOf places transitions (now (pre .entry)) (now (post .entry)) (now (caps .entry)) (now (marks .entry))) (now (first .entry)) (now (second .entry))) 0 0 (now (initial .entry)) (now (path .entry)) (wayFrom (logsOf (netOf places transitions (now (pre .entry)) (now (post .entry)) (now (caps .entry)) (now (marks .entry))) (now (first .entry)) (now (second .entry))) 0 0 (now (initial .entry))) r (now (marking .exit)) (now (path .exit)) (now (work .exit)) ⌝ }
 {
+    let limits = net::wide_caps(caps);
+    let kinds = net::wide_marks(marks);
     net::load(initial, marking);
     look(
         places,
         transitions,
         pre,
         post,
-        caps,
-        marks,
+        &limits[..places],
+        &kinds[..places],
         first,
         second,
         0,

@@ -21,13 +21,13 @@ pub enum Replay {
 
 // A word, letter by letter, up to the first that is not enabled; `fired` letters came before it, and
 // positions count from the first of those.
-pub fn play_word(
+fn play_letters(
     places: usize,
     transitions: usize,
     pre: &[Weight],
     post: &[Weight],
-    caps: &[u16],
-    marks: &[u8],
+    caps: &[u32],
+    marks: &[u32],
     fired: usize,
     word: &[u8],
     marking: &mut [u32],
@@ -64,4 +64,39 @@ pub fn play_word(
     }
     let letters = fired + i;
     Replay::Fired(letters)
+}
+
+// The same for a net as lent: its capacities and marks are copied once a word.
+pub fn play_word(
+    places: usize,
+    transitions: usize,
+    pre: &[Weight],
+    post: &[Weight],
+    caps: &[u16],
+    marks: &[u8],
+    fired: usize,
+    word: &[u8],
+    marking: &mut [u32],
+) -> Replay
+    requires { ⌜ Sized (netOf places transitions (now pre) (now post) (now caps) (now marks)) ⌝ }
+    requires { ⌜ Light (netOf places transitions (now pre) (now post) (now caps) (now marks)) ⌝ }
+    requires { ⌜ length (now marking) ≡ places ⌝ }
+    requires { ⌜ Small (tokensAfter fired) (now marking) ⌝ }
+    requires { ⌜ Letters transitions (now word) ⌝ }
+    requires { ⌜ fired + length (now word) ≤ wordLimit ⌝ }
+    ensures { λ r. ⌜ Ended (netOf places transitions (now (pre .entry)) (now (post .entry)) (now (caps .entry)) (now (marks .entry))) fired (now (marking .entry)) (now (word .entry)) r (now (marking .exit)) ⌝ }
+{
+    let limits = net::wide_caps(caps);
+    let kinds = net::wide_marks(marks);
+    play_letters(
+        places,
+        transitions,
+        pre,
+        post,
+        &limits[..places],
+        &kinds[..places],
+        fired,
+        word,
+        marking,
+    )
 }

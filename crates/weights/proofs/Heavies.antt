@@ -1,17 +1,16 @@
 -- Laws of weights over a limit: what a pass over a row has found, and that no transition is found exactly where the net is light. Assumes nothing.
 use Prim.Native.Nat.{ℕ, _+_, _*_, _/_, _%_, _≤_, _<_, zero-le}
-use mathlib.Core.Path.{_≡_, refl, sym, ap, _∙_}
-use mathlib.Core.Bool.{Bool, true, false, _||_}
+use mathlib.Core.Path.{_≡_}
+use mathlib.Core.Bool.{Bool, false, _||_}
 use mathlib.Core.List.{List}
-use mathlib.Core.Logic.{_↔_}
 use native.Mathlib.Omega.{arith}
 use native.Mathlib.Decide.{decLt}
 use native.Mathlib.Nat.{mod-lt, div-add-mod', div-lt-iff-lt-mul}
 use lib.ListN.{length, getD, List·getD-eq-default}
 use lib.Dec.{ltb}
-use borrow.Author.Tests.{lt-ltb, le-ltb, ltb-true, ltb-false}
+use borrow.Author.Tests.{lt-ltb, le-ltb, ltb-false}
 use Rattle.ground.specs.Limits.{countLimit, weightLimit}
-use Rattle.ground.specs.Lists.{bit, first, tally}
+use Rattle.ground.specs.Lists.{bit, tally}
 use Rattle.ground.proofs.Tests.{or-false, both-false}
 use Rattle.ground.proofs.Scan.{Below, first-none, first-below, tally-none, none-of, tally-alike}
 use Rattle.net.specs.Net.{Net, Pre, Post, Light, Sized}

@@ -8,6 +8,9 @@ use borrow.Author.Needs.{needs}
 use Rattle.net.proofs.is_over.Statement.{statement}
 use Rattle.net.proofs.is_over.Tie as tie
 
+cast-if1 : tie.Need-cast-if1
+cast-if1 c = search needs
+
 leaves-requires : tie.Need-leaves-requires
 leaves-requires c κs = search needs
 
@@ -34,4 +37,6 @@ returns-2 : tie.Need-returns-2
 returns-2 c = search (tests, needs)
 
 pub is-over-spec : {M : Type 1} → statement M
-is-over-spec = tie.close (tie.spec leaves-requires cast-result add-result add-result-2 returns returns-2)
+is-over-spec =
+    tie.close
+    (tie.spec cast-if1 leaves-requires cast-result add-result add-result-2 returns returns-2)

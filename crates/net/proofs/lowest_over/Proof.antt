@@ -40,11 +40,14 @@ mul-is-over-3 c = search needs
 shared-slice-read-is-over-3 : tie.Need-shared-slice-read-is-over-3 Inv-loop μ-loop
 shared-slice-read-is-over-3 c = search needs
 
+mul-is-over-4 : tie.Need-mul-is-over-4 Inv-loop μ-loop
+mul-is-over-4 c = search needs
+
 shared-slice-read-is-over-4 : tie.Need-shared-slice-read-is-over-4 Inv-loop μ-loop
 shared-slice-read-is-over-4 c = search needs
 
-mul-is-over-4 : tie.Need-mul-is-over-4 Inv-loop μ-loop
-mul-is-over-4 c = search needs
+mul-is-over-5 : tie.Need-mul-is-over-5 Inv-loop μ-loop
+mul-is-over-5 c = search needs
 
 shared-slice-read-is-over-5 : tie.Need-shared-slice-read-is-over-5 Inv-loop μ-loop
 shared-slice-read-is-over-5 c = search needs
@@ -88,8 +91,9 @@ lowest-over-spec =
     shared-slice-read-is-over-2
     mul-is-over-3
     shared-slice-read-is-over-3
-    shared-slice-read-is-over-4
     mul-is-over-4
+    shared-slice-read-is-over-4
+    mul-is-over-5
     shared-slice-read-is-over-5
     is-over-requires
     returns

@@ -36,11 +36,14 @@ mul-stops-at-3 c = search needs
 shared-slice-read-stops-at-3 : tie.Need-shared-slice-read-stops-at-3 Inv-loop μ-loop
 shared-slice-read-stops-at-3 c = search needs
 
+mul-stops-at-4 : tie.Need-mul-stops-at-4 Inv-loop μ-loop
+mul-stops-at-4 c = search needs
+
 shared-slice-read-stops-at-4 : tie.Need-shared-slice-read-stops-at-4 Inv-loop μ-loop
 shared-slice-read-stops-at-4 c = search needs
 
-mul-stops-at-4 : tie.Need-mul-stops-at-4 Inv-loop μ-loop
-mul-stops-at-4 c = search needs
+mul-stops-at-5 : tie.Need-mul-stops-at-5 Inv-loop μ-loop
+mul-stops-at-5 c = search needs
 
 shared-slice-read-stops-at-5 : tie.Need-shared-slice-read-stops-at-5 Inv-loop μ-loop
 shared-slice-read-stops-at-5 c = search needs
@@ -76,8 +79,9 @@ may-fire-spec =
     shared-slice-read-stops-at-2
     mul-stops-at-3
     shared-slice-read-stops-at-3
-    shared-slice-read-stops-at-4
     mul-stops-at-4
+    shared-slice-read-stops-at-4
+    mul-stops-at-5
     shared-slice-read-stops-at-5
     stops-at-requires
     add-stopped
