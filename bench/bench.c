@@ -20,7 +20,12 @@ SIDE(summary_word)
 SIDE(join_summaries)
 SIDE(place_weighting)
 SIDE(closed_list)
+static __typeof__(kaunorpi_replay_word) *volatile side_plain_replay[2] = {kaunorpi_replay_word, plain_replay_word};
 static __typeof__(kaunorpi_closed_list) *volatile side_plain_list[2] = {kaunorpi_closed_list, plain_closed_list};
+#ifdef BASE
+static __typeof__(kaunorpi_closed_list) base_list;
+static __typeof__(kaunorpi_closed_list) *volatile side_base_list[2] = {kaunorpi_closed_list, base_list};
+#endif
 SIDE(cover_list)
 SIDE(complement_net)
 SIDE(read_case)
@@ -63,6 +68,12 @@ static void ask_replay(int side) {
     keep(o, a.kind, a.number, a.position, a.place);
 }
 
+static void ask_plain_replay(int side) {
+    struct written *o = &out[side];
+    kaunorpi_replay a = side_plain_replay[side](NET, initial, P, word, letters, o->room, P);
+    keep(o, a.kind, a.number, a.position, a.place);
+}
+
 /* The word in parts; the state's numbers are kept beside the answer, since the bytes behind its last field are nobody's. */
 static void ask_parts(int side) {
     static kaunorpi_running states[2];
@@ -101,6 +112,30 @@ static void ask_plain(int side) {
     kaunorpi_list a = side_plain_list[side](NET, initial, P, list, entries);
     keep(&out[side], a.kind, a.number, a.position, a.transition);
 }
+
+#ifdef BASE
+/* The library's closed_list as the base had it: weights of a byte, no marks. */
+kaunorpi_list base_closed_list(size_t places, size_t transitions, const uint8_t *pre, size_t pre_len, const uint8_t *post,
+                               size_t post_len, const uint16_t *caps, size_t caps_len, const uint16_t *initial,
+                               size_t initial_len, const uint16_t *list, size_t list_len);
+
+static kaunorpi_list base_list(KAUNORPI_NET, const uint16_t *initial, size_t initial_len, const uint16_t *list,
+                               size_t list_len) {
+    static uint8_t takes[4096], puts[4096];
+    (void)marks, (void)marks_len;
+    for (size_t k = 0; k < pre_len; k++) {
+        takes[k] = (uint8_t)pre[k];
+        puts[k] = (uint8_t)post[k];
+    }
+    return base_closed_list(places, transitions, takes, pre_len, puts, post_len, caps, caps_len, initial, initial_len, list,
+                            list_len);
+}
+
+static void ask_base(int side) {
+    kaunorpi_list a = side_base_list[side](NET, initial, P, list, entries);
+    keep(&out[side], a.kind, a.number, a.position, a.transition);
+}
+#endif
 
 static void ask_cover(int side) {
     kaunorpi_list a = side_cover_list[side](NET, initial, P, list, entries);
@@ -238,7 +273,7 @@ static void make_logs(void) {
     }
     while (n[0] + n[1] < 200) {
         size_t t = below(4), which = below(2);
-        if (!may_fire(pre + t * 4, post + t * 4, caps, marks, m, 4))
+        if (!may_fire_lent(pre + t * 4, post + t * 4, caps, marks, m, 4))
             continue;
         fire(pre + t * 4, post + t * 4, m, 4);
         logs[which][n[which]++] = (uint8_t)t;
@@ -371,6 +406,7 @@ static const struct row rows[] = {
     {"replay_word", "65,535 letters, 64 places", make_word, ask_replay, 60, 1},
     {"replay_word", "the same, half of the capped places pockets", make_pockets, ask_replay, 60, 1},
     {"replay_word", "the same, weights of 1,000 and more", make_kilograms, ask_replay, 60, 1},
+    {"plain_replay", "65,535 letters, 64 places, C without copies", make_word, ask_plain_replay, 60, 1},
     {"replay_part", "4,096 letters, 64 places, in 4096 parts", make_parts_1, ask_parts, 3, 1},
     {"replay_part", "4,096 letters, 64 places, in 64 parts", make_parts_64, ask_parts, 60, 1},
     {"replay_part", "4,096 letters, 64 places, in 1 part", make_parts_4096, ask_parts, 200, 2},
@@ -445,9 +481,20 @@ static void run_lists(const char *question, void (*ask)(int side), const char *p
         }
 }
 
-/* bench [QUESTION]: every row, or those of one question. plain_list is closed_list against C without an index. */
+/* The bytes before the code (layout.c), named so that the linker keeps them. */
+extern const char layout_shift[];
+const char *volatile shifted = layout_shift;
+
+/* bench [QUESTION]: every row, or those of one question. plain_replay is replay_word against C that reads capacities and marks
+ * as they are lent; plain_list is closed_list against C without an index; base_list,
+ * which bench/base has, against the base's library. */
 int main(int count, char **words) {
     const char *only = count < 2 ? 0 : words[1];
+#ifdef BASE
+    run_lists("base_list", ask_base, "3", make_narrow, 12, 12, 1, 3);
+    run_lists("base_list", ask_base, "64", make_wide, 12, 12, 1, 1);
+    return 0;
+#endif
     for (size_t k = 0; k < sizeof rows / sizeof rows[0]; k++)
         if (!only || strcmp(only, rows[k].question) == 0)
             run(&rows[k]);

@@ -5,7 +5,7 @@
 
 #include "../include/kaunorpi.h"
 
-__typeof__(kaunorpi_replay_word) same_replay_word;
+__typeof__(kaunorpi_replay_word) same_replay_word, plain_replay_word;
 __typeof__(kaunorpi_start_replay) same_start_replay;
 __typeof__(kaunorpi_replay_part) same_replay_part;
 __typeof__(kaunorpi_summary_word) same_summary_word;
@@ -133,7 +133,7 @@ static inline struct fault word_fault(size_t transitions, const uint8_t *word, s
 }
 
 /* Of what is taken from a place, what leaves before anything arrives: from a pocket nothing. */
-static inline uint16_t leaves(uint8_t mark, uint16_t takes) {
+static inline uint16_t leaves(uint32_t mark, uint16_t takes) {
     return mark == 0 ? takes : 0;
 }
 
@@ -149,13 +149,37 @@ static inline uint16_t rise(uint8_t mark, uint16_t takes, uint16_t puts) {
 }
 
 /* One place has a capacity and would hold more. */
-static inline int is_over(uint16_t takes, uint16_t puts, uint16_t cap, uint8_t mark, uint32_t tokens) {
-    return (cap < 65535) & ((uint32_t)cap + leaves(mark, takes) < tokens + puts);
+static inline int is_over(uint16_t takes, uint16_t puts, uint32_t cap, uint32_t mark, uint32_t tokens) {
+    return (cap < 65535) & (cap + leaves(mark, takes) < tokens + puts);
+}
+
+/* Capacities and marks in 32 bits, as the tokens are, so that a pass over the places turns none of them anew. */
+struct wide {
+    uint32_t caps[64], marks[64];
+};
+
+/* The copies of a net's, made once for all letters. */
+static inline struct wide widened(const uint16_t *caps, const uint8_t *marks, size_t places) {
+    struct wide wide = {{0}, {0}};
+    for (size_t p = 0; p < places; p++)
+        wide.caps[p] = caps[p];
+    for (size_t p = 0; p < places; p++)
+        wide.marks[p] = marks[p];
+    return wide;
 }
 
 /* Whether a letter passes: one plain pass over the places, with no way out on the way. */
-static inline int may_fire(const uint16_t *takes, const uint16_t *puts, const uint16_t *caps, const uint8_t *marks,
+static inline int may_fire(const uint16_t *takes, const uint16_t *puts, const uint32_t *caps, const uint32_t *marks,
                            const uint32_t *marking, size_t places) {
+    uint32_t stopped = 0;
+    for (size_t p = 0; p < places; p++)
+        stopped += (marking[p] < takes[p]) | is_over(takes[p], puts[p], caps[p], marks[p], marking[p]);
+    return stopped == 0;
+}
+
+/* The same with capacities and marks read as they are lent. */
+static inline int may_fire_lent(const uint16_t *takes, const uint16_t *puts, const uint16_t *caps, const uint8_t *marks,
+                                const uint32_t *marking, size_t places) {
     uint32_t stopped = 0;
     for (size_t p = 0; p < places; p++)
         stopped += (marking[p] < takes[p]) | is_over(takes[p], puts[p], caps[p], marks[p], marking[p]);

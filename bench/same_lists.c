@@ -8,31 +8,37 @@ struct index {
     uint16_t heads[8192], links[4096];
 };
 
+/* A hash is below this. */
+#define HASH_LIMIT 4294967296
+
 /* A hash with one more number in it. */
-static uint64_t mix(uint64_t hash, uint32_t number) {
-    return (hash + number) * 374761393 % 4294967296;
+static uint64_t mix(uint64_t hash, uint16_t number) {
+    return (hash + number) * 374761393 % HASH_LIMIT;
 }
 
-/* The bucket of a listed marking. */
-static size_t listed_bucket(const uint16_t *listed, size_t places) {
+/* The hash of a listed marking, or of what a transition takes or puts. */
+static uint64_t hash_of(const uint16_t *numbers, size_t places) {
     uint64_t h = 0;
     for (size_t p = 0; p < places; p++)
-        h = mix(h, listed[p]);
-    return (size_t)(h / 524288);
+        h = mix(h, numbers[p]);
+    return h;
 }
 
-/* The bucket of a marking that is looked for. */
-static size_t sought_bucket(const uint32_t *marking, size_t places) {
-    uint64_t h = 0;
-    for (size_t p = 0; p < places; p++)
-        h = mix(h, marking[p]);
-    return (size_t)(h / 524288);
+/* The bucket of a hash. */
+static size_t bucket_at(uint64_t hash) {
+    return (size_t)(hash / 524288);
+}
+
+/* What each transition adds to the hash of any marking. */
+static void make_changes(size_t places, size_t transitions, const uint16_t *pre, const uint16_t *post, uint64_t *changes) {
+    for (size_t t = 0; t < transitions; t++)
+        changes[t] = (hash_of(post + t * places, places) + HASH_LIMIT - hash_of(pre + t * places, places)) % HASH_LIMIT;
 }
 
 /* The index of a list, into an empty one. */
 static void make_index(size_t places, size_t count, const uint16_t *list, struct index *index) {
     for (size_t k = 0; k < count; k++) {
-        size_t b = listed_bucket(list + k * places, places);
+        size_t b = bucket_at(hash_of(list + k * places, places));
         index->links[k] = index->heads[b];
         index->heads[b] = (uint16_t)(k + 1);
     }
@@ -54,9 +60,9 @@ static int is_same(const uint16_t *listed, const uint32_t *marking, size_t place
     return differing == 0;
 }
 
-/* Whether the marking is one of the list's, compared with those of its bucket. */
-static int find(size_t places, const uint16_t *list, const struct index *index, const uint32_t *marking) {
-    for (size_t at = index->heads[sought_bucket(marking, places)]; at > 0; at = index->links[at - 1])
+/* Whether the marking, of this hash, is one of the list's, compared with those of its bucket. */
+static int find(size_t places, const uint16_t *list, const struct index *index, uint64_t hash, const uint32_t *marking) {
+    for (size_t at = index->heads[bucket_at(hash)]; at > 0; at = index->links[at - 1])
         if (is_same(list + (at - 1) * places, marking, places))
             return 1;
     return 0;
@@ -100,13 +106,13 @@ static inline void fire_listed(const uint16_t *takes, const uint16_t *puts, cons
 
 /* Whether the result of transition t at a listed marking is not one of the list's, by arcs and index. */
 static inline int is_unlisted(KAUNORPI_NET, const uint16_t *list, const struct index *index, const uint8_t *skips,
-                              size_t t, const uint16_t *listed, uint32_t *room) {
+                              const uint64_t *changes, uint64_t hash, size_t t, const uint16_t *listed, uint32_t *room) {
     size_t a = t * places;
     (void)transitions, (void)pre_len, (void)post_len, (void)caps_len, (void)marks_len;
     if (!may_fire_listed(pre + a, post + a, caps, marks, skips + a, listed, places))
         return 0;
     fire_listed(pre + a, post + a, skips + a, listed, room, places);
-    return !find(places, list, index, room);
+    return !find(places, list, index, (hash + changes[t]) % HASH_LIMIT, room);
 }
 
 /* Whether the marking is one of the list's, compared with all. */
@@ -123,7 +129,7 @@ static inline int is_absent(KAUNORPI_NET, const uint16_t *list, size_t count, si
     uint32_t room[64] = {0};
     (void)transitions, (void)pre_len, (void)post_len, (void)caps_len, (void)marks_len;
     load(list + k * places, room, places);
-    if (!may_fire(takes, puts, caps, marks, room, places))
+    if (!may_fire_lent(takes, puts, caps, marks, room, places))
         return 0;
     fire(takes, puts, room, places);
     return !is_listed(places, count, list, room);
@@ -181,6 +187,7 @@ kaunorpi_list same_closed_list(KAUNORPI_NET, const uint16_t *initial, size_t ini
                                size_t list_len) {
     uint32_t room[64] = {0};
     uint8_t skips[4096] = {0};
+    uint64_t changes[64] = {0};
     struct index index = {{0}, {0}};
     kaunorpi_list start = closed_start(places, transitions, pre, pre_len, post, post_len, caps, caps_len, marks,
                                        marks_len, initial, initial_len, list, list_len);
@@ -190,11 +197,14 @@ kaunorpi_list same_closed_list(KAUNORPI_NET, const uint16_t *initial, size_t ini
     count = list_len / places;
     make_index(places, count, list, &index);
     make_skips(places, transitions, pre, post, skips);
-    for (size_t k = 0; k < count; k++)
+    make_changes(places, transitions, pre, post, changes);
+    for (size_t k = 0; k < count; k++) {
+        uint64_t hash = hash_of(list + k * places, places);
         for (size_t t = 0; t < transitions; t++)
             if (is_unlisted(places, transitions, pre, pre_len, post, post_len, caps, caps_len, marks, marks_len, list,
-                            &index, skips, t, list + k * places, room))
+                            &index, skips, changes, hash, t, list + k * places, room))
                 return (kaunorpi_list){KAUNORPI_ANSWERED, 2, k, t};
+    }
     return start;
 }
 

@@ -9,8 +9,8 @@ size_t same_order_visits;
 /* What a search has at hand. */
 struct search {
     size_t places, transitions;
-    const uint16_t *pre, *post, *caps;
-    const uint8_t *marks;
+    const uint16_t *pre, *post;
+    const uint32_t *caps, *marks;
     const uint8_t *first;
     size_t first_len;
     const uint8_t *second;
@@ -80,8 +80,9 @@ kaunorpi_answer same_order_logs(KAUNORPI_NET, const uint16_t *initial, size_t in
                                 size_t room_len, uint8_t *work, size_t work_len) {
     uint32_t marking[64] = {0};
     uint8_t path[STEPS] = {0};
-    struct search s = {places,    transitions, pre,        post,    caps, marks, first,
-                       first_len, second,      second_len, marking, path, work};
+    struct wide wide;
+    struct search s = {places,    transitions, pre,        post,    wide.caps, wide.marks, first,
+                       first_len, second,      second_len, marking, path,      work};
     int fits = room_len >= first_len && room_len - first_len == second_len && work_len == WORK, is_found;
     struct fault found =
         marked_fault(places, transitions, pre, pre_len, post, post_len, caps, caps_len, marks, marks_len, initial, initial_len,
@@ -91,6 +92,7 @@ kaunorpi_answer same_order_logs(KAUNORPI_NET, const uint16_t *initial, size_t in
     if (found.number != 0)
         return (kaunorpi_answer){KAUNORPI_REFUSED, found.number, found.at};
     clear(work, work_len);
+    wide = widened(caps, marks, places);
     load(initial, marking, places);
     same_order_visits = 0;
     is_found = look(&s, 0, 0);

@@ -1,7 +1,8 @@
 #!/usr/bin/env bash
 # tests/link.sh OUT SOURCES..: compiles C sources and links them with the proved library into OUT, a program
 # for x86-64 that tests/run-x86.sh runs. Everything is the kit's: clang, linker, C library. The kit has no C
-# headers, so tests/headers has the few that are used; include/ has kaunorpi.h. CFLAGS replaces -O2.
+# headers, so tests/headers has the few that are used; include/ has kaunorpi.h. CFLAGS replaces -O2; ALSO names one
+# archive more to link.
 # Prints nothing but what goes wrong.
 set -eu
 here=$(cd "$(dirname "$(readlink -f "${BASH_SOURCE[0]}")")/.." && pwd)
@@ -23,5 +24,5 @@ for source in "$@"; do
         -isystem "$here/tests/headers" -I "$here/include" -c -o "$object" "$source"
     objects+=("$object")
 done
-"$kit/on/$(uname -m)/bin/rattle-link" --target x86_64-unknown-linux-gnu --toolchain "$tools" -o "$out" "${objects[@]}" "$archive" \
+"$kit/on/$(uname -m)/bin/rattle-link" --target x86_64-unknown-linux-gnu --toolchain "$tools" -o "$out" "${objects[@]}" ${ALSO:+"$ALSO"} "$archive" \
     >"$room/said" 2>&1 || { cat "$room/said" >&2; exit 1; }
