@@ -18,6 +18,7 @@ PLAIN = os.path.join(ROOT, "kaunorpi")
 SAW = os.path.join(ROOT, "examples", "saw.case")
 LONG = os.path.join(ROOT, "tests", "cases", "letters-65535.case")
 LINE = b"81000000000900000001000000010000000000000003"
+NOBODY = "output"
 failed = 0
 
 
@@ -52,13 +53,27 @@ def until(test, seconds=20):
     return True
 
 
+def left_behind(session):
+    """What still runs of a session some seconds after its script: not what was about to end by itself when the script did,
+    such as the `rt doc` that a signal found it reading."""
+    left = []
+
+    def is_none_left():
+        left[:] = processes(session)
+        return not left
+
+    until(is_none_left, 5)
+    return left
+
+
 def usual_signals():
     for one in (signal.SIGINT, signal.SIGTERM, signal.SIGHUP, signal.SIGPIPE):
         signal.signal(one, signal.SIG_DFL)
 
 
 def end(what, script, arguments, busy, env, sent, status):
-    """Starts the script, sends the signal once `busy` runs below it, and looks at what is left."""
+    """Starts the script, sends the signal once `busy` runs below it, or what it wrote is taken by nobody, and looks at what is
+    left."""
     come, gone = os.pipe()
     got, out = os.pipe()
     fcntl.fcntl(out, fcntl.F_SETPIPE_SZ, 4096)
@@ -66,15 +81,19 @@ def end(what, script, arguments, busy, env, sent, status):
                            start_new_session=True, env=env)
     os.close(come)
     os.close(out)
-    if not until(lambda: busy in [name for pid, name in processes(run.pid) if pid != run.pid]):
-        wrong("%s: no %s is started below the script" % (what, busy))
+    if busy == NOBODY:
+        is_there = lambda: select.select([got], [], [], 0)[0]
+    else:
+        is_there = lambda: busy in [name for pid, name in processes(run.pid) if pid != run.pid]
+    if not until(is_there):
+        wrong("%s: no %s is seen" % (what, busy))
     time.sleep(0.1)
     run.send_signal(sent)
     if not until(lambda: run.poll() is not None):
         wrong("%s: %s does not end the script" % (what, sent.name))
     elif run.returncode != status:
         wrong("%s: after %s the status is %d" % (what, sent.name, run.returncode))
-    left = processes(run.pid)
+    left = left_behind(run.pid)
     if left:
         wrong("%s: %s leaves %s" % (what, sent.name, left))
     for pid, _ in left:
@@ -93,8 +112,8 @@ def signals(room, env):
     os.symlink(SAW, os.path.join(room, "saw.case"))
     reader = "qemu-x86_64" if os.uname().machine != "x86_64" else "ld-linux-x86-64"
     ways = (("standard input", [], reader), ("standard input among files", [SAW, "-", SAW], reader), ("a pipe", [pipe, SAW, pipe], "bash"),
-            ("--words", ["--words"], "head"), ("output that nobody takes", [long_name] * 40, "bash"),
-            ("--rewrite", ["--rewrite"], reader), ("a long file that nobody takes", ["--rewrite", LONG], "cat"))
+            ("--words", ["--words"], "head"), ("output that nobody takes", [long_name] * 40, NOBODY),
+            ("--rewrite", ["--rewrite"], reader), ("a long file that nobody takes", ["--rewrite", LONG], NOBODY))
     for sent, status in ((signal.SIGTERM, 143), (signal.SIGINT, 130), (signal.SIGHUP, 129)):
         for what, arguments, busy in ways:
             if sent == signal.SIGTERM or what == "standard input":
@@ -129,7 +148,7 @@ def at_terminal(typed, env):
             is_typed = True
             os.write(terminal, typed)
     os.close(terminal)
-    return shown, os.waitstatus_to_exitcode(os.waitpid(pid, 0)[1]), processes(pid)
+    return shown, os.waitstatus_to_exitcode(os.waitpid(pid, 0)[1]), left_behind(pid)
 
 
 def terminals(env):
