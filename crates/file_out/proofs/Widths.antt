@@ -12,7 +12,7 @@ use Rattle.net.proofs.Rows.{row-at}
 use Rattle.weights.proofs.Heavies.{rows-long}
 use Rattle.file_row.specs.Row.{byteLimit, narrowRow, wideRow, isWide, rowKind}
 use Rattle.file_row.proofs.Narrow.{kind-wide, kind-narrow, wide-kind}
-use Rattle.file_line.proofs.Weights.{SomeOver, some-over, over-some}
+use Rattle.weights.proofs.SomeOver.{SomeOver, some-over, over-some}
 
 -- one of the weights of transition t, in Pre or in Post, is over 255
 pub record SomeWide (net : Net) (t : ℕ) : Type 0 where

@@ -15,7 +15,8 @@ use Rattle.refusals.specs.First.{First, Given}
 use Rattle.refusals.specs.declared.Fault.{Fault}
 use Rattle.refusals.specs.declared.Fault.the-variants.{Sound, Faulty}
 use Rattle.refusals.proofs.Chains.{or-sound, sound-or, refuse-sound, sound-refuse}
-use Rattle.refusals.proofs.Refusals.{marked-met, met-marked, word-met, met-word}
+use Rattle.refusals.proofs.Refusals.{marked-met, met-marked}
+use Rattle.refusals.proofs.Words.{word-met, met-word}
 use Rattle.refusals.proofs.Exactly.{Chain, Reads, tells-test, reads-test, reads-both, reads-all, marked-reads, word-reads, Answers, answers-of, fault-is, exactly-refused, is-answered, is-allowed}
 use Rattle.file_text.specs.Text.{fileOf}
 use Rattle.file_write.specs.Told.{textFault, told, lengthOf, lengthNumbers, LengthTold, Writable, TextFirst, LengthRefusal}

@@ -283,7 +283,7 @@ pub fn load(given: &[u16], room: &mut [u32])
     }
 }
 
-// The capacities in 32 bits, and zeros behind them.
+// The capacities in 32 bits, in room for the most places that a net has.
 pub fn wide_caps(caps: &[u16]) -> [u32; COUNT_LIMIT]
     requires { ⌜ length (now caps) ≤ countLimit ⌝ }
     ensures { λ r. ⌜ Widened (now (caps .entry)) r ⌝ }
@@ -304,7 +304,7 @@ fn wide_mark(mark: u8) -> u32
     mark as u32
 }
 
-// The marks in 32 bits, and zeros behind them.
+// The marks in 32 bits, in such room too.
 pub fn wide_marks(marks: &[u8]) -> [u32; COUNT_LIMIT]
     requires { ⌜ length (now marks) ≤ countLimit ⌝ }
     ensures { λ r. ⌜ Widened (now (marks .entry)) r ⌝ }

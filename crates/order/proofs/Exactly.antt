@@ -15,7 +15,8 @@ use Rattle.refusals.specs.First.{First, fails, holds, GivenAt, WordFirst}
 use Rattle.refusals.specs.declared.Fault.{Fault}
 use Rattle.refusals.specs.declared.Fault.the-variants.{Sound, Faulty}
 use Rattle.refusals.proofs.Chains.{or-sound, sound-or}
-use Rattle.refusals.proofs.Refusals.{marked-met, met-marked, word-met, met-word}
+use Rattle.refusals.proofs.Refusals.{marked-met, met-marked}
+use Rattle.refusals.proofs.Words.{word-met, met-word}
 use Rattle.refusals.proofs.Exactly.{Chain, Reads, reads-both, reads-all, marked-reads, word-reads, Answers, answers-of, fault-is, exactly-refused, is-answered, is-allowed}
 use Rattle.orders.specs.Orders.{logsOf}
 use Rattle.orders.specs.Lengths.{logLimit, workLength, longFault, LongFirst}

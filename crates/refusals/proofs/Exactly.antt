@@ -1,5 +1,5 @@
 -- "Exactly when": a chain of refusals is read demand by demand, for any chain and any answer. Assumes nothing.
-use Prim.Native.Nat.{ℕ, _+_, _*_, _≤_, _<_}
+use Prim.Native.Nat.{ℕ, _+_, _*_, _<_}
 use mathlib.Core.Path.{_≡_, refl, sym, ap, _∙_}
 use mathlib.Core.Bool.{Bool, true, false, not, _&&_, _||_}
 use mathlib.Core.List.{List}
@@ -8,22 +8,22 @@ use native.Mathlib.Omega.{arith}
 use native.Mathlib.Decide.{decLt}
 use lib.ListN.{length, getD}
 use lib.Dec.{ltb, leb, eqb}
-use borrow.Author.Tests.{lt-ltb, le-ltb, ltb-false, ltb-true, lt-leb, leb-false, eq-eqb, eqb-true, not-false}
+use borrow.Author.Tests.{lt-ltb, le-ltb, ltb-false, lt-leb, leb-false, eq-eqb, eqb-true, not-false}
 use Rattle.ground.specs.Limits.{countLimit, tokenLimit, wordLimit}
 use Rattle.ground.specs.Lists.{first}
 use Rattle.ground.proofs.Tests.{never, or-false, both-false, and-true, unlike-false, like-false}
-use Rattle.ground.proofs.Scan.{first-at, first-none, first-below, first-passes, first-most}
-use Rattle.net.specs.Net.{Net, Light, Sized}
-use Rattle.wiring.specs.Wired.{PlaceWired, TransitionWired, Wired, loosePlace, looseTransition, lowestLooseTransition}
+use Rattle.ground.proofs.Scan.{first-at, first-none, first-below, first-passes}
+use Rattle.net.specs.Net.{Net}
+use Rattle.wiring.specs.Wired.{PlaceWired, TransitionWired, loosePlace, looseTransition, lowestLooseTransition}
 use Rattle.wiring.proofs.Loose.{place-wired, wired-place, transition-wired, wired-transition}
 use Rattle.weights.specs.Heavy.{LightAt, heavy}
-use Rattle.weights.proofs.Heavies.{light-at, at-light, light-each}
-use Rattle.refusals.specs.Given.{refuse, orElse, outside, unlike, misfit, tokenBad, badToken, weightsFault, countsFault, looseFault, netFault, markingFault, startFault, markedFault, badLetter, wordFault, Fine, Letters}
+use Rattle.weights.proofs.Heavies.{light-at, at-light}
+use Rattle.refusals.specs.Given.{refuse, orElse, outside, unlike, misfit, tokenBad, badToken, weightsFault, countsFault, looseFault, netFault, markingFault, startFault, markedFault, wordFault, Fine, Letters}
 use Rattle.refusals.specs.First.{First, fails, holds, Given, GivenAt, Above, Counts, Lengths, FineAt, CountsFirst, LooseFirst, NetFirst, StartFirst, MarkedFirst, WordFirst}
 use Rattle.refusals.specs.declared.Fault.{Fault}
 use Rattle.refusals.specs.declared.Fault.the-variants.{Sound, Faulty}
 use Rattle.refusals.proofs.Chains.{fault-one, not-sound, or-assoc, or-none, refuse-sound}
-use Rattle.refusals.proofs.Refusals.{inside-of, inside-is, fine-of, fine-is, CountsMet, counts-met, met-counts, StartMet, start-met, met-start, weights-met, loose-met}
+use Rattle.refusals.proofs.Refusals.{inside-of, inside-is, fine-of}
 
 -- ---- one test
 -- the fault f tells of its demand: nothing where it holds, else exactly what `Tell` says
@@ -228,182 +228,6 @@ word-reads T w =
     reads-both (reads-test (tells-test _ 4 0 (λ e. ltb-false wordLimit (length w) e) (λ h. le-ltb wordLimit (length w) h)))
     (reads-test (tells-as (λ h. record { at = h }) (λ (l : Letters T w). l .at)
     (tells-scan (λ k. leb T (getD w k 0)) (length w) 5 {D = λ k. getD w k 0 < T} (λ k e. leb-false T (getD w k 0) e) (λ k h. lt-leb T (getD w k 0) h))))
-
--- ---- 17
--- a refusal of 1, 2, 18 or 3 is no 17
-counts-other : {net : Net} {Others Next : Type 0} {n at : ℕ} → n ≡ 17 → CountsFirst net Others n at Next → Next
-counts-other e (fails miss g) = let z = g .number in absurd (omega arith)
-counts-other e (holds c (fails miss g)) = let z = g .number in absurd (omega arith)
-counts-other e (holds c (holds l (fails miss g))) = let z = g .number in absurd (omega arith)
-counts-other e (holds c (holds l (holds w h))) = h
-
-start-other : {net : Net} {initial : List ℕ} {Others Next : Type 0} {n at : ℕ} → n ≡ 17 → StartFirst net initial Others n at Next → Next
-start-other e h = marking e (counts-other e h)
-  where
-    marking : {D Next : Type 0} {M : ℕ → Type 0} {c n at : ℕ} → n ≡ 17 → First D (GivenAt 3 M c n at) Next → Next
-    marking e (fails miss g) = let z = g .number in absurd (omega arith)
-    marking e (holds d next) = next
-
--- what comes before 17, and then 17: exactly where that finds nothing and a node hangs loose, which the position names
-behind : (f : Fault) (net : Net) {Met : Type 0} → (f ≡ Sound → Met) → (Met → f ≡ Sound) → ((n at : ℕ) → f ≡ Faulty n at → n ≡ 17 → ⊥) → (at : ℕ) → (orElse f (looseFault net) ≡ Faulty 17 at) ↔ (Met × LooseFirst net 17 at ⊥)
-behind f net {Met} met of-met other at = (there f refl, λ h. rw (of-met (h .0)) (reads-all (loose-reads net) .exactly 17 at .1 (h .1)))
-  where
-    there : (x : Fault) → f ≡ x → orElse f (looseFault net) ≡ Faulty 17 at → Met × LooseFirst net 17 at ⊥
-    there Sound e q = (met e, reads-all (loose-reads net) .exactly 17 at .0 (rw e at q))
-    there (Faulty n p) e q = absurd (other n p e (fault-one n p 17 at (rw e at q) .0))
-
--- "17 is given exactly when 1, 2, 18, 3 are not and the net is not wired", with the position that 02 says
-pub wired-exactly : (net : Net) (initial : List ℕ) (fits : Bool) (at : ℕ) → (markedFault net initial fits ≡ Faulty 17 at) ↔ (StartMet net initial fits × LooseFirst net 17 at ⊥)
-unfolding markedFault
-wired-exactly net initial fits =
-    behind (startFault net initial fits) net (start-met net initial fits) (met-start net initial fits)
-    (λ n at e q. start-other q (reads-all (start-reads net initial fits {Others = fits ≡ true} (λ h. h) (λ h. h)) .exactly n at .0 e))
-
--- ... and for a net without a marking, when 1, 2 and 18 are not
-pub wired-net-exactly : (net : Net) (fits : Bool) (at : ℕ) → (netFault net fits ≡ Faulty 17 at) ↔ (CountsMet net fits × LooseFirst net 17 at ⊥)
-unfolding netFault
-wired-net-exactly net fits =
-    behind (countsFault net fits) net (counts-met net fits) (met-counts net fits)
-    (λ n at e q. counts-other q (reads-all (counts-reads net fits {Others = fits ≡ true} (λ h. h) (λ h. h)) .exactly n at .0 e))
-
--- a net is wired, or 17 has a position for it
-pub record LooseAt (net : Net) : Type 0 where
-  pub at : ℕ
-  pub loose : LooseFirst net 17 at ⊥
-
-pub loose-somewhere : (net : Net) → (Wired net → ⊥) → LooseAt net
-loose-somewhere net none = go (looseFault net) refl
-  where
-    seventeen : {n at : ℕ} → LooseFirst net n at ⊥ → LooseFirst net 17 at ⊥
-    seventeen (fails miss g) = fails miss (record { number = refl; here = g .here; fails = g .fails; lowest = g .lowest })
-    seventeen (holds w (fails miss g)) =
-        let h = g .told in
-        holds w (fails miss (record { below = g .below; position = g .position; told = record { number = refl; here = h .here; fails = h .fails; lowest = h .lowest } }))
-    seventeen (holds w (holds v z)) = absurd z
-
-    go : (x : Fault) → looseFault net ≡ x → LooseAt net
-    go Sound e = absurd (none (loose-met net e))
-    go (Faulty n at) e = record { at = at; loose = seventeen (reads-all (loose-reads net) .exactly n at .0 e) }
-
--- where it has one, the net is not wired
-loose-unwired : (net : Net) (at : ℕ) → LooseFirst net 17 at ⊥ → Wired net → ⊥
-loose-unwired net at (fails miss g) w = miss (w .places)
-loose-unwired net at (holds p (fails miss g)) w = miss (w .transitions)
-loose-unwired net at (holds p (holds t z)) w = z
-
--- so 17 is given, whatever its position, exactly when 1, 2, 18, 3 are not and the net is not wired
-pub unwired-exactly : (net : Net) (initial : List ℕ) (fits : Bool) → ((at : ℕ) × (markedFault net initial fits ≡ Faulty 17 at)) ↔ (StartMet net initial fits × (Wired net → ⊥))
-unwired-exactly net initial fits = (
-  λ g. let h = wired-exactly net initial fits (g .0) .0 (g .1) in (h .0, loose-unwired net (g .0) (h .1)),
-  λ h. let l = loose-somewhere net (h .1) in (l .at, wired-exactly net initial fits (l .at) .1 (h .0, l .loose)),
-)
-
--- ... and for a net without a marking, when 1, 2 and 18 are not
-pub unwired-net-exactly : (net : Net) (fits : Bool) → ((at : ℕ) × (netFault net fits ≡ Faulty 17 at)) ↔ (CountsMet net fits × (Wired net → ⊥))
-unwired-net-exactly net fits = (
-  λ g. let h = wired-net-exactly net fits (g .0) .0 (g .1) in (h .0, loose-unwired net (g .0) (h .1)),
-  λ h. let l = loose-somewhere net (h .1) in (l .at, wired-net-exactly net fits (l .at) .1 (h .0, l .loose)),
-)
-
--- ---- 18
--- at is the lowest transition with a weight over the limit, over Pre and Post together
-abbrev pub HeavyAt : Net → ℕ → Type 0
-HeavyAt net at = GivenAt 18 (LightAt net) (net .transitions) 18 at
-
--- the first demand that does not hold is that of the weights: counts and lengths are right
-heavy-first : {net : Net} {Others Next : Type 0} {at : ℕ} → (Next → ⊥) → CountsFirst net Others 18 at Next → (Sized net × Others) × HeavyAt net at
-heavy-first none (fails miss g) = let z = g .number in absurd (omega arith)
-heavy-first none (holds c (fails miss g)) = let z = g .number in absurd (omega arith)
-heavy-first none (holds c (holds l (fails miss g))) = (
-  (
-    record {
-      some-places = c .some-places;
-      few-places = c .few-places;
-      some-transitions = c .some-transitions;
-      few-transitions = c .few-transitions;
-      pres = l .pres;
-      posts = l .posts;
-      capped = l .capped;
-      noted = l .noted;
-    },
-    l .others,
-  ),
-  g,
-)
-heavy-first none (holds c (holds l (holds w h))) = absurd (none h)
-
-first-heavy : {net : Net} {Others Next : Type 0} {at : ℕ} → (Sized net × Others) × HeavyAt net at → CountsFirst net Others 18 at Next
-first-heavy {net} {Others} {Next} {at} ((s, o), g) =
-    holds (record { some-places = s .some-places; few-places = s .few-places; some-transitions = s .some-transitions; few-transitions = s .few-transitions })
-    (holds (record { pres = s .pres; posts = s .posts; capped = s .capped; noted = s .noted; others = o }) (fails (λ all. g .fails (all at (g .here))) g))
-
--- what comes after it has another number
-marking-no-18 : {D Next : Type 0} {M : ℕ → Type 0} {count at : ℕ} → (Next → ⊥) → First D (GivenAt 3 M count 18 at) Next → ⊥
-marking-no-18 none (fails miss g) = let z = g .number in omega arith
-marking-no-18 none (holds d h) = none h
-
-loose-no-18 : {net : Net} {at : ℕ} → LooseFirst net 18 at ⊥ → ⊥
-loose-no-18 (fails miss g) = let z = g .number in omega arith
-loose-no-18 (holds p (fails miss g)) = let z = g .told .number in omega arith
-loose-no-18 (holds p (holds t z)) = z
-
--- 18, "after 2 and before 3": given exactly when 1 and 2 are not and a weight is over the limit; its position is the lowest transition with one
-module _ (net : Net) (fits : Bool) (at : ℕ) where
-  pub heavy-exactly : (countsFault net fits ≡ Faulty 18 at) ↔ ((Sized net × (fits ≡ true)) × HeavyAt net at)
-  heavy-exactly =
-      let c = reads-all (counts-reads net fits {Others = fits ≡ true} (λ h. h) (λ h. h)) .exactly 18 at in
-      (λ e. heavy-first (λ z. z) (c .0 e), λ h. c .1 (first-heavy h))
-
-  pub heavy-net-exactly : (netFault net fits ≡ Faulty 18 at) ↔ ((Sized net × (fits ≡ true)) × HeavyAt net at)
-  heavy-net-exactly =
-      let c = reads-all (net-reads net fits {Others = fits ≡ true} (λ h. h) (λ h. h)) .exactly 18 at in
-      (λ e. heavy-first loose-no-18 (c .0 e), λ h. c .1 (first-heavy h))
-
-  -- ... whatever the marking is, as long as it has a number for each place
-  module _ (initial : List ℕ) where
-    pub heavy-start-exactly : (startFault net initial fits ≡ Faulty 18 at) ↔ ((Sized net × ((length initial ≡ net .places) × (fits ≡ true))) × HeavyAt net at)
-    heavy-start-exactly =
-        let c = reads-all (start-reads net initial fits {Others = fits ≡ true} (λ h. h) (λ h. h)) .exactly 18 at in
-        (λ e. heavy-first (marking-no-18 (λ z. z)) (c .0 e), λ h. c .1 (first-heavy h))
-
-    pub heavy-marked-exactly : (markedFault net initial fits ≡ Faulty 18 at) ↔ ((Sized net × ((length initial ≡ net .places) × (fits ≡ true))) × HeavyAt net at)
-    heavy-marked-exactly =
-        let c = reads-all (marked-reads net initial fits {Others = fits ≡ true} (λ h. h) (λ h. h)) .exactly 18 at in
-        (λ e. heavy-first (marking-no-18 loose-no-18) (c .0 e), λ h. c .1 (first-heavy h))
-
--- a net is light, or 18 has a position for it
-heavy-somewhere : (net : Net) → Sized net → (Light net → ⊥) → (at : ℕ) × HeavyAt net at
-heavy-somewhere net sized none = go (weightsFault net) refl
-  where
-    eighteen : {n at : ℕ} → First ((t : ℕ) → t < net .transitions → LightAt net t) (GivenAt 18 (LightAt net) (net .transitions) n at) ⊥ → HeavyAt net at
-    eighteen (fails miss g) = record { number = refl; here = g .here; fails = g .fails; lowest = g .lowest }
-    eighteen (holds w z) = absurd z
-
-    go : (x : Fault) → weightsFault net ≡ x → (at : ℕ) × HeavyAt net at
-    go Sound e = absurd (none (weights-met net sized e))
-    go (Faulty n at) e = (at, eighteen (reads-all (weights-reads net) .exactly n at .0 e))
-
--- Told at: 18 is given with position at
-not-light : {Others : Type 0} {Told : ℕ → Type 0} (net : Net) → ((at : ℕ) → Told at ↔ ((Sized net × Others) × HeavyAt net at)) → ((at : ℕ) × Told at) ↔ ((Sized net × Others) × (Light net → ⊥))
-not-light net exact = (
-  λ g. let h = exact (g .0) .0 (g .1) in (h .0, λ l. h .1 .fails (light-each net l (g .0))),
-  λ h. let s = heavy-somewhere net (h .0 .0) (h .1) in (s .0, exact (s .0) .1 (h .0, s .1)),
-)
-
--- so 18 is given, whatever its position, exactly when 1 and 2 are not and the net is not light
-module _ (net : Net) (fits : Bool) where
-  pub not-light-exactly : ((at : ℕ) × (countsFault net fits ≡ Faulty 18 at)) ↔ ((Sized net × (fits ≡ true)) × (Light net → ⊥))
-  not-light-exactly = not-light net (heavy-exactly net fits)
-
-  pub not-light-net-exactly : ((at : ℕ) × (netFault net fits ≡ Faulty 18 at)) ↔ ((Sized net × (fits ≡ true)) × (Light net → ⊥))
-  not-light-net-exactly = not-light net (heavy-net-exactly net fits)
-
-  module _ (initial : List ℕ) where
-    pub not-light-start-exactly : ((at : ℕ) × (startFault net initial fits ≡ Faulty 18 at)) ↔ ((Sized net × ((length initial ≡ net .places) × (fits ≡ true))) × (Light net → ⊥))
-    not-light-start-exactly = not-light net (λ at. heavy-start-exactly net fits at initial)
-
-    pub not-light-marked-exactly : ((at : ℕ) × (markedFault net initial fits ≡ Faulty 18 at)) ↔ ((Sized net × ((length initial ≡ net .places) × (fits ≡ true))) × (Light net → ⊥))
-    not-light-marked-exactly = not-light net (λ at. heavy-marked-exactly net fits at initial)
 
 -- ---- an answer
 -- r is the refusal of the fault f, and no refusal where there is none

@@ -7,11 +7,11 @@ use native.Mathlib.Omega.{arith}
 use native.Mathlib.Nat.{mul-le-mul-right}
 use native.Mathlib.Decide.{decLt}
 use lib.ListN.{length, getD, List·getD-eq-default}
-use lib.Dec.{ltb, leb, eqb}
+use lib.Dec.{ltb, eqb}
 use mir.Syntax.{w64}
 use mir.Val.{Fits}
-use borrow.Author.Tests.{lt-ltb, le-ltb, ltb-false, lt-leb, leb-false, eq-eqb, ne-eqb, eqb-true, not-true, not-false}
-use Rattle.ground.specs.Limits.{countLimit, tokenLimit, wordLimit}
+use borrow.Author.Tests.{lt-ltb, le-ltb, ltb-false, eq-eqb, ne-eqb, eqb-true, not-true, not-false}
+use Rattle.ground.specs.Limits.{countLimit, tokenLimit}
 use Rattle.ground.proofs.Tests.{never, or-false, both-false, and-true, unlike-false, like-false}
 use Rattle.ground.proofs.Scan.{first-none, first-below, first-most}
 use Rattle.net.specs.Net.{Net, Sized, Light}
@@ -19,7 +19,7 @@ use Rattle.wiring.specs.Wired.{Wired, loosePlace, looseTransition, lowestLooseP
 use Rattle.wiring.proofs.Loose.{wired-places, wired-transitions}
 use Rattle.weights.specs.Heavy.{heavy, lowestHeavy}
 use Rattle.weights.proofs.Heavies.{light-of, of-light}
-use Rattle.refusals.specs.Given.{refuse, orElse, outside, unlike, misfit, sizedNet, tokenBad, badToken, weightsFault, countsFault, looseFault, netFault, markingFault, startFault, markedFault, badLetter, wordFault, Fine, Letters}
+use Rattle.refusals.specs.Given.{refuse, orElse, outside, unlike, misfit, sizedNet, tokenBad, badToken, weightsFault, countsFault, looseFault, netFault, markingFault, startFault, markedFault, Fine}
 use Rattle.refusals.specs.declared.Fault.{Fault}
 use Rattle.refusals.specs.declared.Fault.the-variants.{Sound, Faulty}
 use Rattle.refusals.proofs.Chains.{or-sound, sound-or, refuse-sound, sound-refuse, chain-first, chain-next}
@@ -142,10 +142,6 @@ pub record MarkedMet (net : Net) (initial : List ℕ) (fits : Bool) : Type 0 whe
   pub fitting : fits ≡ true
   pub fine : Fine (net .caps) initial
   pub wired : Wired net
-
-pub record WordMet (n : ℕ) (w : List ℕ) : Type 0 where
-  pub short : length w ≤ wordLimit
-  pub letters : Letters n w
 
 -- the test of `Sized` as the code comes to it: a, b, d are the tests' answers
 module _ (net : Net) (a : Bool) (ea : a ≡ outside (net .places)) where
@@ -385,37 +381,3 @@ module _ (net : Net) (initial : List ℕ) (fits : Bool) (found : Fault) (e : fou
   marked-sized q = start-met net initial fits (sym e ∙ q) .sized
 
 pub ruleset marked-faults = (marked-faulty, marked-loose, marked-sized)
-
--- which refusal of a word
-module _ (n : ℕ) (w : List ℕ) where
-  pub word-long : wordLimit < length w → Faulty 4 0 ≡ wordFault n w
-  unfolding wordFault
-  word-long h = rw (lt-ltb wordLimit (length w) h)
-
-  module _ (k : ℕ) (h : length w ≤ wordLimit) (e : k ≡ badLetter n w) where
-    pub word-letter : k < length w → Faulty 5 k ≡ wordFault n w
-    unfolding wordFault
-    word-letter l = rw (le-ltb wordLimit (length w) h, ← e, lt-ltb k (length w) l)
-
-    pub word-fine : length w ≤ k → Sound ≡ wordFault n w
-    unfolding wordFault
-    word-fine l = rw (le-ltb wordLimit (length w) h, ← e, le-ltb k (length w) l)
-
-  -- nothing of 4 and 5 is refused exactly where the word is not too long and each letter names a transition
-  pub word-met : wordFault n w ≡ Sound → WordMet n w
-  unfolding wordFault
-  word-met e =
-      let a = or-sound (refuse (ltb wordLimit (length w)) 4 0) (refuse (ltb (badLetter n w) (length w)) 5 (badLetter n w)) e in
-      let x = ltb-false (badLetter n w) (length w) (refuse-sound _ 5 (badLetter n w) (a .1)) in
-      record {
-        short = ltb-false wordLimit (length w) (refuse-sound _ 4 0 (a .0));
-        letters = record { at = λ k h. leb-false n (getD w k 0) (first-below (λ k. leb n (getD w k 0)) (length w) k (omega arith)) };
-      }
-
-  pub met-word : WordMet n w → wordFault n w ≡ Sound
-  unfolding wordFault
-  met-word m =
-      let e = first-none (λ k. leb n (getD w k 0)) (length w) (λ k b. lt-leb n (getD w k 0) (m .letters .at k b)) in
-      sound-or _ _ (sound-refuse _ 4 0 (le-ltb wordLimit (length w) (m .short))) (sound-refuse _ 5 (badLetter n w) (le-ltb (badLetter n w) (length w) (omega arith)))
-
-pub ruleset word-faults = (word-long, word-letter, word-fine)

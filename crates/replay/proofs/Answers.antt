@@ -14,7 +14,8 @@ use Rattle.refusals.specs.Given.{orElse, countsFault, markedFault, wordFault, s
 use Rattle.refusals.specs.declared.Fault.{Fault}
 use Rattle.refusals.specs.declared.Fault.the-variants.{Sound, Faulty}
 use Rattle.refusals.proofs.Chains.{chain-first, chain-next, or-sound, sound-or}
-use Rattle.refusals.proofs.Refusals.{counts-met, marked-met, met-marked, word-met, met-word, counts-unfit, marked-unfit}
+use Rattle.refusals.proofs.Refusals.{counts-met, marked-met, met-marked, counts-unfit, marked-unfit}
+use Rattle.refusals.proofs.Words.{word-met, met-word}
 use Rattle.plays.specs.Replay.{Ran, playFrom, Ended}
 use Rattle.replay.specs.Entry.{replayFault, answered, replayOf, numbers, Replayed}
 use Rattle.plays.specs.declared.Replay.{Replay}

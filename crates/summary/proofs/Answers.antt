@@ -14,7 +14,8 @@ use Rattle.refusals.specs.Given.{outside, countsFault, netFault, wordFault, str
 use Rattle.refusals.specs.declared.Fault.{Fault}
 use Rattle.refusals.specs.declared.Fault.the-variants.{Sound, Faulty}
 use Rattle.refusals.proofs.Chains.{or-sound, sound-or}
-use Rattle.refusals.proofs.Refusals.{counts-met, net-met, met-net, word-met, met-word, counts-unfit, net-unfit}
+use Rattle.refusals.proofs.Refusals.{counts-met, net-met, met-net, counts-unfit, net-unfit}
+use Rattle.refusals.proofs.Words.{word-met, met-word}
 use Rattle.summary_place.specs.Slots.{slotsOf}
 use Rattle.summary_place.specs.declared.Slot.{Slot}
 use Rattle.summary_form.specs.Summary.{summaryOf, emptySummary, refusal, summed, Answers}

@@ -1,1 +1,2 @@
 pub mod Heavies
+pub mod SomeOver

@@ -1,4 +1,4 @@
-use Rattle.refusals.proofs.Refusals.{word-faults}
+use Rattle.refusals.proofs.Words.{word-faults}
 use borrow.Author.Needs.{needs}
 use Rattle.refusals.proofs.word_fault.Statement.{statement}
 use Rattle.refusals.proofs.word_fault.Tie as tie
