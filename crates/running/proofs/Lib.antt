@@ -3,6 +3,7 @@ pub mod Fronts
 pub mod Parts
 pub mod Starts
 pub mod Exactly
+pub mod TwoParts
 pub mod Cutting
 pub mod Meaning
 pub mod Unread

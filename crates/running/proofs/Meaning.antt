@@ -20,7 +20,7 @@ use Rattle.running.specs.declared.Running.{Running}
 use Rattle.running.specs.declared.Part.{Part}
 use Rattle.running.specs.declared.Part.the-variants.{Fired, Blocked}
 use Rattle.running.specs.declared.Fed.{Fed}
-use Rattle.running.proofs.Cutting.{fed-stuck, fed-fires, fed-stops, next-held, held-within, part-ending}
+use Rattle.running.proofs.TwoParts.{fed-stuck, fed-fires, fed-stops, next-held, held-within, part-ending}
 
 -- how a part ended, of the state s′ and the answer r that it left
 data Went (net : Net) (s : Running) (w : List ℕ) (s′ : Running) (r : Part) : Type 0 where

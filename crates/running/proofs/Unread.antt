@@ -18,7 +18,7 @@ use Rattle.running.specs.Entry.{Allowed}
 use Rattle.running.specs.Cutting.{Slotted, Alike}
 use Rattle.running.specs.declared.Running.{Running}
 use Rattle.running.proofs.Parts.{sound-allowed}
-use Rattle.running.proofs.Cutting.{next, next-held}
+use Rattle.running.proofs.TwoParts.{next, next-held}
 
 -- a scan looks at nothing past its end
 first-same : (f g : ℕ → Bool) (n : ℕ) → ((k : ℕ) → k < n → f k ≡ g k) → first f n ≡ first g n

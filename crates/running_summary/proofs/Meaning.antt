@@ -14,13 +14,11 @@ use Rattle.running.specs.Cutting.{Slotted}
 use Rattle.running.specs.declared.Running.{Running}
 use Rattle.running.specs.declared.Part.{Part}
 use Rattle.running.specs.declared.Part.the-variants.{Fired}
-use Rattle.running.proofs.Cutting.{held-within}
+use Rattle.running.proofs.TwoParts.{held-within}
 use Rattle.running.proofs.Meaning.{fired-means, fires-exactly}
 use Rattle.summary_place.specs.Place.{letterAt, change}
-use Rattle.summary_place.proofs.Words.{need-peak, climb-peak}
-use Rattle.summary_place.proofs.Firing.{fires-then, then-fires}
-use Rattle.summary_form.proofs.Places.{Room, room-less, rising, at-each, from-each, ends-at}
-use Rattle.summary_form.proofs.Meaning.{climb-by-mark}
+use Rattle.summary_form.proofs.Places.{ends-at}
+use Rattle.summary_form.proofs.Fits.{fires-fits, fits-fires}
 use Rattle.running_summary.specs.Suffices.{SufficesPart}
 
 held-at : (net : Net) (s : Running) (p : ℕ) → p < net .places → tokens (held net s) p ≡ getD (s .marking) p 0
@@ -28,22 +26,14 @@ held-at net s p h = getD-take (net .places) (s .marking) p 0 h
 
 module _ (net : Net) (s : Running) (w : List ℕ) (a : Allowed net s w) (slots : Slotted s) where
   fires-suffices : (m : List ℕ) → Fires net (held net s) w m → SufficesPart net s w
-  fires-suffices m f =
-      let i = held-within net s w a slots in
-      record {
-        at = λ p h.
-            let q = fires-then (letterAt net p) (Room net p) (room-less net p) (rising net p) w (tokens (held net s) p) (i .at p h) (at-each f i p h) in
-            rw (← held-at net s p h)
-            (record { covers = rw (need-peak (letterAt net p) (rising net p) w) (q .0); keeps = rw (← climb-by-mark net p w, climb-peak (letterAt net p) (rising net p) w) (q .1) });
-      }
+  fires-suffices m f = record {
+    at = λ p h. let q = fires-fits f (held-within net s w a slots) p h in rw (← held-at net s p h) (record { covers = q .0; keeps = q .1 });
+  }
 
   suffices-fires : SufficesPart net s w → (m : List ℕ) × Fires net (held net s) w m
   suffices-fires k =
-      from-each net w (held net s) (held-within net s w a slots .long) (a .letters)
-      (λ p h.
-      let t = rw (← held-at net s p h) at (k .at p h) in
-      then-fires (letterAt net p) (Room net p) (room-less net p) (rising net p) w (tokens (held net s) p)
-      (rw (need-peak (letterAt net p) (rising net p) w) at (t .covers)) (rw (← climb-by-mark net p w, climb-peak (letterAt net p) (rising net p) w) at (t .keeps)))
+      fits-fires net w (held net s) (held-within net s w a slots .long) (a .letters)
+      (λ p h. let t = rw (← held-at net s p h) at (k .at p h) in (t .covers, t .keeps))
 
   module _ (q : s .blocked ≡ 0) (s′ : Running) (r : Part) (p : Promised net s w s′ r) where
     -- fired exactly where a summary asked would say yes

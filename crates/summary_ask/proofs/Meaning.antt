@@ -24,8 +24,6 @@ use Rattle.summary_place.specs.Place.{letterAt, change}
 use Rattle.summary_place.specs.Slots.{nil, slotOf, slotsOf}
 use Rattle.summary_asked.specs.Asked.{endAt, ends, Suffices}
 use Rattle.summary_place.specs.declared.Slot.{Slot}
-use Rattle.summary_place.proofs.Words.{need-peak, climb-peak}
-use Rattle.summary_place.proofs.Firing.{fires-then, then-fires}
 use Rattle.summary_form.specs.Summary.{summaryOf}
 use Rattle.summary_ask.specs.Ask.{Replied, SufficesWord}
 use Rattle.summary_ask.specs.Allowed.{AskAllowed}
@@ -33,9 +31,10 @@ use Rattle.summary_form.specs.declared.Summary.{Summary}
 use Rattle.summary_ask.specs.declared.Asked.{Asked}
 use Rattle.summary_ask.specs.declared.Asked.the-variants.{Yes, No}
 use Rattle.summary_ask.proofs.Asking.{asked-apart, slots-asked, yes-means, means-yes, no-means}
-use Rattle.summary_form.proofs.Places.{Room, room-less, rising, at-each, from-each, ends-at}
+use Rattle.summary_form.proofs.Places.{ends-at}
 use Rattle.summary_form.proofs.Formed.{at-formed}
 use Rattle.summary_form.proofs.Meaning.{climb-by-mark, slot-here, word-well-formed}
+use Rattle.summary_form.proofs.Fits.{fires-fits, fits-fires}
 
 -- ---- the promise has one answer, and one content of the room
 pub ask-unique : (net : Net) (m : List ℕ) (s : Summary) (room : List ℕ) (r r′ : Asked) (l l′ : List ℕ) → Replied net m s room r l → Replied net m s room r′ l′ → (r ≡ r′) × (l ≡ l′)
@@ -45,14 +44,8 @@ ask-unique net m s room r r′ l l′ a b = (asked-apart r r′ (a .answer ∙ s
 -- from a marking within capacities a word fires exactly where the need is covered at each place and marking plus climb keeps to each capacity
 pub fires-iff : (net : Net) (w m : List ℕ) → Within net m → Letters (net .transitions) w → ((m′ : List ℕ) × Fires net m w m′) ↔ SufficesWord net w m
 fires-iff net w m i letters = (
-  λ f. record {
-    at = λ p h.
-        let q = fires-then (letterAt net p) (Room net p) (room-less net p) (rising net p) w (tokens m p) (i .at p h) (at-each (f .1) i p h) in
-        record { covers = rw (need-peak (letterAt net p) (rising net p) w) (q .0); keeps = rw (← climb-by-mark net p w, climb-peak (letterAt net p) (rising net p) w) (q .1) };
-  },
-  λ k. from-each net w m (i .long) letters
-      (λ p h. then-fires (letterAt net p) (Room net p) (room-less net p) (rising net p) w (tokens m p)
-      (rw (need-peak (letterAt net p) (rising net p) w) at (k .at p h .covers)) (rw (← climb-by-mark net p w, climb-peak (letterAt net p) (rising net p) w) at (k .at p h .keeps))),
+  λ f. record { at = λ p h. let q = fires-fits (f .1) i p h in record { covers = q .0; keeps = q .1 } },
+  λ k. fits-fires net w m (i .long) letters (λ p h. (k .at p h .covers, k .at p h .keeps)),
 )
 
 pub fires-ends : {net : Net} {m w m′ : List ℕ} → Fires net m w m′ → (p : ℕ) → p < net .places → pos (tokens m′ p) ≡ pos (tokens m p) +ℤ change (letterAt net p) w

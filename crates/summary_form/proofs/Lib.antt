@@ -5,3 +5,4 @@ pub mod Answers
 pub mod Meaning
 pub mod Exactly
 pub mod Marks
+pub mod Fits
