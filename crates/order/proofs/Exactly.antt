@@ -13,7 +13,7 @@ use Rattle.net.specs.Net.{Net}
 use Rattle.refusals.specs.Given.{orElse, markedFault, wordFault, Letters}
 use Rattle.refusals.specs.First.{First, fails, holds, GivenAt, WordFirst}
 use Rattle.refusals.specs.declared.Fault.{Fault}
-use Rattle.refusals.specs.declared.Fault.the-variants.{Sound, Faulty}
+use Rattle.refusals.specs.declared.Fault.the-variants.{Sound}
 use Rattle.refusals.proofs.Chains.{or-sound, sound-or}
 use Rattle.refusals.proofs.Refusals.{marked-met, met-marked}
 use Rattle.refusals.proofs.Words.{word-met, met-word}

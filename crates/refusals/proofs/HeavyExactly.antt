@@ -14,7 +14,7 @@ use Rattle.refusals.specs.First.{First, fails, holds, GivenAt, CountsFir
 use Rattle.refusals.specs.declared.Fault.{Fault}
 use Rattle.refusals.specs.declared.Fault.the-variants.{Sound, Faulty}
 use Rattle.refusals.proofs.Refusals.{weights-met}
-use Rattle.refusals.proofs.Exactly.{Chain, reads-all, weights-reads, counts-reads, net-reads, start-reads, marked-reads}
+use Rattle.refusals.proofs.Exactly.{reads-all, weights-reads, counts-reads, net-reads, start-reads, marked-reads}
 
 -- at is the lowest transition with a weight over the limit, over Pre and Post together
 abbrev pub HeavyAt : Net → ℕ → Type 0

@@ -13,7 +13,7 @@ use Rattle.refusals.specs.declared.Fault.{Fault}
 use Rattle.refusals.specs.declared.Fault.the-variants.{Sound, Faulty}
 use Rattle.refusals.proofs.Chains.{fault-one}
 use Rattle.refusals.proofs.Refusals.{CountsMet, counts-met, met-counts, StartMet, start-met, met-start, loose-met}
-use Rattle.refusals.proofs.Exactly.{Chain, reads-all, loose-reads, counts-reads, start-reads}
+use Rattle.refusals.proofs.Exactly.{reads-all, loose-reads, counts-reads, start-reads}
 
 -- a refusal of 1, 2, 18 or 3 is no 17
 counts-other : {net : Net} {Others Next : Type 0} {n at : ℕ} → n ≡ 17 → CountsFirst net Others n at Next → Next

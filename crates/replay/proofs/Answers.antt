@@ -10,7 +10,7 @@ use Rattle.ground.specs.Limits.{wordLimit}
 use Rattle.ground.proofs.Tests.{never, and-true}
 use Rattle.net.specs.Net.{Net, Sized, Light}
 use Rattle.wiring.specs.Wired.{Wired}
-use Rattle.refusals.specs.Given.{orElse, countsFault, markedFault, wordFault, stretch, inside, Fine, Letters}
+use Rattle.refusals.specs.Given.{countsFault, markedFault, wordFault, stretch, inside, Fine, Letters}
 use Rattle.refusals.specs.declared.Fault.{Fault}
 use Rattle.refusals.specs.declared.Fault.the-variants.{Sound, Faulty}
 use Rattle.refusals.proofs.Chains.{chain-first, chain-next, or-sound, sound-or}
