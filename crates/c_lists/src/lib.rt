@@ -1,6 +1,8 @@
 // Marking lists for C, as include/kaunorpi.h declares them: a list passes
 // as its pointer and its number of entries, and an answer is a struct of document 01's numbers. Each
 // export asks the entry of its name; a function of_.. puts an answer's numbers into the struct.
+#![tactic(auto)]
+
 ghost use Rattle.std.specs.Prelude.{◌≡◌, true, ◌∷◌};
 ghost use Rattle.net.specs.Net.{net_of};
 ghost use Rattle.refusals.specs.declared.Fault.TheVariants.{Sound};
@@ -16,7 +18,7 @@ use lists::{ClaimAnswer, Failure, ListAnswer};
 
 // What an answer about a marking list says.
 #[repr(C)]
-#[derive(Drop)]
+#[derive(Clone, Copy)]
 pub struct ListNumbers {
     pub kind: u8,
     pub number: u8,

@@ -1,6 +1,8 @@
 // The complement net and the case file for C, as include/kaunorpi.h declares them: a list passes
 // as its pointer and its number of entries, and an answer is a struct of document 01's numbers. Each
 // export asks the entry of its name; a function of_.. puts an answer's numbers into the struct.
+#![tactic(auto)]
+
 ghost use Rattle.std.specs.Prelude.{◌≡◌};
 ghost use Rattle.net.specs.Net.{net_of};
 ghost use Rattle.complement.specs.Told.{places_of, places_numbers};
@@ -19,7 +21,7 @@ use ground::Weight;
 
 // What the answer to the complement net's places says.
 #[repr(C)]
-#[derive(Drop)]
+#[derive(Clone, Copy)]
 pub struct PlacesAnswer {
     pub kind: u8,
     pub number: u8,
@@ -29,7 +31,7 @@ pub struct PlacesAnswer {
 
 // What the answer to a case file says.
 #[repr(C)]
-#[derive(Drop)]
+#[derive(Clone, Copy)]
 pub struct CaseAnswer {
     pub kind: u8,
     pub number: u8,

@@ -1,6 +1,8 @@
 // Two logs for C, as include/kaunorpi.h declares it: a list passes as its pointer and its number of
 // entries, and an answer is a struct of document 01's numbers. Each export asks the entry of its
 // name; a function of_.. puts an answer's numbers into the struct.
+#![tactic(auto)]
+
 ghost use Rattle.std.specs.Prelude.{◌≡◌, ◌≤◌, ◌-◌};
 ghost use Rattle.net.specs.Net.{net_of};
 ghost use Rattle.order.specs.Entry.{order_of};
@@ -17,7 +19,7 @@ use refusals::Fault;
 
 // What the answer to the unread rest says: from letter `start` of log `log` on, `length` letters.
 #[repr(C)]
-#[derive(Drop)]
+#[derive(Clone, Copy)]
 pub struct RestAnswer {
     pub kind: u8,
     pub number: u8,

@@ -1,6 +1,8 @@
 // Replays for C, as include/kaunorpi.h declares them: a list passes
 // as its pointer and its number of entries, and an answer is a struct of document 01's numbers. Each
 // export asks the entry of its name; a function of_.. puts an answer's numbers into the struct.
+#![tactic(auto)]
+
 ghost use Rattle.std.specs.Prelude.{◌≡◌, true, [], ◌∷◌};
 ghost use Rattle.net.specs.Net.{net_of};
 ghost use Rattle.net.specs.Firing.{cause_number, cause_values};
@@ -16,7 +18,7 @@ use replay::Replay;
 
 // What a replay's answer says.
 #[repr(C)]
-#[derive(Drop)]
+#[derive(Clone, Copy)]
 pub struct ReplayAnswer {
     pub kind: u8,
     pub number: u8,

@@ -1,5 +1,7 @@
 // Running replay for C, as include/kaunorpi.h declares it: the state is a struct of the caller's, lent by its
 // pointer and changed in place. Each export is a thin wrapper over a function that has the state by value.
+#![tactic(auto)]
+
 ghost use Rattle.std.specs.Prelude.{◌≡◌};
 ghost use Rattle.net.specs.Net.{net_of};
 ghost use Rattle.running.specs.State.{fed_of};
@@ -13,7 +15,7 @@ use ground::Weight;
 use running::{Fed, Part, Running};
 
 // A state, and what C is told.
-#[derive(Drop)]
+#[derive(Clone, Copy)]
 struct Told {
     state: Running,
     answer: ReplayAnswer,

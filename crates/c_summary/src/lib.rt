@@ -1,6 +1,8 @@
 // Summaries made, for C, as include/kaunorpi.h declares them: a list passes as its pointer and its
 // number of entries. Each export asks the entry of its name, and c_summary_answer hands over what it
 // answers.
+#![tactic(auto)]
+
 ghost use Rattle.std.specs.Prelude.{◌&&◌};
 ghost use Rattle.net.specs.Net.{net_of};
 ghost use Rattle.refusals.specs.Given.{stretch, inside};

@@ -1,5 +1,7 @@
 // Inner: a summary as C lends it, and an answer that carries one as C is handed it: what the exports
 // about summaries share.
+#![tactic(auto)]
+
 ghost use Rattle.std.specs.Prelude.{◌≡◌, false, ◌||◌, length};
 ghost use Rattle.ground.specs.Limits.{count_limit};
 ghost use Rattle.refusals.specs.Given.{outside};
@@ -13,7 +15,7 @@ use summary_form::{Made, Summary, Summed};
 
 // What a summary's answer says; the slots stand in the three lists.
 #[repr(C)]
-#[derive(Drop)]
+#[derive(Clone, Copy)]
 pub struct SummaryAnswer {
     pub kind: u8,
     pub number: u8,

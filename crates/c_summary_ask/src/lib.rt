@@ -1,6 +1,8 @@
 // A summary asked, for C, as include/kaunorpi.h declares it: a list passes as its pointer and its
 // number of entries, and an answer is a struct of document 01's numbers. The export asks the entry of
 // its name; of_asked puts an answer's numbers into the struct.
+#![tactic(auto)]
+
 ghost use Rattle.std.specs.Prelude.{◌≡◌, false};
 ghost use Rattle.net.specs.Net.{net_of};
 ghost use Rattle.refusals.specs.Given.{refuse, or_else, outside, counts_fault};

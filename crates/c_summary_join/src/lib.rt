@@ -1,6 +1,8 @@
 // Summaries joined, for C, as include/kaunorpi.h declares it: a list passes as its pointer and its
 // number of entries. The export asks the entry of its name, and c_summary_answer hands over what it
 // answers.
+#![tactic(auto)]
+
 ghost use Rattle.std.specs.Prelude.{◌≡◌, false, ◌&&◌};
 ghost use Rattle.c_summary_lists.specs.Columns.{columns_of, lengths_fit};
 ghost use Rattle.c_summary_answer.specs.Summaries.{HandedSummary};

@@ -1,4 +1,6 @@
 // Inner: a summary's slots as the three lists that C lends, need, climb and change, and back.
+#![tactic(auto)]
+
 ghost use Rattle.std.specs.Prelude.{◌≡◌, ◌<◌, length};
 ghost use Rattle.ground.specs.Limits.{count_limit};
 ghost use Rattle.c_summary_lists.specs.Columns.{columns_of, lengths_fit, slot_from, slots_from, needs_of, climbs_of, changes_of, columns_from};

@@ -1,6 +1,8 @@
 // Weightings, bounds and sets of places for C, as include/kaunorpi.h declares them: a list passes
 // as its pointer and its number of entries, and an answer is a struct of document 01's numbers. Each
 // export asks the entry of its name; a function of_.. puts an answer's numbers into the struct.
+#![tactic(auto)]
+
 ghost use Rattle.std.specs.Prelude.{◌≡◌, [], ◌∷◌};
 ghost use Rattle.net.specs.Net.{net_of};
 ghost use Rattle.weighting.specs.Place.{place_of, place_numbers};
@@ -18,7 +20,7 @@ use weighting_bound::{Bound, NoBoundCause};
 
 // What the answer to a bound says.
 #[repr(C)]
-#[derive(Drop)]
+#[derive(Clone, Copy)]
 pub struct BoundAnswer {
     pub kind: u8,
     pub number: u8,

@@ -1,6 +1,8 @@
 // A case file written back for C, as include/kaunorpi.h declares it: a list passes as its pointer and
 // its number of entries, and an answer is a struct of document 01's numbers. Each export asks the
 // entry of its name; a function of_.. puts an answer's numbers into the struct.
+#![tactic(auto)]
+
 ghost use Rattle.std.specs.Prelude.{◌≡◌};
 ghost use Rattle.net.specs.Net.{net_of};
 ghost use Rattle.file_write.specs.Told.{length_numbers, length_of};
@@ -13,7 +15,7 @@ use ground::Weight;
 
 // What the answer to a case file's length says, and the answer to writing one.
 #[repr(C)]
-#[derive(Drop)]
+#[derive(Clone, Copy)]
 pub struct LengthAnswer {
     pub kind: u8,
     pub number: u8,

@@ -1,5 +1,7 @@
 // Closed lists: a list of markings that holds the initial marking and every result of its own
 // markings holds every reachable one, so what it lacks is never reached.
+#![tactic(auto)]
+
 ghost use Rattle.std.specs.Prelude.{◌≡◌, true, ◌<◌, length};
 ghost use Rattle.net.specs.Net.{net_of, Sized};
 ghost use Rattle.refusals.specs.declared.Fault.TheVariants.{Sound};

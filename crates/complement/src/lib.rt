@@ -1,5 +1,7 @@
 // The complement net: a net without capacities that fires the very same words, written into lent
 // rooms.
+#![tactic(auto)]
+
 ghost use Rattle.std.specs.Prelude.{◌≡◌, ◌+◌, ◌-◌, ◌*◌, ◌≤◌, ◌<◌, ltb, length};
 ghost use Rattle.std.proofs.lemmas.List.Edits.{sets};
 ghost use Rattle.ground.specs.Limits.{count_limit, no_capacity};
@@ -15,14 +17,14 @@ use ground::{COUNT_LIMIT, NO_CAPACITY, Weight};
 use refusals::Fault;
 
 // How many places the complement net has; or refused, with document 01's number and position.
-#[derive(Drop)]
+#[derive(Clone, Copy)]
 pub enum ComplementPlaces {
     Places(usize),
     Refused(u8, usize),
 }
 
 // The complement net was written; or refused, with document 01's number and position.
-#[derive(Drop)]
+#[derive(Clone, Copy)]
 pub enum ComplementNet {
     Made,
     Refused(u8, usize),

@@ -1,5 +1,7 @@
 // Cover lists: a list of markings, with 65,535 for any number, that covers the initial marking and
 // every result of its own markings covers every reachable one, so what it does not cover never is.
+#![tactic(auto)]
+
 ghost use Rattle.std.specs.Prelude.{◌≡◌, true};
 ghost use Rattle.net.specs.Net.{net_of};
 ghost use Rattle.refusals.specs.declared.Fault.TheVariants.{Sound};

@@ -1,5 +1,7 @@
 // Inner: a case file written back, made from what the file has come to: the file that the writer makes of
 // what was read; or the refusal, as the line of the verdict has it.
+#![tactic(auto)]
+
 ghost use Rattle.file_line.specs.Read.{rooms};
 ghost use Rattle.file_line.specs.Walk.{Good, Large};
 ghost use Rattle.file_parts.specs.File.{case_of};

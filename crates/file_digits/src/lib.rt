@@ -1,5 +1,7 @@
 // Inner: the digits of a line, and the bytes and numbers that they spell. The limits of a line and of
 // a frame of letters are named here once (their numbers in the definitions are in specs/Frame.antt).
+#![tactic(auto)]
+
 ghost use Rattle.std.specs.Prelude.{◌≡◌, ◌+◌, ◌*◌, ◌<◌, ◌≤◌, length};
 ghost use Rattle.std.proofs.lemmas.List.Edits.{sets};
 ghost use Rattle.file_digits.specs.Frame.{value_of, is_digit, all_digits, byte_at, word_at, bytes_from, words_from};

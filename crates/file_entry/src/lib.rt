@@ -1,5 +1,7 @@
 // A whole case file into lent rooms: the net, its initial marking and the word, or a refusal with its
 // line. The counts are not known before the file is read, so the rooms have the largest sizes.
+#![tactic(auto)]
+
 ghost use Rattle.std.specs.Prelude.{◌≡◌, [], ◌≤◌, length, replicate};
 ghost use Rattle.std.proofs.lemmas.List.Edits.{sets};
 ghost use Rattle.ground.specs.Limits.{count_limit, word_limit};
@@ -16,7 +18,7 @@ use ground::{COUNT_LIMIT, WORD_LIMIT, Weight};
 
 // The answer to a case file: read, with its places, transitions and letters; or refused, with
 // document 01's number and the line (position 0 where a room has another length).
-#[derive(Drop)]
+#[derive(Clone, Copy)]
 pub enum CaseFile {
     Read(usize, usize, usize),
     Refused(u8, usize),

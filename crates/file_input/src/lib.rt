@@ -1,5 +1,7 @@
 // Inner: the reads of standard input. What each comes to is decided in file_reads: reading stops at
 // the file's end, at the first refusal, or at a read that fails.
+#![tactic(auto)]
+
 ghost use Rattle.file_line.specs.Read.{rooms};
 ghost use Rattle.file_line.specs.Walk.{Large};
 ghost use Rattle.file_parts.specs.File.{both};

@@ -1,4 +1,6 @@
 // Inner: the case file reader, one line at a time, over a state by value and lent rooms.
+#![tactic(auto)]
+
 ghost use Rattle.std.specs.Prelude.{◌≡◌, true, cond, ◌&&◌, ◌||◌, [], eqb, leb, ltb, ◌+◌, ◌*◌, ◌%◌, ◌<◌, ◌≤◌, length};
 ghost use Rattle.std.proofs.lemmas.List.Edits.{sets};
 ghost use Rattle.ground.specs.Limits.{count_limit, weight_limit, word_limit};
@@ -20,7 +22,7 @@ use refusals::Fault;
 // The most entries of Pre, and of Post.
 pub const CELL_LIMIT: usize = COUNT_LIMIT * COUNT_LIMIT;
 
-#[derive(Drop)]
+#[derive(Clone, Copy)]
 pub struct Reading {
     // the kind that must come next: 1 to 3, 4 for a transition's weights, in an 04 or an 07, 5 for letters
     // or the end, and 6 for pockets or tokens
@@ -36,7 +38,7 @@ pub struct Reading {
 }
 
 // What a line comes to.
-#[derive(Drop)]
+#[derive(Clone, Copy)]
 pub enum Took {
     Next(Reading),
     Refused { number: u8, line: usize },

@@ -1,5 +1,7 @@
 // Inner: the mask of a frame 06, which says which places are pockets: read from a line's digits,
 // judged, made into marks; and made of marks and put into a room.
+#![tactic(auto)]
+
 ghost use Rattle.std.specs.Prelude.{◌≡◌, ◌+◌, ◌*◌, ◌%◌, ◌≤◌, ◌<◌, length};
 ghost use Rattle.std.proofs.lemmas.List.Edits.{sets};
 ghost use Rattle.ground.specs.Limits.{count_limit};

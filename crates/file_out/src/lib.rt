@@ -1,5 +1,7 @@
 // Inner: a case file put into a room, frame by frame, and how long it is. Each function puts its text at a
 // number of the room and answers the number after it; what stands before and after is as found.
+#![tactic(auto)]
+
 ghost use Rattle.std.specs.Prelude.{◌≡◌, [], ◌∷◌, ◌+◌, ◌*◌, ◌≤◌, min, length};
 ghost use Rattle.ground.specs.Limits.{count_limit, word_limit};
 ghost use Rattle.ground.specs.Lists.{bit};

@@ -1,5 +1,7 @@
 // Inner: a case file by parts. Each line goes through one buffer, with its length beside it: it is filled from the
 // part at hand, and from the next part where a part cuts the line off; at the line feed the line is read and the buffer cleared.
+#![tactic(auto)]
+
 ghost use Rattle.std.specs.Prelude.{◌≡◌, [], ◌+◌, ◌≤◌, length, take, drop};
 ghost use Rattle.std.proofs.lemmas.List.Edits.{sets};
 ghost use Rattle.file_digits.specs.Frame.{line_feed};
@@ -13,14 +15,14 @@ use file_line::{Reading, Took};
 use ground::Weight;
 
 // What a whole file comes to.
-#[derive(Drop)]
+#[derive(Clone, Copy)]
 pub enum Case {
     Whole(Reading),
     Refused(u8, usize),
 }
 
 // A reading between two parts.
-#[derive(Drop)]
+#[derive(Clone, Copy)]
 pub struct Held {
     pub reading: Reading,
     // 0, or the refusal, with its line

@@ -1,4 +1,6 @@
 // Inner: bytes and numbers as digits, and the line feed, put into a room at a position.
+#![tactic(auto)]
+
 ghost use Rattle.std.specs.Prelude.{◌≡◌, [], ◌∷◌, ◌+◌, ◌<◌, ◌≤◌, length};
 ghost use Rattle.file_digits.specs.Frame.{line_feed};
 ghost use Rattle.file_put.specs.Append.{Appended};

@@ -1,5 +1,7 @@
 // Inner: what one read of the input comes to. Its bytes are fed to the reading, and its count says whether there is
 // more to read; no call of the system is made here, so that all of it is proved.
+#![tactic(auto)]
+
 ghost use Rattle.std.specs.Prelude.{◌≡◌};
 ghost use Rattle.file_line.specs.Read.{rooms};
 ghost use Rattle.file_line.specs.Walk.{Large};
@@ -12,7 +14,7 @@ use file_parts::Held;
 use ground::Weight;
 
 // Whether there is more to read.
-#[derive(Drop)]
+#[derive(Clone, Copy)]
 pub enum Input {
     More,
     Over,
@@ -20,7 +22,7 @@ pub enum Input {
 }
 
 // What was read so far.
-#[derive(Drop)]
+#[derive(Clone, Copy)]
 pub struct Fed {
     pub held: Held,
     pub input: Input,

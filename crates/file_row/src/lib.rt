@@ -1,5 +1,7 @@
 // Inner: a transition's weights in a case file: a byte each in a frame 04, two bytes each in a frame 07. Read
 // from a line's digits, and put into a room.
+#![tactic(auto)]
+
 ghost use Rattle.std.specs.Prelude.{◌≡◌, [], ◌∷◌, ◌+◌, ◌*◌, ◌≤◌, length};
 ghost use Rattle.std.proofs.lemmas.List.Edits.{sets};
 ghost use Rattle.ground.specs.Limits.{count_limit, weight_limit};

@@ -1,5 +1,7 @@
 // Case files written back: a net, its initial marking and a word as the one case file that says them, put
 // into lent room; and how long that file is, so that the right room can be lent.
+#![tactic(auto)]
+
 ghost use Rattle.std.specs.Prelude.{◌≡◌, ◌≤◌};
 ghost use Rattle.ground.specs.Limits.{word_limit};
 ghost use Rattle.net.specs.Net.{net_of, Sized};
@@ -13,14 +15,14 @@ use refusals::Fault;
 
 // The answer to writing a case file: written, with its length; or refused, with document 01's number and
 // position.
-#[derive(Drop)]
+#[derive(Clone, Copy)]
 pub enum WriteCase {
     Written(usize),
     Refused(u8, usize),
 }
 
 // The answer to how long the case file is: told; or refused.
-#[derive(Drop)]
+#[derive(Clone, Copy)]
 pub enum CaseLength {
     Told(usize),
     Refused(u8, usize),

@@ -1,6 +1,8 @@
 // Inner: what every crate stands on. The limits of document 01's first table, each named here once
 // (its number in the definitions is in specs/Limits.antt), and the border between a signed number
 // and its two parts, which nothing else crosses.
+#![tactic(auto)]
+
 ghost use Rattle.std.specs.Prelude.{◌≡◌, ◌≤◌, ◌<◌, ◌^◌};
 ghost use Rattle.std.proofs.Math.IntN.{sub_ℕ};
 ghost use Rattle.ground.specs.Limits.{entry_limit};

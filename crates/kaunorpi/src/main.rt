@@ -1,6 +1,8 @@
 // The program: a case file on standard input; one verdict line on standard output. Where a read
 // fails the file has no end that is known, so no line is written, and the failure is told on
 // standard error.
+#![tactic(auto)]
+
 ghost use Rattle.std.specs.Prelude.{◌≤◌, length};
 ghost use Rattle.file_line.specs.Read.{rooms};
 ghost use Rattle.file_line.specs.Walk.{Large};

@@ -1,6 +1,8 @@
 // Inner: a transition judged and fired at a listed marking by its arcs. A place without an arc neither
 // stops a transition, at a marking within the capacities, nor changes: `skips` tells for each entry of
 // Pre how many such places a pass over the places, from the last one down, may leave out there.
+#![tactic(auto)]
+
 ghost use Rattle.std.specs.Prelude.{◌≡◌, true, ◌||◌, ◌+◌, ◌-◌, ◌*◌, ◌≤◌, ◌<◌, length, get_or};
 ghost use Rattle.ground.specs.Limits.{count_limit};
 ghost use Rattle.net.specs.Net.{net_of, Sized};

@@ -1,5 +1,7 @@
 // Inner: a list of either kind asked, and a target after it: which refusal, else whether the list has
 // the initial marking and every result.
+#![tactic(auto)]
+
 ghost use Rattle.std.specs.Prelude.{◌≡◌, ◌≤◌, length};
 ghost use Rattle.ground.specs.Limits.{list_limit};
 ghost use Rattle.net.specs.Net.{net_of, Sized};

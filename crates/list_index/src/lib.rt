@@ -1,6 +1,8 @@
 // Inner: an index over a closed list, so that a marking is looked for among few listed ones. A hash
 // of a marking's numbers gives its bucket; `heads` has the latest listed marking of each bucket, and
 // `links` for each listed marking the one before it in its bucket. 0 is none, k + 1 marking number k.
+#![tactic(auto)]
+
 ghost use Rattle.std.specs.Prelude.{◌≡◌, ◌+◌, ◌*◌, ◌/◌, ◌%◌, ◌≤◌, ◌<◌, length, replicate};
 ghost use Rattle.ground.specs.Limits.{count_limit, list_limit};
 ghost use Rattle.ground.specs.Lists.{bit};

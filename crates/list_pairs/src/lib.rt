@@ -1,6 +1,8 @@
 // Inner: a listed marking and a transition: whether the result is missing, in a list of either kind;
 // and the first listed marking, and in it the lowest transition, for which it is. The room for a
 // result is made once for a list.
+#![tactic(auto)]
+
 ghost use Rattle.std.specs.Prelude.{◌≡◌, true, false, ◌+◌, ◌*◌, ◌<◌, ◌≤◌, length, replicate};
 ghost use Rattle.ground.specs.Limits.{count_limit, list_limit};
 ghost use Rattle.net.specs.Net.{net_of};

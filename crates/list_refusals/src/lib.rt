@@ -1,4 +1,6 @@
 // Inner: which refusal a list of either kind gets, and a target after it: 2, 3 and 9.
+#![tactic(auto)]
+
 ghost use Rattle.std.specs.Prelude.{◌≡◌, ◌&&◌, ◌≤◌, ltb, length};
 ghost use Rattle.ground.specs.Limits.{count_limit, token_limit};
 ghost use Rattle.ground.specs.Lists.{bit};

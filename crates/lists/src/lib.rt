@@ -1,5 +1,7 @@
 // Inner: lists of markings as lent, flat, P numbers a marking: what closed lists and cover lists
 // share. Where the two differ, a function is told the kind.
+#![tactic(auto)]
+
 ghost use Rattle.std.specs.Prelude.{◌≡◌, ◌*◌, ◌≤◌, length};
 ghost use Rattle.ground.specs.Limits.{count_limit};
 ghost use Rattle.refusals.specs.Given.{unlike};
@@ -8,7 +10,7 @@ ghost use Rattle.lists.specs.Match.{alike, beyond, covering, matches, held};
 use ground::{COUNT_LIMIT, TOKEN_LIMIT};
 
 // A closed list holds markings; a cover list covers them, and may hold 65,535 for any number.
-#[derive(Drop)]
+#[derive(Clone, Copy)]
 pub enum Kind {
     Closed,
     Cover,
@@ -16,14 +18,14 @@ pub enum Kind {
 
 // Why a list is not accepted: the initial marking is missing, or the result of a transition at a
 // listed marking, each by its number.
-#[derive(Drop)]
+#[derive(Clone, Copy)]
 pub enum Failure {
     InitialMissing,
     ResultMissing(usize, usize),
 }
 
 // The answer to a list: accepted, its failure, or a refusal's number and position.
-#[derive(Drop)]
+#[derive(Clone, Copy)]
 pub enum ListAnswer {
     Accepted,
     Failed(Failure),
@@ -32,7 +34,7 @@ pub enum ListAnswer {
 
 // The answer to a claim that an accepted list may show, that a target is never reached or covered or
 // that the line never stalls: shown, or not shown; else the list's failure, or a refusal.
-#[derive(Drop)]
+#[derive(Clone, Copy)]
 pub enum ClaimAnswer {
     Shown,
     NotShown,

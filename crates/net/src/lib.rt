@@ -2,6 +2,8 @@
 // transition by transition), the capacities and the marks, in this order everywhere. Whoever judges
 // letters has capacities and marks in 32 bits (`wide_caps`, `wide_marks`), as the tokens are: a pass
 // over the places then turns none of them anew for each letter.
+#![tactic(auto)]
+
 ghost use Rattle.std.specs.Prelude.{◌≡◌, true, false, ◌||◌, ◌+◌, ◌-◌, ◌<◌, ◌≤◌, length};
 ghost use Rattle.ground.specs.Limits.{count_limit, replay_limit};
 ghost use Rattle.ground.specs.Lists.{bit};
@@ -11,14 +13,14 @@ ghost use Rattle.net.specs.Letter.{short_at, over_at, arcs_of, arcs_at, lowest_s
 use ground::{COUNT_LIMIT, NO_CAPACITY, Weight};
 
 // Why a letter is not enabled: short of tokens, or over capacity, at a place.
-#[derive(Drop)]
+#[derive(Clone, Copy)]
 pub enum Cause {
     Short(usize),
     Over(usize),
 }
 
 // What becomes of one letter.
-#[derive(Drop)]
+#[derive(Clone, Copy)]
 pub enum Letter {
     Passes,
     Stops(Cause),

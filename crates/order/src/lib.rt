@@ -1,5 +1,7 @@
 // Two recorders, one line: two logs put into an order that keeps each log's own and that the line
 // could have run.
+#![tactic(auto)]
+
 ghost use Rattle.std.specs.Prelude.{◌≡◌, ◌&&◌, ◌+◌, eqb};
 ghost use Rattle.net.specs.Net.{net_of};
 ghost use Rattle.orders.specs.Lengths.{work_length};
@@ -11,7 +13,7 @@ use refusals::Fault;
 
 // The answer for two logs: an order was found and stands in the room, 0 for a step that takes from
 // the first log, 1 from the second; none fires; or refused, with the number and position.
-#[derive(Drop)]
+#[derive(Clone, Copy)]
 pub enum LogOrder {
     Found,
     NoneFires,

@@ -1,6 +1,8 @@
 // Inner: an order of two logs that fires is looked for, the first log's letters tried first. The
 // marking is fired forward and taken back; the work space remembers from where no order fires, so
 // that each pair of letters read is looked at once.
+#![tactic(auto)]
+
 ghost use Rattle.std.specs.Prelude.{◌≡◌, true, false, not, ◌+◌, ◌*◌, ◌<◌, ◌≤◌, eqb, length, get_or, replicate, take, set};
 ghost use Rattle.ground.specs.Limits.{replay_limit};
 ghost use Rattle.net.specs.Net.{net_of};

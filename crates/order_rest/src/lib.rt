@@ -1,4 +1,6 @@
 // The clerk's screen: for a step of an order, the unread rest of the log that the step takes from.
+#![tactic(auto)]
+
 ghost use Rattle.std.specs.Prelude.{◌≡◌, ◌<◌, length};
 ghost use Rattle.order_rest.specs.Rest.{fits, read_at, rest_of, Told};
 

@@ -1,5 +1,7 @@
 // Inner: orders of two logs. What an order is, which one is given, and the refusals of the logs'
 // lengths stand here, below the search and the questions.
+#![tactic(auto)]
+
 ghost use Rattle.std.specs.Prelude.{◌≡◌, ◌≤◌, length, take};
 ghost use Rattle.orders.specs.Orders.{count};
 ghost use Rattle.orders.specs.Lengths.{long_fault};

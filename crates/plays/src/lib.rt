@@ -1,4 +1,6 @@
 // Inner: a word played on a net, letter by letter, from a marking that any number of letters may have led to.
+#![tactic(auto)]
+
 ghost use Rattle.std.specs.Prelude.{◌≡◌, ◌+◌, ◌≤◌, length};
 ghost use Rattle.ground.specs.Limits.{tokens_after, word_limit};
 ghost use Rattle.net.specs.Net.{net_of, Sized, Light};
@@ -11,7 +13,7 @@ use net::{Cause, Letter};
 
 // The answer to a replay: fired, with the number of letters; blocked, with the position of the
 // letter that is not enabled and its cause; or refused, with document 01's number and position.
-#[derive(Drop)]
+#[derive(Clone, Copy)]
 pub enum Replay {
     Fired(usize),
     Blocked(usize, Cause),

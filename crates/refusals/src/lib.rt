@@ -1,4 +1,6 @@
 // Inner: the refusals that every entry shares: what is wrong with a net, its marking or a word.
+#![tactic(auto)]
+
 ghost use Rattle.std.specs.Prelude.{◌≡◌, ◌+◌, ◌≤◌, leb, ltb, length};
 ghost use Rattle.ground.specs.Limits.{count_limit};
 ghost use Rattle.net.specs.Net.{net_of, Sized};
@@ -7,7 +9,7 @@ ghost use Rattle.refusals.specs.Given.{refuse, or_else, outside, misfit, sized_n
 use ground::{COUNT_LIMIT, TOKEN_LIMIT, WORD_LIMIT, Weight};
 
 // Whether what was lent can be used, else a refusal's number and position.
-#[derive(Drop)]
+#[derive(Clone, Copy)]
 pub enum Fault {
     Sound,
     Faulty(u8, usize),

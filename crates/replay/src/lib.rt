@@ -1,5 +1,7 @@
 // Replay of a word on a net: whether the events could have happened in this order, and if not, at
 // which letter and for which cause.
+#![tactic(auto)]
+
 ghost use Rattle.std.specs.Prelude.{◌≡◌, true, ◌&&◌, eqb};
 ghost use Rattle.net.specs.Net.{net_of};
 ghost use Rattle.refusals.specs.Given.{stretch, inside};

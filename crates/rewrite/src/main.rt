@@ -1,6 +1,8 @@
 // The program of `./kaunorpi --rewrite`: a case file on standard input; the file that the writer makes of it
 // on standard output. A refused file has no other; its line, 82, is written on standard error. Where a read
 // fails nothing is written, and the failure is told on standard error.
+#![tactic(auto)]
+
 ghost use Rattle.std.specs.Prelude.{◌≤◌, length};
 ghost use Rattle.file_line.specs.Read.{rooms};
 ghost use Rattle.file_line.specs.Walk.{Large};

@@ -1,5 +1,7 @@
 // Running replay: a log that comes in parts is played part by part, on a state that is lent and changed in
 // place. The state may be kept anywhere between two parts, in a file too, and may hold anything when it is lent.
+#![tactic(auto)]
+
 ghost use Rattle.std.specs.Prelude.{◌≡◌, ◌+◌, ◌≤◌, length, take};
 ghost use Rattle.std.proofs.lemmas.List.Edits.{sets};
 ghost use Rattle.ground.specs.Limits.{count_limit, word_limit, tokens_after};
@@ -20,7 +22,7 @@ use refusals::Fault;
 
 // A replay that goes on.
 #[repr(C)]
-#[derive(Drop)]
+#[derive(Clone, Copy)]
 pub struct Running {
     // tokens of each place; what stands past the net's places is not read and stays
     pub marking: [u32; COUNT_LIMIT],
@@ -35,7 +37,7 @@ pub struct Running {
 
 // The answer to a part: fired so far, with the letters since the first part; blocked, with the cause's
 // number, the letter's position since the first part and the place; or refused.
-#[derive(Drop)]
+#[derive(Clone, Copy)]
 pub enum Part {
     Fired(usize),
     Blocked(u8, usize, usize),
@@ -43,7 +45,7 @@ pub enum Part {
 }
 
 // A state and an answer.
-#[derive(Drop)]
+#[derive(Clone, Copy)]
 pub struct Fed {
     pub state: Running,
     pub answer: Part,

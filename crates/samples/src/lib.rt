@@ -2,3 +2,4 @@
 // definitions (proofs/Meaning.antt), and of whatever the entries' contracts allow
 // (proofs/Promises.antt). There is no code here: tests/edges/samples.calls asks the library for C the
 // same questions.
+#![tactic(auto)]

@@ -1,4 +1,6 @@
 // Siphons and traps of a net: whether a set of places, a byte for each with 0 for out, is one.
+#![tactic(auto)]
+
 ghost use Rattle.std.specs.Prelude.{◌≡◌, ◌+◌, ◌≤◌, ◌<◌, ltb, length, get_or};
 ghost use Rattle.net.specs.Net.{net_of, Sized};
 ghost use Rattle.sets.specs.Answer.{meets, touches, escapes, lowest_escape, lowest_member, set_fault, judged_set, siphon_of, trap_of, set_numbers};
@@ -8,7 +10,7 @@ use refusals::Fault;
 
 // The answer for a set: it is one; it is none, with the lowest failing transition; or refused,
 // with document 01's number and position.
-#[derive(Drop)]
+#[derive(Clone, Copy)]
 pub enum SetAnswer {
     Yes,
     No(usize),

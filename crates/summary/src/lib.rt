@@ -1,4 +1,6 @@
 // Summaries of words: what a word needs, climbs and changes at each place of a net.
+#![tactic(auto)]
+
 ghost use Rattle.std.specs.Prelude.{◌≡◌, true};
 ghost use Rattle.net.specs.Net.{net_of};
 ghost use Rattle.refusals.specs.Given.{stretch, inside};

@@ -1,4 +1,6 @@
 // A summary asked whether a marking lets its word fire.
+#![tactic(auto)]
+
 ghost use Rattle.std.specs.Prelude.{◌≡◌, ◌&&◌, ◌≤◌, eqb, length};
 ghost use Rattle.ground.specs.Limits.{count_limit};
 ghost use Rattle.net.specs.Net.{net_of};
@@ -12,7 +14,7 @@ use summary_form::Summary;
 use summary_place::Slot;
 
 // The answer to a summary asked against a marking.
-#[derive(Drop)]
+#[derive(Clone, Copy)]
 pub enum Asked {
     Yes,
     No,

@@ -1,4 +1,6 @@
 // Inner: the slots of all places of a summary, asked against a marking.
+#![tactic(auto)]
+
 ghost use Rattle.std.specs.Prelude.{◌≡◌, ◌+◌, ◌<◌, ◌≤◌, length};
 ghost use Rattle.ground.specs.Limits.{count_limit};
 ghost use Rattle.summary_asked.specs.Asked.{no_at, lowest_no, end_at, ends};

@@ -1,5 +1,7 @@
 // Inner: what a summary is, made or refused, and whether one is well formed: what all questions about
 // summaries share.
+#![tactic(auto)]
+
 ghost use Rattle.std.specs.Prelude.{◌≡◌};
 ghost use Rattle.summary_form.specs.Summary.{empty_summary, refusal, shape_fault};
 
@@ -8,7 +10,7 @@ use refusals::Fault;
 use summary_place::Slot;
 
 // The place count, the number of letters, and a slot for each place; slots past the places are zero.
-#[derive(Drop)]
+#[derive(Clone, Copy)]
 pub struct Summary {
     pub places: usize,
     pub letters: u32,
@@ -16,14 +18,14 @@ pub struct Summary {
 }
 
 // Whether a summary was made, else document 01's refusal with its position.
-#[derive(Drop)]
+#[derive(Clone, Copy)]
 pub enum Made {
     Done,
     Refused(u8, usize),
 }
 
 // The summary where it was made; with a refusal, the empty summary of no places.
-#[derive(Drop)]
+#[derive(Clone, Copy)]
 pub struct Summed {
     pub answer: Made,
     pub summary: Summary,

@@ -1,4 +1,6 @@
 // Two summaries joined without their words.
+#![tactic(auto)]
+
 ghost use Rattle.std.specs.Prelude.{◌≡◌, ◌≤◌};
 ghost use Rattle.ground.specs.Limits.{word_limit};
 ghost use Rattle.summary_form.specs.Summary.{Answers};

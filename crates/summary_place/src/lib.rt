@@ -1,4 +1,6 @@
 // Inner: what a word needs, climbs and changes at one place of a net, and the slots of all places.
+#![tactic(auto)]
+
 ghost use Rattle.std.specs.Prelude.{◌≡◌, ◌+◌, ◌*◌, ◌^◌, ◌<◌, ◌≤◌, length, get_or, replicate};
 ghost use Rattle.ground.specs.Limits.{count_limit, word_limit};
 ghost use Rattle.net.specs.Net.{net_of, Light, Sized};
@@ -10,7 +12,7 @@ ghost use Rattle.summary_place.specs.Walk.{step};
 use ground::{COUNT_LIMIT, Weight};
 
 // What a word needs, climbs and changes at one place.
-#[derive(Drop)]
+#[derive(Clone, Copy)]
 pub struct Slot {
     pub need: u32,
     pub climb: u32,

@@ -1,4 +1,6 @@
 // Inner: the slots of all places of a summary: joined, and judged by refusal 6.
+#![tactic(auto)]
+
 ghost use Rattle.std.specs.Prelude.{◌≡◌, ◌+◌, ◌<◌};
 ghost use Rattle.summary_place.specs.Slots.{joined, joined_all, slot_bad, bad_at, bad_slot};
 ghost use Rattle.summary_place.specs.Walk.{slot_limit, Well, Wells};

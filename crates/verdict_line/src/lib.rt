@@ -1,5 +1,7 @@
 // Inner: the line that answers a case file, made from what the file has come to: a refusal's, or the
 // verdict of the replay of what was read.
+#![tactic(auto)]
+
 ghost use Rattle.std.specs.Prelude.{◌≡◌, ◌≤◌, length};
 ghost use Rattle.ground.specs.Limits.{count_limit};
 ghost use Rattle.file_line.specs.Read.{rooms};

@@ -1,4 +1,6 @@
 // Inner: the verdict line that the program writes, made into a lent room.
+#![tactic(auto)]
+
 ghost use Rattle.std.specs.Prelude.{◌≡◌, [], ◌∷◌, ◌++◌, ◌+◌, ◌*◌, ◌≤◌, length};
 ghost use Rattle.ground.specs.Limits.{count_limit};
 ghost use Rattle.file_put.specs.Put.{four, fours, Put};

@@ -1,4 +1,6 @@
 // Place and transition weightings of a net: whether one is invariant.
+#![tactic(auto)]
+
 ghost use Rattle.std.specs.Prelude.{◌≡◌, ◌<◌};
 ghost use Rattle.net.specs.Net.{net_of};
 ghost use Rattle.weighting.specs.Tests.{weighting_fault};
@@ -10,7 +12,7 @@ use refusals::Fault;
 
 // The answer for a place weighting: invariant; not invariant, with the lowest failing transition;
 // or refused, with document 01's number and position.
-#[derive(Drop)]
+#[derive(Clone, Copy)]
 pub enum PlaceWeighting {
     Invariant,
     NotInvariant(usize),
@@ -19,7 +21,7 @@ pub enum PlaceWeighting {
 
 // The answer for a transition weighting: not invariant, with the lowest failing place; invariant,
 // with a negative entry; proper; or refused.
-#[derive(Drop)]
+#[derive(Clone, Copy)]
 pub enum TransitionWeighting {
     NotInvariant(usize),
     Invariant,

@@ -1,4 +1,6 @@
 // The bound that an invariant place weighting gives to a place.
+#![tactic(auto)]
+
 ghost use Rattle.std.specs.Prelude.{◌≡◌, ◌<◌, length};
 ghost use Rattle.net.specs.Net.{net_of, Sized};
 ghost use Rattle.weighting_bound.specs.Bound.{bound_fault, found_bound, bound_of, bound_numbers};
@@ -7,7 +9,7 @@ use ground::{Weight, up_entry};
 use refusals::Fault;
 
 // Why a weighting gives a place no bound, in the order they are tried.
-#[derive(Drop)]
+#[derive(Clone, Copy)]
 pub enum NoBoundCause {
     NotInvariant,
     Negative,
@@ -15,7 +17,7 @@ pub enum NoBoundCause {
 }
 
 // The answer for a bound: the bound; no bound, with its cause; or refused.
-#[derive(Drop)]
+#[derive(Clone, Copy)]
 pub enum Bound {
     Bounded(u64),
     NoBound(NoBoundCause),

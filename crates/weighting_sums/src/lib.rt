@@ -1,5 +1,7 @@
 // Inner: weighted sums, along the rows and columns of a net's tables and of a marking, and the entries
 // of a weighting: which are negative, and whether all are 0.
+#![tactic(auto)]
+
 ghost use Rattle.std.specs.Prelude.{◌≡◌, not, ◌+◌, ◌*◌, ◌≤◌, ◌<◌, length};
 ghost use Rattle.ground.specs.Limits.{count_limit, entry_limit};
 ghost use Rattle.ground.specs.Lists.{first};
@@ -30,7 +32,7 @@ fn share_of(x: i16, takes: Weight, puts: Weight) -> u64
 
 // What one line of the tables adds to a weighted sum, as two unsigned numbers: its sum is what is
 // gained less what is lost.
-#[derive(Drop)]
+#[derive(Clone, Copy)]
 struct Sums {
     gained: u64,
     lost: u64,

@@ -1,5 +1,7 @@
 // Inner: weights over a limit: whether the rows of a transition have one, and the lowest transition
 // with a weight over what document 02 allows.
+#![tactic(auto)]
+
 ghost use Rattle.std.specs.Prelude.{◌≡◌, ◌||◌, ◌≤◌, ◌<◌, ltb, length};
 ghost use Rattle.ground.specs.Limits.{count_limit};
 ghost use Rattle.ground.specs.Lists.{bit};

@@ -1,4 +1,6 @@
 // Inner: nodes that hang on nothing: the lowest place, and the lowest transition, without an arc.
+#![tactic(auto)]
+
 ghost use Rattle.std.specs.Prelude.{◌≡◌, true, false, ◌+◌, ◌*◌, ◌<◌, ◌≤◌, ltb, length};
 ghost use Rattle.net.specs.Net.{net_of, Sized};
 ghost use Rattle.wiring.specs.Wired.{loose_place, loose_transition, lowest_loose_place, lowest_loose_transition};
