@@ -58,9 +58,9 @@ fires_both (letter f l) g = letter f (fires_both l g)
 
 pub fires_apart : {net : Net} {m m'' : List ℕ} (u w : List ℕ) → Fires net m (u ++ w) m'' → (m' : List ℕ) × Fires net m u m' × Fires net m' w m''
 fires_apart {m = m} [] w g = (m, nothing, g)
-fires_apart (t ∷ u) w g =
+fires_apart {net = net} {m = m} {m'' = m''} (t ∷ u) w g =
     let r = fires_cons g in
-    let q = fires_apart u w r.2 in
+    let q = fires_apart {m = (fires_cons g).0} u w r.2 in
     (q.0, letter r.1 q.1, q.2)
 
 -- what each firing keeps, every firing word keeps, and every reachable marking has

@@ -1,0 +1,18 @@
+use borrow.Author.Rules.{rules}
+use Rattle.replay.specs.Entry.{numbers}
+use Rattle.plays.specs.declared.Replay.{Replay}
+use Rattle.c_replay.specs.Handed.{handed_replay}
+use Rattle.c_answer.proofs.Hand.{passed}
+use Rattle.c_replay.proofs.of_replay.Goals as goal
+
+pub returns-in-Fired : goal.returns-in-Fired
+unfolding handed_replay
+returns-in-Fired c = search (passed (λ (a : Replay). handed_replay (numbers a)), rules)
+
+pub returns-in-Blocked : goal.returns-in-Blocked
+unfolding handed_replay
+returns-in-Blocked c = search (passed (λ (a : Replay). handed_replay (numbers a)), rules)
+
+pub returns-in-Refused : goal.returns-in-Refused
+unfolding handed_replay
+returns-in-Refused c = search (passed (λ (a : Replay). handed_replay (numbers a)), rules)

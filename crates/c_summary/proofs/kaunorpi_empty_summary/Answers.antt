@@ -1,0 +1,14 @@
+use borrow.Author.Rules.{rules}
+use lib.ListN.{length}
+use Rattle.c_summary_lists.proofs.Columns.{fit_long}
+use Rattle.c_summary.proofs.Summaries.{empty_handed, empty_unfit}
+use Rattle.c_summary.proofs.kaunorpi_empty_summary.Goals as goal
+
+pub hand_summed-requires : goal.hand_summed-requires
+hand_summed-requires c = let r = fit_long (length c.args.need.now) (length c.args.climb.now) (length c.args.change.now) c.is_fitting-fit.result c.is_fitting-fit.ensures (search rules) in record { need_len = r.0; climb_len = r.1.0; change_len = r.1.1 }
+
+pub returns-then-fit : goal.returns-then-fit
+returns-then-fit c = search (empty_handed, rules)
+
+pub returns : goal.returns
+returns c = search (empty_unfit, rules)

@@ -1,0 +1,6 @@
+use mathlib.Core.Path.{ap}
+use Rattle.lists.specs.Answers.{numbers}
+use Rattle.closed.proofs.closed_list.Goals as goal
+
+pub returns : goal.returns
+returns c = ap numbers c.check_list.ensures

@@ -1,0 +1,30 @@
+use Rattle.file_line.proofs.Judging.{forms}
+use borrow.Author.Rules.{rules}
+use Rattle.file_line.proofs.is_formed.Goals as goal
+
+pub returns-then-not-is_expected : goal.returns-then-not-is_expected
+returns-then-not-is_expected c = search (forms, rules)
+
+pub returns-in-1 : goal.returns-in-1
+returns-in-1 c = search (forms, rules)
+
+pub returns-in-2 : goal.returns-in-2
+returns-in-2 c = search (forms, rules)
+
+pub returns-in-3 : goal.returns-in-3
+returns-in-3 c = search (forms, rules)
+
+pub returns-in-4 : goal.returns-in-4
+returns-in-4 c = search (forms, rules)
+
+pub returns-in-5 : goal.returns-in-5
+returns-in-5 c = search (forms, rules)
+
+pub returns-in-6 : goal.returns-in-6
+returns-in-6 c = search (forms, rules)
+
+pub returns-in-7 : goal.returns-in-7
+returns-in-7 c = search (forms, rules)
+
+pub returns-in_default : goal.returns-in_default
+returns-in_default c = search (forms, rules)

@@ -1,0 +1,11 @@
+use native.Mathlib.Omega.{arith}
+use Rattle.file_mask.proofs.with_bit.Goals as goal
+
+pub overflow_mul-result : goal.overflow_mul-result
+overflow_mul-result c = omega arith
+
+pub overflow_add-result : goal.overflow_add-result
+overflow_add-result c = omega arith
+
+pub returns : goal.returns
+returns c = omega arith

@@ -1,0 +1,21 @@
+use native.Mathlib.Omega.{arith}
+use Prim.Native.Nat.{◌-◌}
+use Rattle.file_put.proofs.Appends.{append_long}
+use Rattle.file_put.proofs.Listed.{listed, words_at}
+use borrow.Author.Rules.{rules}
+use Rattle.file_out.proofs.put_words.Goals as goal
+
+pub loop-k-init : goal.loop-k-init
+loop-k-init c = search (listed, rules)
+
+pub put_two-r-requires : goal.put_two-r-requires
+put_two-r-requires c = omega (arith, words_at _ _ _ _ _ _ c.loop-k-test.true c.loop-k.invariant, append_long c.loop-k.invariant, c.requires)
+
+pub loop-k-preserved : goal.loop-k-preserved
+loop-k-preserved c = search (listed, rules)
+
+pub shape_of-out : goal.shape_of-out
+shape_of-out c = append_long c.loop-k.invariant
+
+pub returns : goal.returns
+returns c = search (listed, rules)

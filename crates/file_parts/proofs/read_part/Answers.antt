@@ -1,0 +1,65 @@
+use native.Mathlib.Omega.{arith}
+use Prim.Native.Nat.{◌-◌}
+use borrow.Author.Tests.{eqb-true, eqb-false}
+use Rattle.file_parts.proofs.Line.{large, bounds}
+use Rattle.file_parts.proofs.Buffer.{reads_start, reads_next, reads_end, reads_stopped}
+use Rattle.file_parts.proofs.read_part.Goals as goal
+
+pub loop-at-init : goal.loop-at-init
+loop-at-init c = reads_start _ _ _ c.requires.0
+
+pub feed_line-r-requires : goal.feed_line-r-requires
+feed_line-r-requires c = (c.loop-at.invariant.sound, eqb-true _ _ c.if-r-eq0.true, omega (arith, c.loop-at-test.true), c.line_end-e.ensures, large _ _ c.loop-at.invariant.same c.requires.1)
+
+pub overflow_add-at : goal.overflow_add-at
+overflow_add-at c = let l = line c@After-feed-line in let i = l.before.before.before.before in let b = bounds _ i.loop.at l.line-end.result l.line-end.ensures (omega (arith, l.before.before.before.loop-test.taken)) in omega (arith, b, i.before.before.before.before.before.before.before.before.good.1.0)
+
+pub loop-at-smaller : goal.loop-at-smaller
+loop-at-smaller c = let l = line c@After-feed-line in let i = l.before.before.before.before in let b = bounds _ i.loop.at l.line-end.result l.line-end.ensures (omega (arith, l.before.before.before.loop-test.taken)) in omega (arith, b, l.before.before.before.loop-test.taken)
+
+pub loop-at-preserved : goal.loop-at-preserved
+loop-at-preserved c =
+    reads_next _ _ _ _ _ _ c.loop-at.invariant c.line_end-e.result _ _ c.feed_line-r.ensures.value c.feed_line-r.ensures.sound
+    (record { caps = c.feed_line-r.kept.1.1.1.1.0; marks = c.feed_line-r.kept.1.1.1.1.1.0; initial = c.feed_line-r.kept.1.1.1.1.1.1.0; pre = c.feed_line-r.kept.1.1.1.1.1.1.1.0; post = c.feed_line-r.kept.1.1.1.1.1.1.1.1.0; word = c.feed_line-r.kept.1.1.1.1.1.1.1.1.1.0 })
+
+pub shape_of-caps-else-r-eq0 : goal.shape_of-caps-else-r-eq0
+shape_of-caps-else-r-eq0 c = c.loop-at.invariant.same.caps
+
+pub shape_of-marks-else-r-eq0 : goal.shape_of-marks-else-r-eq0
+shape_of-marks-else-r-eq0 c = c.loop-at.invariant.same.marks
+
+pub shape_of-initial-else-r-eq0 : goal.shape_of-initial-else-r-eq0
+shape_of-initial-else-r-eq0 c = c.loop-at.invariant.same.initial
+
+pub shape_of-pre-else-r-eq0 : goal.shape_of-pre-else-r-eq0
+shape_of-pre-else-r-eq0 c = c.loop-at.invariant.same.pre
+
+pub shape_of-post-else-r-eq0 : goal.shape_of-post-else-r-eq0
+shape_of-post-else-r-eq0 c = c.loop-at.invariant.same.post
+
+pub shape_of-word-else-r-eq0 : goal.shape_of-word-else-r-eq0
+shape_of-word-else-r-eq0 c = c.loop-at.invariant.same.word
+
+pub returns-else-r-eq0 : goal.returns-else-r-eq0
+returns-else-r-eq0 c = record { value = reads_stopped _ _ _ _ _ _ c.loop-at.invariant (eqb-false _ _ c.if-r-eq0.false); sound = c.loop-at.invariant.sound }
+
+pub shape_of-caps-after-loop-at : goal.shape_of-caps-after-loop-at
+shape_of-caps-after-loop-at c = c.loop-at.invariant.same.caps
+
+pub shape_of-marks-after-loop-at : goal.shape_of-marks-after-loop-at
+shape_of-marks-after-loop-at c = c.loop-at.invariant.same.marks
+
+pub shape_of-initial-after-loop-at : goal.shape_of-initial-after-loop-at
+shape_of-initial-after-loop-at c = c.loop-at.invariant.same.initial
+
+pub shape_of-pre-after-loop-at : goal.shape_of-pre-after-loop-at
+shape_of-pre-after-loop-at c = c.loop-at.invariant.same.pre
+
+pub shape_of-post-after-loop-at : goal.shape_of-post-after-loop-at
+shape_of-post-after-loop-at c = c.loop-at.invariant.same.post
+
+pub shape_of-word-after-loop-at : goal.shape_of-word-after-loop-at
+shape_of-word-after-loop-at c = c.loop-at.invariant.same.word
+
+pub returns-after-loop-at : goal.returns-after-loop-at
+returns-after-loop-at c = record { value = reads_end _ _ _ _ _ _ c.loop-at.invariant c.loop-at-test.false; sound = c.loop-at.invariant.sound }
