@@ -4,7 +4,7 @@
 usage: python3 tools/to_answers.py NAMES CRATE [FUNCTION ..]     at the top of the repository
 
 NAMES is the folder that `rt names` wrote. An answer `search rules` is left out, since the check finds it. What could not
-be turned stays as it was and is named on standard output. Proof.antt is moved to target/old-proofs/.
+be turned stays as it was and is named on standard output. Proof.antt is moved to /tmp/old-proofs/.
 """
 
 import glob
@@ -230,6 +230,9 @@ class Function:
                 got = self.walk(env[root], segs)
                 if got and got[0] == "place":
                     return got[1]
+        whole = re.fullmatch(r"([^\s()]+)\s+(?:[^\s()]+|\(.*\))", value, re.S)
+        if whole and whole.group(1) in self.macros and self.macros[whole.group(1)][0] == "place":
+            return self.macros[whole.group(1)][1]
         m = re.fullmatch(r"\(?([^\s()]+)\s+[^\s()]+\)?((?:\.[^\s(){}\[\].,;:]+)*)", value)
         if m and m.group(1) in self.macros and self.macros[m.group(1)][0] == "place":
             got = self.walk(self.macros[m.group(1)][1], [s for s in m.group(2).split(".") if s])
@@ -550,7 +553,7 @@ def turn_proof(crate, folder, info):
             o.write("\n".join(used(uses, bodies) + [f"use {module}.Goals as goal"]) + "\n\n" + bodies + "\n")
     elif kept:
         f.trouble.append("dropped " + "; ".join(k.split("\n")[0][:60] for k in kept))
-    keep = os.path.join("target/old-proofs", crate, name)
+    keep = os.path.join("/tmp/old-proofs", crate, name)
     os.makedirs(keep, exist_ok=True)
     shutil.move(path, os.path.join(keep, "Proof.antt"))
     if not texts and not invariants and not os.listdir(folder):

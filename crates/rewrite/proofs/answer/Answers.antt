@@ -14,7 +14,7 @@ enum_told-1 c = search rules
 -- slice-aggregate-fail c = search rules
 
 pub show-requires : goal.show-requires
-show-requires c = let s = start c@After-new in (c.read_all-f.ensures.sound, large _ _ (record { caps = c.read_all-f.kept.1.0; marks = c.read_all-f.kept.1.1.0; initial = c.read_all-f.kept.1.1.1.0; pre = c.read_all-f.kept.1.1.1.1.0; post = c.read_all-f.kept.1.1.1.1.1.0; word = c.read_all-f.kept.1.1.1.1.1.1.0 }) s.pre.0, s.pre.2)
+show-requires c = (c.read_all-f.ensures.sound, large _ _ (record { caps = c.read_all-f.kept.1.0; marks = c.read_all-f.kept.1.1.0; initial = c.read_all-f.kept.1.1.1.0; pre = c.read_all-f.kept.1.1.1.1.0; post = c.read_all-f.kept.1.1.1.1.1.0; word = c.read_all-f.kept.1.1.1.1.1.1.0 }) c.requires.0, c.requires.2)
 
 pub returns-in-Failed : goal.returns-in-Failed
 returns-in-Failed c = made_nothing _ _ (from_first c.new-s.result c.cleared-h.result _ _ c.new-s.ensures.0 c.cleared-h.ensures.value c.read_all-f.ensures.reads) _ _ _ _ c.before.before.enum_told.given.1 refl refl
