@@ -278,7 +278,7 @@ def used(uses, body):
                 parts = [p for p in base.split("◌") if p]
                 if all(p in symbols for p in parts):
                     keep.append(n)
-            elif base in words:
+            elif base in words or (base == "[]" and "[]" in symbols):
                 keep.append(n)
         if keep:
             out.append(f"use {m.group(1)}.{{{', '.join(keep)}}}")
@@ -533,6 +533,9 @@ def turn_proof(crate, folder, info):
         if flat == "search rules" and not cited and not comment:
             continue
         turned = f.turn(value, {binders[0]: at} if binders else {})
+        # What the test of an `if !x` says is now said of x itself.
+        turned = re.sub(r"not-(?:true|false) _ (c\.if-not-[^\s()]+)", r"\1", turned)
+        turned = turned.replace(".type-inv", ".type_inv").replace(".well-formed", ".well_formed")
         asked = [a for a in asked_names(f, goal) if a]
         if len(asked) > 1:
             turned = recordize(turned, asked)
@@ -544,9 +547,24 @@ def turn_proof(crate, folder, info):
             comment = []
     module = f"Rattle.{crate}.proofs.{name}"
     if invariants:
-        bodies = "\n\n".join(invariants)
+        # What an invariant cites stands beside it, and the answers bring it from there.
+        def head_name(part):
+            m = re.search(r"^(?:(?:abbrev|unfoldable|pub|record|data) )*([^\s:(]+)", "\n".join(l for l in part.split("\n") if not l.startswith("--")))
+            return m.group(1) if m else ""
+
+        cited, moved = True, []
+        while cited:
+            text_ = "\n".join(invariants + moved)
+            cited = [k for k in kept if head_name(k) and not k.startswith("ruleset") and head_name(k) in re.findall(rf"[^{SEP}]+", text_)]
+            kept = [k for k in kept if k not in cited]
+            moved = cited + moved
+        if moved:
+            names_ = [head_name(k) for k in moved]
+            uses.append(f"use {module}.Invariants.{{{', '.join(names_)}}}")
+            moved = [re.sub(r"^((?:abbrev |unfoldable |record |data )?)(?=[^\s-])", lambda m: m.group(1) + "pub " if not re.search(r"(^|\n)\S*\s?pub ", k) else m.group(1), k, count=1) if not k.startswith("--") else re.sub(r"(\n)((?:abbrev |unfoldable |record |data )?)(?=[^\s-])(?!pub)", lambda m: m.group(1) + m.group(2) + "pub ", k, count=1) for k in moved]
+        bodies = "\n\n".join(moved + invariants)
         with open(os.path.join(folder, "Invariants.antt"), "w", encoding="utf-8") as o:
-            o.write("\n".join(used(uses, bodies) + [f"use {module}.Given as goal"]) + "\n\n" + bodies + "\n")
+            o.write("\n".join(used([u for u in uses if not u.startswith(f"use {module}.")], bodies) + [f"use {module}.Given as goal"]) + "\n\n" + bodies + "\n")
     if texts:
         bodies = "\n\n".join(kept + texts)
         with open(os.path.join(folder, "Answers.antt"), "w", encoding="utf-8") as o:

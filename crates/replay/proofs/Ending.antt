@@ -52,7 +52,7 @@ no_more [] k h f n j l m'' g = absurd (not-suc-le-zero h)
 no_more (t ∷ w) zero h f n zero l m'' g = absurd (not-suc-le-zero l)
 no_more (t ∷ w) zero h f n (suc j) l m'' g = n (rw (fires_nil f) at (fires_cons g).1.enabled)
 no_more (t ∷ w) (suc k) h f n zero l m'' g = absurd (not-suc-le-zero l)
-no_more (t ∷ w) (suc k) h f n (suc j) l m'' g =
+no_more {net = net} {m = m} {m' = m'} (t ∷ w) (suc k) h f n (suc j) l m'' g =
     let a = fires_cons f in
     let b = fires_cons g in
-    no_more w k (le_of_suc-le-suc h) a.2 n j (le_of_suc-le-suc l) m'' (rw (gives_one b.1.gives a.1.gives) at b.2)
+    no_more {m = (fires_cons f).0} w k (le_of_suc-le-suc h) a.2 n j (le_of_suc-le-suc l) m'' (rw (gives_one b.1.gives a.1.gives) at b.2)

@@ -1,4 +1,4 @@
-use mathlib.Core.List.{◌∷◌}
+use mathlib.Core.List.{[], ◌∷◌}
 use borrow.Author.Rules.{rules}
 use Rattle.weighting_bound.specs.Bound.{cause_number}
 use Rattle.weighting_bound.specs.declared.NoBoundCause.{NoBoundCause}

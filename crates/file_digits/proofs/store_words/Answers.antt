@@ -7,9 +7,6 @@ use Rattle.file_digits.proofs.store_words.Goals as goal
 pub loop-words-init : goal.loop-words-init
 loop-words-init c = (omega arith, omega arith, refl, refl)
 
-pub offset_bounds-room-i : goal.offset_bounds-room-i
-offset_bounds-room-i c = omega (arith, c.before.before.before.before.before.well-formed.1.1.0.1)
-
 pub bounds-room-i : goal.bounds-room-i
 bounds-room-i c = omega arith
 

@@ -1,14 +1,13 @@
 use mathlib.Core.Path.{sym, ◌∙◌}
-use borrow.Author.Tests.{not-true, not-false}
 use Rattle.file_entry.proofs.Fronts.{largest_of_lem, largest_large}
 use Rattle.file_entry.proofs.Ends.{wrong_lengths, right_lengths}
 use Rattle.file_entry.proofs.read_case.Goals as goal
 
 pub returns-then-not-fits : goal.returns-then-not-fits
-returns-then-not-fits c = wrong_lengths _ _ _ c.is_largest-fits.ensures (not-true _ c.if-not-fits.true)
+returns-then-not-fits c = wrong_lengths _ _ _ c.is_largest-fits.ensures (c.if-not-fits.true)
 
 pub read_into-requires : goal.read_into-requires
-read_into-requires c = largest_large _ (largest_of_lem _ (sym c.is_largest-fits.ensures ∙ not-false _ c.if-not-fits.false))
+read_into-requires c = largest_large _ (largest_of_lem _ (sym c.is_largest-fits.ensures ∙ c.if-not-fits.false))
 
 pub shape_of-caps : goal.shape_of-caps
 shape_of-caps c = c.read_into.auto.caps
@@ -29,4 +28,4 @@ pub shape_of-word : goal.shape_of-word
 shape_of-word c = c.read_into.auto.word
 
 pub returns : goal.returns
-returns c = right_lengths _ _ _ c.is_largest-fits.ensures _ _ (not-false _ c.if-not-fits.left) c.read_into.ensures
+returns c = right_lengths _ _ _ c.is_largest-fits.ensures _ _ (c.if-not-fits.left) c.read_into.ensures

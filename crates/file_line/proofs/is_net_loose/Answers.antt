@@ -1,5 +1,6 @@
 use native.Mathlib.Omega.{arith}
-use borrow.Author.Tests.{not-true, not-false}
+use mathlib.Core.List.{[]}
+use borrow.Author.Tests.{not-false}
 use Rattle.file_line.specs.Read.{rooms}
 use Rattle.file_line.proofs.Hanging.{cells_few, front_long, not_asked, asked_loose, net_sized}
 use Rattle.file_line.proofs.is_net_loose.Goals as goal
@@ -9,7 +10,7 @@ abbrev told : tie.After-is-loose-arg4 → tie.Else1
 told c = c.before.before.before.before
 
 pub returns-then-not-is_last_row : goal.returns-then-not-is_last_row
-returns-then-not-is_last_row c = not_asked c.args.s c.args.d.now _ c.byte_at-kind.ensures _ c.is_last_row.ensures (rooms c.args.caps.now c.args.marks.now [] c.args.pre.now c.args.post.now []) (not-true _ c.if-not-is_last_row.true)
+returns-then-not-is_last_row c = not_asked c.args.s c.args.d.now _ c.byte_at-kind.ensures _ c.is_last_row.ensures (rooms c.args.caps.now c.args.marks.now [] c.args.pre.now c.args.post.now []) (c.if-not-is_last_row.true)
 
 pub overflow_mul-cells : goal.overflow_mul-cells
 overflow_mul-cells c = omega (arith, cells_few c.args.s c.requires.0)
@@ -24,7 +25,7 @@ pub slice_bounds-is_loose-end-3 : goal.slice_bounds-is_loose-end-3
 slice_bounds-is_loose-end-3 c = front_long _ _ (omega (arith, c.requires.0.places, c.requires.2.caps))
 
 pub slice_bounds-is_loose-end-4 : goal.slice_bounds-is_loose-end-4
-slice_bounds-is_loose-end-4 c = let s = start (told c) in front_long _ _ (omega (arith, s.pre.0.places, s.pre.2.marks))
+slice_bounds-is_loose-end-4 c = front_long _ _ (omega (arith, c.requires.0.places, c.requires.2.marks))
 
 pub is_loose-requires : goal.is_loose-requires
 is_loose-requires c = let e = told c in net_sized c.args.s c.args.d.now _ e.before.before.byte_at.ensures _ e.before.is-last-row.ensures (not-false _ e.if1.left) c.requires.0 c.requires.1 _ _ _ _ c.requires.2

@@ -8,11 +8,8 @@ use Rattle.ground.proofs.Tests.{never}
 use Rattle.lists.specs.Some.{none}
 use Rattle.lists.proofs.Somes.{is_none, none_at}
 use borrow.Author.Rules.{rules}
+use Rattle.lists.proofs.same_marking.Invariants.{Above}
 use Rattle.lists.proofs.same_marking.Goals as goal
-
--- no place from i on, of n, passes the test: what a scan from the last place down knows at i
-record Above (f : ℕ → Bool) (i n : ℕ) : Type 0 where
-  none : (k : ℕ) → i ≤ k → k < n → f k ≡ false
 
 down_start : (f : ℕ → Bool) (n : ℕ) → Above f n n
 down_start f n = record { none = λ k h l. absurd (omega arith) }

@@ -1,14 +1,12 @@
 use Prim.Native.Nat.{ℕ, ◌-◌}
 use mathlib.Core.Path.{◌∙◌, ap}
-use mathlib.Core.Logic.{⊎_elim}
 use native.Mathlib.Nat.{le_antisymm}
 use native.Mathlib.Omega.{arith}
 use lib.ListN.{take}
 use Rattle.orders.specs.Orders.{count}
 use Rattle.orders.proofs.Counts.{count_none, count_hit, count_miss}
-use Rattle.orders.proofs.read_of.Reads as reads
-use Rattle.orders.proofs.read_of.Lts as lts
 use Rattle.orders.proofs.read_of.Goals as goal
+use Rattle.orders.proofs.read_of.Goals.{then-order-i, else-order-i}
 
 -- The invariant: the count of what is passed. Assumes nothing.
 
@@ -29,10 +27,10 @@ loop-i-smaller c = omega arith
 
 pub loop-i-preserved : goal.loop-i-preserved
 loop-i-preserved c =
-    ⊎_elim
-    (λ w. (omega arith, (omega arith, w.1 ∙ count_hit c.args.which c.args.order.now c.loop-i.i c.loop-i.n (omega arith) c.loop-i.invariant.1.1 w.0.taken)))
-    (λ w. (omega arith, (omega arith, w.1 ∙ count_miss c.args.which c.args.order.now c.loop-i.i c.loop-i.n (omega arith) c.loop-i.invariant.1.1 w.0.left)))
-    c.if-order-i.branch
+    elim c.if-order-i.branch [
+      then-order-i w ↦ (omega arith, (omega arith, w.n-is ∙ count_hit c.args.which c.args.order.now c.loop-i.i c.loop-i.n (omega arith) c.loop-i.invariant.1.1 w.if-order-i.true))
+    | else-order-i w ↦ (omega arith, (omega arith, w.n-is ∙ count_miss c.args.which c.args.order.now c.loop-i.i c.loop-i.n (omega arith) c.loop-i.invariant.1.1 w.if-order-i.false))
+    ]
 
 pub returns : goal.returns
 returns c = c.loop-i.invariant.1.1 ∙ ap (λ (k : ℕ). count c.args.which (take k c.args.order.now)) (le_antisymm c.loop-i.invariant.0 c.loop-i-test.false)

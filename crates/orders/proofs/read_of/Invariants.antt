@@ -2,8 +2,6 @@ use Prim.Native.Nat.{◌≤◌, ◌-◌}
 use mathlib.Core.Path.{◌≡◌}
 use lib.ListN.{take}
 use Rattle.orders.specs.Orders.{count}
-use Rattle.orders.proofs.read_of.Reads as reads
-use Rattle.orders.proofs.read_of.Lts as lts
 use Rattle.orders.proofs.read_of.Given as goal
 
 abbrev pub invariant-loop-i : goal.invariant-loop-i

@@ -1,3 +1,4 @@
+use mathlib.Core.List.{[]}
 use native.Mathlib.Omega.{arith}
 use Rattle.net.specs.Net.{net_of}
 use Rattle.net.proofs.Rows.{pre_end, post_end}

@@ -30,4 +30,4 @@ returns c =
     let fa = change_fits c.args.a c.requires.0 in let fb = change_fits c.args.b c.requires.1 in let ua = c.up_part-u.ensures ∙ up_read c.args.a fa in let da = c.down_part-d.ensures ∙ dn_read c.args.a fa in let ub = c.up_part.ensures ∙ up_read c.args.b fb in let db = c.down_part.ensures ∙ dn_read c.args.b fb in joined_is c.args.a c.args.b _
     (c.larger-need.ensures ∙ ap₂ (λ (x y : ℕ). step c.args.a.need c.args.b.need x y) da ua)
     (c.larger-climb.ensures ∙ ap₂ (λ (x y : ℕ). step c.args.a.climb c.args.b.climb x y) ua da)
-    (to_z-of_z {w = w32} (record { sfits = c.less-change.type-inv }) ∙ c.less-change.ensures ∙ ap₂ sub_ℕ (ap₂ ◌+◌ ua ub) (ap₂ ◌+◌ da db) ∙ sym (sum_sub c.args.a.change c.args.b.change))
+    (to_z-of_z {w = w32} (record { sfits = c.less-change.type_inv }) ∙ c.less-change.ensures ∙ ap₂ sub_ℕ (ap₂ ◌+◌ ua ub) (ap₂ ◌+◌ da db) ∙ sym (sum_sub c.args.a.change c.args.b.change))

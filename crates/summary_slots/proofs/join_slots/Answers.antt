@@ -10,7 +10,7 @@ pub loop-p-init : goal.loop-p-init
 loop-p-init c = search (fills, rules)
 
 pub join_slot-z-requires : goal.join_slot-z-requires
-join_slot-z-requires c = let w : Wells slot_limit c.args.a = search rules in (joining c.args.a c.args.t2 c.loop-p.p c.loop-p.r c.loop-p.invariant slot_limit w (search rules), search (well_at, rules))
+join_slot-z-requires c = let w : Wells slot_limit c.args.a = search rules in (joining c.args.a c.args.b c.loop-p.p c.loop-p.r c.loop-p.invariant slot_limit w (search rules), search (well_at, rules))
 
 pub loop-p-preserved : goal.loop-p-preserved
 loop-p-preserved c = search (fills, rules)

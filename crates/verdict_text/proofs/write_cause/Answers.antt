@@ -1,4 +1,5 @@
 use mathlib.Core.Path.{ap}
+use mathlib.Core.List.{[]}
 use Rattle.plays.specs.declared.Replay.TheVariants.{Blocked}
 use Rattle.verdict_text.proofs.Answers.{line_of, short_byte, over_byte}
 use Rattle.verdict_text.proofs.write_cause.Goals as goal
