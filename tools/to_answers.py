@@ -51,6 +51,15 @@ def contracts(crate, cache={}):
     return cache[crate]
 
 
+def params(crate, name):
+    """The names of a function's parameters."""
+    for f in glob.glob(f"crates/{crate}/src/**/*.rt", recursive=True):
+        m = re.search(rf"\bfn {re.escape(name)}(?:<[^>]*>)?\(([^)]*)\)", open(f, encoding="utf-8").read())
+        if m:
+            return re.findall(r"(\w+)\s*:(?!:)", m.group(1))
+    return []
+
+
 def clause(names, segs):
     """Turns a path into a product of clauses into the clause's name and the rest."""
     names = [n or None for n in names]
@@ -107,12 +116,18 @@ class Function:
                 s = "ranges" if s == "fits" else s
                 if s in ("pre", "requires"):
                     return "text", ["c", "requires"] + clause(self.own()[0], rest)
+                m = re.fullmatch(r"t(\d+)", rest[0]) if rest else None
+                names = params(self.crate, self.name.split(".")[-1])
+                if m and rest[0] not in names and int(m.group(1)) <= len(names):
+                    rest = [names[int(m.group(1)) - 1]] + rest[1:]
                 return "text", ["c", s] + rest
             if norm(s) == old or norm(s).lower() == old.lower():
                 rest = segs[1:]
                 if rest:
                     if rest[0] == "inv":
                         rest[0] = "invariant"
+                    elif rest[0] == "left":
+                        rest[0] = "false"
                     elif rest[0] == "taken":
                         rest[0] = "true" if place.startswith("In-") or place.startswith("Then") else "false"
                     elif rest[0] == "ensures" and self.call[place]:
@@ -153,6 +168,11 @@ class Function:
                         continue
                     env.pop(name, None)
                     shown = self.turn(value, env)
+                    call = re.match(r"\(?([^\s()]+)\s", value)
+                    if kind is None and call and self.macros_type.get(call.group(1)) and call.group(1) in self.macros and len(self.macros_param[call.group(1)]) == 1:
+                        who, kind_ = self.macros_type[call.group(1)]
+                        out.append("let " + name + " : " + self.turn(kind_, {who: self.macros[call.group(1)][1]}) + " = " + shown + " in ")
+                        continue
                     out.append("let " + name + (" : " + self.turn(kind, env) if kind else "") + " = " + shown + " in ")
                     continue
             m = re.compile(r"\(([^\s()]+)\s+([^\s()]+|\([^()]*\))\)((?:\.[^\s(){}\[\].,;:]+)*)").match(text, i)
@@ -435,7 +455,7 @@ def turn_proof(crate, folder, info):
     parts = blocks(body)
     kept, answers, invariants = [], {}, []
     loops = {norm(l[0][0]): (l[0][1], l[1], ch) for l, ch in zip(info["loops"], info["changed"])}
-    f.macros_param = {}
+    f.macros_param, f.macros_type = {}, {}
     f.answers = {}
     raw = {}
     for part in parts:
@@ -469,7 +489,7 @@ def turn_proof(crate, folder, info):
         if m and re.match(r"tie\.Need-", m.group(2)):
             raw[m.group(1)] = (comment, code)
             continue
-        if m and "tie." in part and not re.search(r"statement M", part):
+        if m and ("tie." in part or any(re.search(rf"(?<![^{SEP}]){re.escape(a)}(?![^{SEP}])", m.group(2)) for a in f.alias)) and not re.search(r"statement M", part):
             # a helper over places, or a type's other name
             al = re.match(r"(?:abbrev )?(\S+) : Type 0", head)
             if al and len(code) > 1 and "= tie." in code[1]:
@@ -478,7 +498,7 @@ def turn_proof(crate, folder, info):
                     f.alias[m.group(1)] = p
                     continue
             kind = m.group(2)
-            first = re.match(r"\(([^\s:]+) : (tie\.[^()]*)\)\s*→?\s*(.*)$", kind) or re.match(r"()(tie\.[^→]*)→\s*(.*)$", kind) or (re.match(r"()([^\s→()]+)\s*→\s*(.*)$", kind) if kind.split()[0] in f.alias else None)
+            first = re.match(r"\(([^\s:]+) : (tie\.[^()]*)\)\s*→?\s*(.*)$", kind) or re.match(r"\(([^\s:]+) : (%s)\)\s*→?\s*(.*)$" % ("|".join(map(re.escape, f.alias)) or "$^"), kind) or re.match(r"()(tie\.[^→]*)→\s*(.*)$", kind) or (re.match(r"()([^\s→()]+)\s*→\s*(.*)$", kind) if kind.split()[0] in f.alias else None)
             rest = "\n".join(l for l in code[1:] if not l.startswith("unfolding"))
             if first and "=" in rest:
                 p = f.place(first.group(2))
@@ -488,6 +508,7 @@ def turn_proof(crate, folder, info):
                 if p and len(left) >= 2:
                     f.macros_param[m.group(1)] = left[1:]
                     f.macros[m.group(1)] = ("place", to) if to and len(left) == 2 else ("value", p, value)
+                    f.macros_type[m.group(1)] = None if head.startswith("abbrev") else (first.group(1), first.group(3))
                     continue
             al2 = re.match(r"(?:abbrev )?(\S+) : Type", head)
             f.trouble.append("helper " + head[:80])
