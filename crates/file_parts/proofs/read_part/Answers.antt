@@ -20,7 +20,7 @@ loop-at-smaller c = let b = bounds _ c.loop-at.at c.line_end-e.result c.line_end
 pub loop-at-preserved : goal.loop-at-preserved
 loop-at-preserved c =
     reads_next _ _ _ _ _ _ c.loop-at.invariant c.line_end-e.result _ _ c.feed_line-r.ensures.value c.feed_line-r.ensures.sound
-    (record { caps = c.feed_line-r.kept.1.1.1.1.0; marks = c.feed_line-r.kept.1.1.1.1.1.0; initial = c.feed_line-r.kept.1.1.1.1.1.1.0; pre = c.feed_line-r.kept.1.1.1.1.1.1.1.0; post = c.feed_line-r.kept.1.1.1.1.1.1.1.1.0; word = c.feed_line-r.kept.1.1.1.1.1.1.1.1.1.0 })
+    (record { caps = c.feed_line-r.auto.caps; marks = c.feed_line-r.auto.marks; initial = c.feed_line-r.auto.initial; pre = c.feed_line-r.auto.pre; post = c.feed_line-r.auto.post; word = c.feed_line-r.auto.word })
 
 pub shape_of-caps-else-r-eq0 : goal.shape_of-caps-else-r-eq0
 shape_of-caps-else-r-eq0 c = c.loop-at.invariant.same.caps
