@@ -11,4 +11,4 @@ pub loop-left-preserved : goal.loop-left-preserved
 loop-left-preserved c = (omega arith, letters_kept _ _ _ _ c.byte_at.ensures c.loop-left.fine _ c.keeps-fine.ensures _ (omega arith) ∙ c.loop-left.invariant.1)
 
 pub returns : goal.returns
-returns c = sym (and-true _) ∙ sym (ap (λ x. c.loop-left.fine && x) (letters_none _ c.loop-left.j c.loop-left.false _ (omega arith))) ∙ c.loop-left.invariant.1
+returns c = sym (and-true _) ∙ sym (ap (λ x. c.loop-left.fine && x) (letters_none _ c.loop-left.j c.loop-left.left _ (omega arith))) ∙ c.loop-left.invariant.1
