@@ -18,7 +18,7 @@ pub write_rows-requires : goal.write_rows-requires
 write_rows-requires c = let al : Allowed (net_of c.args.places c.args.transitions c.args.pre.now c.args.post.now c.args.caps.now c.args.marks.now) c.args.initial.now (rooms_of c.args.pre2.now c.args.post2.now c.args.caps2.now c.args.marks2.now c.args.initial2.now) = (net_allowed (net_of c.args.places c.args.transitions c.args.pre.now c.args.post.now c.args.caps.now c.args.marks.now) c.args.initial.now (rooms_of c.args.pre2.now c.args.post2.now c.args.caps2.now c.args.marks2.now c.args.initial2.now) _ c.find_fault-found.ensures (search rules)) in record { pre_len = al.sized.pres; post_len = al.sized.posts; marks_len = al.sized.noted; inside = front_inside (net_of c.args.places c.args.transitions c.args.pre.now c.args.post.now c.args.caps.now c.args.marks.now) c.args.initial.now (rooms_of c.args.pre2.now c.args.post2.now c.args.caps2.now c.args.marks2.now c.args.initial2.now) al _ c.find_sources-sources.ensures; pre2_len = pre_cells (net_of c.args.places c.args.transitions c.args.pre.now c.args.post.now c.args.caps.now c.args.marks.now) c.args.initial.now (rooms_of c.args.pre2.now c.args.post2.now c.args.caps2.now c.args.marks2.now c.args.initial2.now) al _ c.find_sources-sources.ensures; post2_len = post_cells (net_of c.args.places c.args.transitions c.args.pre.now c.args.post.now c.args.caps.now c.args.marks.now) c.args.initial.now (rooms_of c.args.pre2.now c.args.post2.now c.args.caps2.now c.args.marks2.now c.args.initial2.now) al _ c.find_sources-sources.ensures }
 
 pub slice_bounds-sources-end-in-Sound : goal.slice_bounds-sources-end-in-Sound
-slice_bounds-sources-end-in-Sound c = let a : Allowed (net_of c.args.places c.args.transitions c.args.pre.now c.args.post.now c.args.caps.now c.args.marks.now) c.args.initial.now (rooms_of c.args.pre2.now c.args.post2.now c.args.caps2.now c.args.marks2.now c.args.initial2.now) = (net_allowed (net_of c.args.places c.args.transitions c.args.pre.now c.args.post.now c.args.caps.now c.args.marks.now) c.args.initial.now (rooms_of c.args.pre2.now c.args.post2.now c.args.caps2.now c.args.marks2.now c.args.initial2.now) _ c.find_fault-found.ensures (search rules)).before in omega (arith, a.roomy.capped, a.few)
+slice_bounds-sources-end-in-Sound c = let a : Allowed (net_of c.args.places c.args.transitions c.args.pre.now c.args.post.now c.args.caps.now c.args.marks.now) c.args.initial.now (rooms_of c.args.pre2.now c.args.post2.now c.args.caps2.now c.args.marks2.now c.args.initial2.now) = (net_allowed (net_of c.args.places c.args.transitions c.args.pre.now c.args.post.now c.args.caps.now c.args.marks.now) c.args.initial.now (rooms_of c.args.pre2.now c.args.post2.now c.args.caps2.now c.args.marks2.now c.args.initial2.now) _ c.find_fault-found.ensures (search rules)) in omega (arith, a.roomy.capped, a.few)
 
 pub slice_bounds-write_tokens-end : goal.slice_bounds-write_tokens-end
 slice_bounds-write_tokens-end c = front_count (net_of c.args.places c.args.transitions c.args.pre.now c.args.post.now c.args.caps.now c.args.marks.now) c.args.initial.now (rooms_of c.args.pre2.now c.args.post2.now c.args.caps2.now c.args.marks2.now c.args.initial2.now) (net_allowed (net_of c.args.places c.args.transitions c.args.pre.now c.args.post.now c.args.caps.now c.args.marks.now) c.args.initial.now (rooms_of c.args.pre2.now c.args.post2.now c.args.caps2.now c.args.marks2.now c.args.initial2.now) _ c.find_fault-found.ensures (search rules)) _ c.find_sources-sources.ensures
