@@ -7,7 +7,6 @@ use Rattle.net.specs.Net.{Net}
 use Rattle.replay.specs.Entry as replay
 use Rattle.replay.specs.Entry.{replay_of, Replayed}
 use Rattle.plays.specs.declared.Replay.{Replay}
-use Rattle.c_answer.specs.Hand.{handed}
 use Rattle.c_replay.specs.Handed.{handed_replay, HandedReplay}
 use Rattle.c_replay.specs.declared.ReplayAnswer.{ReplayAnswer}
 

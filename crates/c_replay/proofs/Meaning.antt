@@ -9,7 +9,6 @@ use Rattle.plays.specs.Replay.{Ran}
 use Rattle.replay.specs.Entry as replay
 use Rattle.plays.specs.declared.Replay.{Replay}
 use Rattle.plays.specs.declared.Replay.TheVariants as ran
-use Rattle.c_answer.specs.Hand.{handed}
 use Rattle.c_replay.specs.Handed.{handed_replay, HandedReplay}
 use Rattle.c_replay.specs.declared.ReplayAnswer.{ReplayAnswer}
 

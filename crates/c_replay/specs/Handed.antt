@@ -3,7 +3,7 @@ use Rattle.std.specs.Prelude.{ℕ, ◌≡◌, List}
 use Rattle.plays.specs.Replay.{Ran}
 use Rattle.replay.specs.Entry as replay
 use Rattle.c_replay.specs.declared.ReplayAnswer.{ReplayAnswer}
-use Rattle.c_answer.specs.Hand.{at, handed}
+use Rattle.c_answer.specs.Hand.{at}
 
 -- a replay's: also the place of its cause
 unfoldable pub handed_replay : List ℕ → ReplayAnswer

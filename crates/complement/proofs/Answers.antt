@@ -1,8 +1,8 @@
 -- Laws of the answers: the refusal that is given, or what was told or written. Assumes nothing.
 use Prim.Native.Nat.{ℕ, ◌+◌, ◌-◌, ◌*◌, ◌≤◌, ◌<◌}
 use mathlib.Core.Path.{◌≡◌, refl, sym, ap, ◌∙◌}
-use mathlib.Core.Bool.{Bool, true, false, not, ◌&&◌}
-use mathlib.Core.List.{List, ◌++◌, map}
+use mathlib.Core.Bool.{Bool, true, false, not}
+use mathlib.Core.List.{List, ◌++◌}
 use native.Mathlib.Omega.{arith}
 use native.Mathlib.Nat.{mul-le-mul_right}
 use mir.Syntax.{w64}
@@ -22,7 +22,7 @@ use Rattle.net.proofs.Rows.{row_at, row_end, row_length_lem}
 use Rattle.refusals.specs.Given.{or_else, sized_net, net_fault, marked_fault}
 use Rattle.refusals.specs.declared.Fault.{Fault}
 use Rattle.refusals.specs.declared.Fault.TheVariants.{Sound, Faulty}
-use Rattle.refusals.proofs.Chains.{or_sound, sound_or, refuse_sound, chain_first, not_sound}
+use Rattle.refusals.proofs.Chains.{or_sound, sound_or, refuse_sound, chain_first}
 use Rattle.refusals.proofs.Refusals.{sized_true, net_met, met_net, marked_met, met_marked, marked_unfit, marked_unsized}
 use Rattle.ground.proofs.Fill.{table_length, table_at}
 use Rattle.complement.specs.Complement.{made, made_places, complement_places, fall_of, fall, joined, pre_row, post_row, complement_marking}

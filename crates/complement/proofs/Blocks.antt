@@ -8,7 +8,7 @@ use native.Mathlib.Omega.{arith}
 use native.Mathlib.Decide.{dec_lt}
 use lib.ListN.{length, get_or}
 use lib.Signed.{clash_ℤ}
-use Rattle.net.specs.Net.{Net, capacity, mark, tokens, Sized}
+use Rattle.net.specs.Net.{Net, capacity, mark, Sized}
 use Rattle.net.specs.Firing.{Within, ShortAt, OverAt, Names}
 use Rattle.net.specs.declared.Cause.{Cause}
 use Rattle.net.specs.declared.Cause.TheVariants.{Short, Over}

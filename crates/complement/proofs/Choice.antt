@@ -1,14 +1,13 @@
 -- Laws of the chosen numbers, for any test: how many, which, and where each stands among them; and those of the test in force. Assumes nothing.
 use Prim.Native.Nat.{ℕ, zero, suc, ◌+◌, ◌≤◌, ◌<◌, zero-le, suc-le-suc}
-use mathlib.Core.Path.{◌≡◌, refl, sym, ap, ◌∙◌}
-use mathlib.Core.Bool.{Bool, true, false, not, cond, ◌||◌}
+use mathlib.Core.Path.{◌≡◌, refl, sym, ◌∙◌}
+use mathlib.Core.Bool.{Bool, true, false, cond, ◌||◌}
 use mathlib.Core.List.{List, [], ◌∷◌, map}
 use mathlib.Core.Logic.{◌⊎◌, inl, inr, ◌↔◌}
 use native.Mathlib.Omega.{arith}
 use native.Mathlib.Nat.{not-suc-le-zero, le_of_suc-le-suc, eq-or-lt_of_le}
 use lib.ListN.{length, get_or}
 use lib.Dec.{ltb}
-use lib.Dec.{eqb}
 use borrow.Author.Tests.{ltb-true, lt-ltb, ne_eqb}
 use Rattle.ground.specs.Limits.{no_capacity}
 use Rattle.ground.proofs.Tests.{never, and-true, or-false, unlike_false}

@@ -1,12 +1,12 @@
 -- The complement net entry by entry: its lengths, its weights at the old and at the new places, its capacities. Assumes nothing.
 use Prim.Native.Nat.{ℕ, zero, suc, ◌+◌, ◌-◌, ◌*◌, ◌≤◌, ◌<◌, zero-le}
-use mathlib.Core.Path.{◌≡◌, refl, sym, ap, ◌∙◌}
+use mathlib.Core.Path.{◌≡◌, sym, ap, ◌∙◌}
 use mathlib.Core.List.{List, [], ◌∷◌, ◌++◌, map}
 use mathlib.Core.Logic.{⊎_elim}
 use native.Mathlib.Omega.{arith}
 use native.Mathlib.Decide.{dec_lt}
 use native.Mathlib.Nat.{suc-mul, not-suc-le-zero, le_of_suc-le-suc, eq-or-lt_of_le}
-use lib.ListN.{length, get_or, drop, length-append, length-map, length-take, get_or-append, get_or-eq_default}
+use lib.ListN.{length, get_or, drop, length-append, length-take, get_or-append, get_or-eq_default}
 use lib.Seq.{get_or-append-add}
 use Rattle.ground.specs.Limits.{no_capacity, weight_limit}
 use Rattle.ground.proofs.Fill.{table_at}
@@ -14,7 +14,7 @@ use Rattle.net.specs.Net.{Net, Pre, Post, in_force, rise, capacity, Capped, mark
 use Rattle.net.specs.Letter.{row, Small}
 use Rattle.net.proofs.Rows.{row_end, row_at, row_length_lem}
 use Rattle.net.proofs.Rule.{leaves_most}
-use Rattle.complement.specs.Complement.{made_places, at_made, complement_places, fall, joined, pre_row, post_row, complement_net}
+use Rattle.complement.specs.Complement.{made_places, complement_places, fall, joined, pre_row, post_row, complement_net}
 use Rattle.complement.proofs.Choice.{map_at_lem}
 use Rattle.complement.proofs.Written.{row_then}
 

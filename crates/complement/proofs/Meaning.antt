@@ -19,12 +19,10 @@ use Rattle.net.specs.Letter.{fired_at}
 use Rattle.net.proofs.Judged.{gives_fired}
 use Rattle.net.proofs.Meaning.{gives_plain, gives_one, firing_within}
 use Rattle.net.proofs.Rule.{leaves_plain, leaves_pocket, force_capped, keeps_rise}
-use Rattle.wiring.specs.Wired.{Arc, PlaceWired, TransitionWired, Wired}
+use Rattle.wiring.specs.Wired.{PlaceWired, TransitionWired, Wired}
 use Rattle.refusals.proofs.Exactly.{Chain, Reads, tells_test, reads_test, reads_both, reads_all, net_reads, marked_reads, Answers, fault_is, exactly_refused, is_answered, is_allowed}
 use Rattle.refusals.specs.Given.{Fine}
 use Rattle.refusals.specs.First.{First, Given}
-use Rattle.refusals.specs.declared.Fault.{Fault}
-use Rattle.refusals.specs.declared.Fault.TheVariants.{Sound, Faulty}
 use Rattle.replay.specs.Entry.{Replayed, Allowed as Replayable}
 use Rattle.plays.specs.declared.Replay.{Replay}
 use Rattle.plays.specs.declared.Replay.TheVariants.{Fired}

@@ -20,7 +20,7 @@ use Rattle.net.proofs.Rows.{row_length_lem}
 use Rattle.refusals.specs.Given.{Fine}
 use Rattle.complement.specs.Complement.{chosen_from, joined}
 use Rattle.complement.specs.Walk.{Inside}
-use Rattle.complement.proofs.Choice.{chosen_few, map_at_lem}
+use Rattle.complement.proofs.Choice.{map_at_lem}
 
 -- the chosen numbers from p on, of n: one more, none more, no number left. r is the test's answer at p
 module _ (f : ℕ → Bool) (n p : ℕ) where

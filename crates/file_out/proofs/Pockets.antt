@@ -9,7 +9,7 @@ use lib.ListN.{length, get_or}
 use lib.Dec.{eqb}
 use borrow.Author.Tests.{eq-eqb, ne_eqb, eqb-true, eqb-false}
 use Rattle.file_put.specs.Append.{Appended}
-use Rattle.file_put.specs.Put.{line_text, PutLine}
+use Rattle.file_put.specs.Put.{PutLine}
 use Rattle.file_mask.specs.Mask.{mask_bytes, mask_of, eight}
 use Rattle.file_mask.proofs.Masks.{mask_none}
 use Rattle.file_text.specs.Text.{pockets_line, pockets_lines}

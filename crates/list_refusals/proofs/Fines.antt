@@ -9,7 +9,7 @@ use native.Mathlib.Nat.{mod-eq_of_lt, mul-add-mod_self_right, div-mul-le_self, a
 use lib.ListN.{length, get_or}
 use lib.Dec.{eqb}
 use borrow.Author.Tests.{eqb-true}
-use Rattle.ground.specs.Lists.{bit, tally}
+use Rattle.ground.specs.Lists.{bit}
 use Rattle.ground.proofs.Tests.{never}
 use Rattle.ground.proofs.Scan.{Below, none_of, first_none}
 use Rattle.net.proofs.Rows.{row_at, row_end, row_length_lem}

@@ -2,11 +2,9 @@
 use Prim.Native.Nat.{ℕ, ◌+◌, ◌*◌, ◌≤◌, ◌<◌, zero-le}
 use mathlib.Core.Path.{◌≡◌, refl, sym, ap, ◌∙◌}
 use mathlib.Core.List.{List, [], ◌∷◌, ◌++◌}
-use mathlib.Core.Logic.{◌↔◌}
 use native.Mathlib.Omega.{arith}
 use native.Mathlib.Decide.{dec_lt}
 use lib.ListN.{length, get_or, get_or-eq_default}
-use lib.IntN.{pos}
 use lib.Seq.{ext_get_or}
 use Rattle.ground.specs.Limits.{weight_limit, token_limit, word_limit, replay_limit}
 use Rattle.ground.specs.Parts.{up}

@@ -1,6 +1,6 @@
 -- To be believed: firing as published: 001's relation m[t> m' with its capacity rule, 002's for pockets, and the words and markings that follow from it.
 -- It is said of every net, whether or not each node has an arc; that a net with a loose one is refused is 02's, E4 (wiring/specs/Wired.antt).
-use Rattle.std.specs.Prelude.{ℕ, ◌+◌, ◌≤◌, ◌<◌, ◌≡◌, cond, List, [], ◌∷◌, length, eqb, ℤ, pos, ◌+ℤ◌, ◌-ℤ◌, ◌≤ℤ◌, ◌<ℤ◌}
+use Rattle.std.specs.Prelude.{ℕ, ◌+◌, ◌≤◌, ◌<◌, ◌≡◌, cond, List, [], ◌∷◌, length, eqb, ℤ, pos, ◌+ℤ◌, ◌≤ℤ◌, ◌<ℤ◌}
 use Rattle.net.specs.Net.{Net, Pre, Post, Change, capacity, Capped, mark, tokens}
 use Rattle.net.specs.declared.Cause.{Cause}
 use Rattle.net.specs.declared.Cause.TheVariants.{Short, Over}

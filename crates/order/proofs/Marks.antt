@@ -10,7 +10,7 @@ use Rattle.net.specs.Marks.{remarked, MarksAlike}
 use Rattle.net.proofs.Pockets.{alike_passes}
 use Rattle.refusals.proofs.Marks.{remarked_marked}
 use Rattle.orders.specs.Orders.{Recorded, logs_of}
-use Rattle.orders.specs.Search.{Way, no_order, letter_at, onto, else_way, step, order_from, left_of, way_of}
+use Rattle.orders.specs.Search.{Way, no_order, letter_at, onto, else_way, step, order_from, left_of}
 use Rattle.order.specs.Entry.{order_fault, rooms_fit, Answered, answered, order_of, numbers, Ordered}
 use Rattle.order.specs.declared.LogOrder.{LogOrder}
 use Rattle.order.proofs.Exactly.{unique}

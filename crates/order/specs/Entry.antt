@@ -1,6 +1,5 @@
 -- To be believed: two logs put into an order that fires: refusals 1 2 18 3 17 4 15 5, else the order that is given, or none.
-use Rattle.std.specs.Prelude.{ℕ, ◌+◌, ◌≤◌, ◌<◌, ◌≡◌, Bool, true, ◌&&◌, List, [], ◌∷◌, length, get_or, replicate, eqb}
-use Rattle.ground.specs.Limits.{word_limit}
+use Rattle.std.specs.Prelude.{ℕ, ◌+◌, ◌≤◌, ◌<◌, ◌≡◌, Bool, ◌&&◌, List, [], ◌∷◌, length, get_or, replicate, eqb}
 use Rattle.net.specs.Net.{Net, Sized, Light}
 use Rattle.wiring.specs.Wired.{Wired}
 use Rattle.refusals.specs.Given.{or_else, marked_fault, word_fault, Fine, Letters}

@@ -1,5 +1,5 @@
 -- To be believed: which order is given, by the letters read so far. proofs/Meaning.antt shows that it is the published one.
-use Rattle.std.specs.Prelude.{ℕ, zero, suc, ◌+◌, ◌-◌, Bool, true, false, cond, ◌&&◌, List, [], ◌∷◌, length, get_or, ltb}
+use Rattle.std.specs.Prelude.{ℕ, zero, suc, ◌+◌, ◌-◌, Bool, cond, ◌&&◌, List, [], ◌∷◌, length, get_or, ltb}
 use Rattle.net.specs.Letter.{arcs_at, passes, fired_at}
 use Rattle.orders.specs.Orders.{Recorded}
 

@@ -9,7 +9,7 @@ use Rattle.net.specs.Net.{Net}
 use Rattle.net.specs.Marks.{remarked}
 use Rattle.wiring.specs.Wired.{loose_place, loose_transition}
 use Rattle.weights.specs.Heavy.{heavy}
-use Rattle.refusals.specs.Given.{refuse, or_else, outside, unlike, weights_fault, counts_fault, loose_fault, net_fault, marking_fault, start_fault, marked_fault}
+use Rattle.refusals.specs.Given.{refuse, or_else, outside, unlike, weights_fault, counts_fault, loose_fault, net_fault, start_fault, marked_fault}
 
 module _ (net : Net) (marks : List ℕ) (long : length marks ≡ length net.marks) where
   pub remarked_counts : (fits : Bool) → counts_fault net fits ≡ counts_fault (remarked net marks) fits

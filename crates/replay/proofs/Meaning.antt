@@ -1,8 +1,8 @@
 -- What a replay's answer means: the demands of document 01, over the published relation. Assumes nothing.
 use Prim.Native.Nat.{ℕ, ◌+◌, ◌<◌}
-use mathlib.Core.Path.{◌≡◌, refl, sym, ap, ◌∙◌}
+use mathlib.Core.Path.{◌≡◌, sym, ap, ◌∙◌}
 use mathlib.Core.Bool.{Bool, true, ◌&&◌}
-use mathlib.Core.List.{List, []}
+use mathlib.Core.List.{List}
 use mathlib.Core.Logic.{◌↔◌}
 use native.Mathlib.Omega.{arith}
 use lib.ListN.{length, get_or, take, length-take}
@@ -15,12 +15,10 @@ use Rattle.net.specs.Net.{Net}
 use Rattle.net.specs.Firing.{Fires, Reachable, Within, Names, cause_number, cause_values}
 use Rattle.net.specs.Letter.{Small}
 use Rattle.net.specs.declared.Cause.{Cause}
-use Rattle.net.specs.declared.Cause.TheVariants.{Short, Over}
 use Rattle.net.proofs.Judged.{named_stops}
 use Rattle.net.proofs.Meaning.{cause_apart, cause_some, deterministic, within_stays, replay_reaches}
 use Rattle.refusals.proofs.Exactly.{Answers, Chain, reads_both, reads_all, marked_reads, word_reads, fault_is, exactly_refused, is_answered, is_allowed}
-use Rattle.refusals.specs.declared.Fault.{Fault}
-use Rattle.refusals.specs.declared.Fault.TheVariants.{Sound, Faulty}
+use Rattle.refusals.specs.declared.Fault.TheVariants.{Sound}
 use Rattle.plays.specs.Replay.{play_from}
 use Rattle.replay.specs.Entry.{replay_fault, replay_of, numbers, Replayed, Allowed, Refusal, letters_fired, Longest}
 use Rattle.plays.specs.declared.Replay.{Replay}

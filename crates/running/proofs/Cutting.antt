@@ -1,5 +1,5 @@
 -- A log in parts, cut in any way, is the log in one part, and agrees with the replay of the whole. Assumes nothing.
-use Prim.Native.Nat.{ℕ, ◌+◌, ◌≤◌}
+use Prim.Native.Nat.{ℕ, ◌≤◌}
 use mathlib.Core.Path.{◌≡◌, refl, sym, ap, subst, ◌∙◌}
 use mathlib.Core.Bool.{Bool, true, false, cond, ◌&&◌}
 use mathlib.Core.List.{List, [], ◌∷◌, ◌++◌, append-nil, append_assoc}
@@ -24,7 +24,6 @@ use Rattle.plays.specs.declared.Replay.TheVariants as replay
 use Rattle.replay.specs.Entry.{replay_fault, Replayed}
 use Rattle.replay.specs.Entry as entry
 use Rattle.replay.proofs.Answers.{sane_is}
-use Rattle.replay.proofs.Ending.{whole}
 use Rattle.replay.proofs.Meaning as replayed
 use Rattle.running.specs.State.{held, is_blocked, part_fault, blocked_at, went_on, played_on, held_block, fed_by, fed_of}
 use Rattle.running.specs.Entry.{fresh_at, empty, start_of, StartAllowed, numbers, Allowed}

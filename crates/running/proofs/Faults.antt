@@ -1,20 +1,20 @@
 -- Laws of a part's refusals: which one is given. Assumes nothing.
 use Prim.Native.Nat.{ℕ, ◌+◌, ◌≤◌, ◌<◌}
 use mathlib.Core.Path.{◌≡◌, refl, sym, ◌∙◌}
-use mathlib.Core.Bool.{Bool, true, false, not, ◌&&◌, ◌||◌}
+use mathlib.Core.Bool.{Bool, true, false, ◌||◌}
 use mathlib.Core.List.{List}
 use native.Mathlib.Omega.{arith}
-use lib.ListN.{length, get_or}
-use lib.Dec.{ltb, leb, eqb}
+use lib.ListN.{length}
+use lib.Dec.{ltb}
 use borrow.Author.Tests.{lt-ltb, le-ltb, le-leb, lt-leb, ne_eqb, eq-eqb}
-use Rattle.ground.specs.Limits.{count_limit, no_capacity, word_limit, tokens_after}
+use Rattle.ground.specs.Limits.{no_capacity, word_limit, tokens_after}
 use Rattle.net.specs.Net.{Net, Sized}
-use Rattle.refusals.specs.Given.{refuse, or_else, counts_fault, loose_fault, bad_letter, word_fault}
+use Rattle.refusals.specs.Given.{or_else, counts_fault, loose_fault, word_fault}
 use Rattle.refusals.specs.declared.Fault.{Fault}
 use Rattle.refusals.specs.declared.Fault.TheVariants.{Sound, Faulty}
 use Rattle.refusals.proofs.Chains.{chain_first, chain_next}
 use Rattle.refusals.proofs.Refusals.{counts_met}
-use Rattle.running.specs.State.{is_blocked, tokens_over, bad_tokens, tokens_fault, state_fault, letters_fault, block_fault, part_fault}
+use Rattle.running.specs.State.{tokens_over, bad_tokens, tokens_fault, state_fault, letters_fault, block_fault, part_fault}
 use Rattle.running.specs.declared.Running.{Running}
 
 -- one place

@@ -26,7 +26,7 @@ use Rattle.running.specs.State.{held, is_blocked, cause_place, blocked_at, went_
 use Rattle.running.specs.Entry.{TokensAt, Allowed}
 use Rattle.running.specs.Cutting.{Slotted}
 use Rattle.running.specs.declared.Running.{Running}
-use Rattle.running.specs.declared.Part.TheVariants.{Fired, Blocked, Refused}
+use Rattle.running.specs.declared.Part.TheVariants.{Fired}
 use Rattle.running.proofs.Fronts.{front_long, front_set}
 use Rattle.running.proofs.Parts.{held_small, next_passes, next_stops, fed_played, fed_held}
 use Rattle.running.proofs.Exactly.{allowed_sound, play_refuses}

@@ -1,5 +1,5 @@
 -- To be believed: document 02, E7: "Keep a running replay, with the marking, the letters fired and whether it is blocked, changed in place by each part."
-use Rattle.std.specs.Prelude.{ℕ, ◌+◌, Bool, true, cond, not, ◌&&◌, ◌||◌, List, [], ◌∷◌, length, get_or, take, ltb, leb, eqb}
+use Rattle.std.specs.Prelude.{ℕ, ◌+◌, Bool, true, cond, not, ◌&&◌, ◌||◌, List, length, get_or, take, ltb, leb, eqb}
 use Rattle.std.proofs.lemmas.List.Edits.{sets}
 use Rattle.ground.specs.Limits.{no_capacity, word_limit, tokens_after}
 use Rattle.ground.specs.Lists.{first}
@@ -14,7 +14,6 @@ use Rattle.plays.specs.Replay.{play_from}
 use Rattle.plays.specs.declared.Replay.{Replay}
 use Rattle.plays.specs.declared.Replay.TheVariants as replay
 use Rattle.running.specs.declared.Running.{Running}
-use Rattle.running.specs.declared.Part.{Part}
 use Rattle.running.specs.declared.Part.TheVariants.{Fired, Blocked, Refused}
 use Rattle.running.specs.declared.Fed.{Fed}
 

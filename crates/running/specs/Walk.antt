@@ -1,6 +1,5 @@
 -- Only for the code's walk: the numbers of a replay that was played fit 32 bits.
-use Rattle.std.specs.Prelude.{ℕ, ◌^◌, ◌<◌}
-use Rattle.net.specs.declared.Cause.{Cause}
+use Rattle.std.specs.Prelude.{◌^◌, ◌<◌}
 use Rattle.plays.specs.declared.Replay.{Replay}
 use Rattle.plays.specs.declared.Replay.TheVariants.{Fired, Blocked, Refused}
 use Rattle.running.specs.State.{cause_place}

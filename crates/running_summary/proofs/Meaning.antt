@@ -5,7 +5,7 @@ use mathlib.Core.List.{List}
 use mathlib.Core.Logic.{◌↔◌}
 use lib.ListN.{length, get_or}
 use lib.Seq.{get_or-take}
-use lib.IntN.{ℤ, pos, ◌+ℤ◌}
+use lib.IntN.{pos, ◌+ℤ◌}
 use Rattle.net.specs.Net.{Net, tokens}
 use Rattle.net.specs.Firing.{Fires}
 use Rattle.running.specs.State.{held}

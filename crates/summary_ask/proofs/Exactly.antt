@@ -9,7 +9,6 @@ use lib.Dec.{eqb}
 use Rattle.net.specs.Net.{Net}
 use Rattle.refusals.proofs.Exactly as law
 use Rattle.refusals.proofs.Exactly.{Chain, tells_test, reads_test, reads_both, reads_all, marked_reads, fault_is, exactly_refused, is_answered, is_allowed}
-use Rattle.summary_form.specs.Summary.{Answers}
 use Rattle.summary_ask.specs.Ask.{ask_fault, ask_answer, Replied}
 use Rattle.summary_ask.specs.Allowed.{AskAllowed, AskRefusal}
 use Rattle.summary_form.specs.declared.Summary.{Summary}

@@ -23,7 +23,6 @@ use Rattle.summary_form.specs.declared.Summary.{Summary}
 use Rattle.summary_form.proofs.Shapes.{sound_shape}
 use Rattle.summary_form.proofs.Places.{rising}
 use Rattle.summary_form.proofs.Formed.{Shaped, wells_at, bound, none_long, none_at}
-use Rattle.summary_form.proofs.Meaning.{shaped}
 
 -- joined place by place
 pub words_joined : (net : Net) (u w : List ℕ) → join_summary (summary_of net u) (summary_of net w) ≡ summary_of net (u ++ w)

@@ -1,5 +1,5 @@
 -- What an invariant weighting means along any firing word, whoever says that it is one. Assumes nothing.
-use Prim.Native.Nat.{ℕ, ◌+◌, ◌*◌, ◌<◌}
+use Prim.Native.Nat.{ℕ, ◌+◌, ◌<◌}
 use mathlib.Core.Path.{◌≡◌, refl, sym, ap, ◌∙◌}
 use mathlib.Core.List.{List}
 use native.Mathlib.Omega.{arith}
@@ -14,7 +14,6 @@ use Rattle.net.specs.Firing.{Gives, Fires, nothing, letter, Reachable}
 use Rattle.net.proofs.Meaning.{kept}
 use Rattle.weighting_sums.specs.Weighting.{sum, entry, place_sum, PlaceInvariant, TransitionInvariant, weight, count}
 use Rattle.weighting_sums.proofs.Sum.{mul_plus, sum_same, sum_both, sum_none, sum_at}
-use Rattle.weighting_sums.proofs.Lowest.{named}
 
 -- one firing adds the published sum of its transition
 pub weight_firing : {net : Net} {m m' : List ℕ} {t : ℕ} (y : List ℤ) → Gives net m t m' → weight net y m' ≡ weight net y m +ℤ place_sum net y t

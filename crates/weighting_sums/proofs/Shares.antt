@@ -13,7 +13,7 @@ use mir.Val.{Fits}
 use Rattle.ground.specs.Limits.{count_limit, no_capacity, entry_limit}
 use Rattle.ground.specs.Parts.{up, dn}
 use Rattle.ground.proofs.Parts.{minus_is}
-use Rattle.weighting_sums.specs.Weighting.{sum, entry}
+use Rattle.weighting_sums.specs.Weighting.{entry}
 use Rattle.weighting_sums.specs.Tests.{is_zero}
 use Rattle.weighting_sums.specs.Walk.{total, product_limit, share, share_limit, cell, line_sum, held}
 use Rattle.weighting_sums.proofs.Sum.{mul-sub, zero-sub, sum_same, two_sums, total_none, total_more}

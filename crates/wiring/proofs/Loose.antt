@@ -11,7 +11,7 @@ use Rattle.ground.specs.Lists.{first}
 use Rattle.ground.proofs.Scan.{Below, first_none, first_below, first_passes, first_found, scan_start, scan_hit, scan_next, scan_end}
 use Rattle.net.specs.Net.{Net, Sized}
 use Rattle.net.proofs.Rows.{row_end}
-use Rattle.wiring.specs.Wired.{PlaceWired, TransitionWired, Wired, arc, loose_place, loose_transition, lowest_loose_place, lowest_loose_transition}
+use Rattle.wiring.specs.Wired.{PlaceWired, TransitionWired, arc, loose_place, loose_transition, lowest_loose_place, lowest_loose_transition}
 
 -- a place: t is where the scan is, r the test's answer there
 module _ (net : Net) (p t : ℕ) (lo : Below (arc net p) t) where

@@ -1,4 +1,3 @@
-use Prim.Native.Nat.{◌-◌}
 use Rattle.ground.proofs.Fill.{makes}
 use Rattle.c_summary_lists.proofs.Columns.{made_end}
 use borrow.Author.Rules.{rules}

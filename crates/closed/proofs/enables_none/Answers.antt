@@ -1,4 +1,3 @@
-use Prim.Native.Nat.{◌-◌}
 use native.Mathlib.Omega.{arith}
 use Rattle.ground.proofs.Scan.{scans}
 use Rattle.lists.proofs.Somes.{somes}

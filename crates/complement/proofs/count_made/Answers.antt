@@ -1,4 +1,3 @@
-use Prim.Native.Nat.{◌-◌}
 use Rattle.complement.proofs.Written.{counts}
 use borrow.Author.Rules.{rules}
 use Rattle.complement.proofs.count_made.Goals as goal

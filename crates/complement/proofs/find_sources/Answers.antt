@@ -1,4 +1,3 @@
-use Prim.Native.Nat.{◌-◌}
 use Rattle.complement.proofs.Written.{chooses}
 use borrow.Author.Rules.{rules}
 use Rattle.complement.proofs.find_sources.Goals as goal

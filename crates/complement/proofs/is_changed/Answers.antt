@@ -1,4 +1,3 @@
-use Prim.Native.Nat.{◌-◌}
 use native.Mathlib.Omega.{arith}
 use Rattle.ground.proofs.Scan.{scan_start, scan_next}
 use Rattle.net.specs.Net.{net_of}

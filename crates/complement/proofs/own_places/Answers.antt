@@ -1,4 +1,3 @@
-use Prim.Native.Nat.{◌-◌}
 use Rattle.ground.proofs.Fill.{make_start}
 use Rattle.complement.proofs.Written.{owns}
 use borrow.Author.Rules.{rules}

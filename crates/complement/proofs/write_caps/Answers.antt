@@ -1,4 +1,3 @@
-use Prim.Native.Nat.{◌-◌}
 use Rattle.ground.proofs.Fill.{makes}
 use borrow.Author.Rules.{rules}
 use Rattle.complement.proofs.write_caps.Goals as goal

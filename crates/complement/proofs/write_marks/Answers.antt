@@ -1,4 +1,3 @@
-use Prim.Native.Nat.{◌-◌}
 use native.Mathlib.Omega.{arith}
 use Rattle.ground.proofs.Fill.{make_start, make_next, make_end}
 use Rattle.complement.proofs.write_marks.Goals as goal

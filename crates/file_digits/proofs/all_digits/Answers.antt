@@ -1,6 +1,5 @@
 use native.Mathlib.Omega.{arith}
 use mathlib.Core.Path.{sym, ◌∙◌, refl}
-use Prim.Native.Nat.{◌-◌}
 use Rattle.file_digits.proofs.Frames.{digits_more, digits_less, digits_end}
 use Rattle.file_digits.proofs.all_digits.Goals as goal
 

@@ -1,5 +1,4 @@
 use native.Mathlib.Omega.{arith}
-use Prim.Native.Nat.{◌-◌}
 use Rattle.file_entry.proofs.Fronts.{layings}
 use borrow.Author.Rules.{rules}
 use Rattle.file_entry.proofs.lay_words.Goals as goal

@@ -1,4 +1,3 @@
-use Prim.Native.Nat.{◌-◌}
 use Rattle.file_line.proofs.Turns.{lookings}
 use borrow.Author.Rules.{rules}
 use Rattle.file_line.proofs.bad_token.Goals as goal

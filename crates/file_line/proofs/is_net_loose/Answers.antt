@@ -1,6 +1,5 @@
 use native.Mathlib.Omega.{arith}
 use mathlib.Core.List.{[]}
-use borrow.Author.Tests.{not-false}
 use Rattle.file_line.specs.Read.{rooms}
 use Rattle.file_line.proofs.Hanging.{cells_few, front_long, not_asked, asked_loose, net_sized}
 use Rattle.file_line.proofs.is_net_loose.Goals as goal

@@ -1,7 +1,6 @@
 use borrow.Author.Rules.{rules}
 use native.Mathlib.Omega.{arith}
 use mathlib.Core.Path.{sym, ◌∙◌}
-use mathlib.Core.Bool.{true}
 use Rattle.file_line.proofs.Turns.{rule_says}
 use Rattle.file_line.proofs.Order.{formed_of_lem, formed_01, formed_03, formed_07}
 use Rattle.file_line.proofs.Judging.{judge_rule, judge_form, judge_01, judge_03, judge_05, judge_07, judge_rest}

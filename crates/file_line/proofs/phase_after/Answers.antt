@@ -1,5 +1,4 @@
 use borrow.Author.Rules.{rules}
-use mathlib.Core.Logic.{inl, inr}
 use Rattle.file_line.proofs.Accept.{phase_row}
 use borrow.Author.Tests.{ne_eqb}
 use Rattle.file_line.proofs.phase_after.Goals as goal

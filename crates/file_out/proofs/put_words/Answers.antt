@@ -1,5 +1,4 @@
 use native.Mathlib.Omega.{arith}
-use Prim.Native.Nat.{◌-◌}
 use Rattle.file_put.proofs.Appends.{append_long}
 use Rattle.file_put.proofs.Listed.{listed, words_at}
 use borrow.Author.Rules.{rules}

@@ -1,5 +1,4 @@
 use native.Mathlib.Omega.{arith}
-use Prim.Native.Nat.{◌-◌}
 use Rattle.file_parts.proofs.Buffer.{fillings}
 use borrow.Author.Rules.{rules}
 use Rattle.file_parts.proofs.fill.Goals as goal

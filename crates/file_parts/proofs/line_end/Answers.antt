@@ -1,6 +1,5 @@
 use native.Mathlib.Omega.{arith}
 use mathlib.Core.Path.{refl}
-use Prim.Native.Nat.{◌-◌}
 use Rattle.file_parts.proofs.Line.{len_more, len_stop, len-end}
 use Rattle.file_parts.proofs.line_end.Goals as goal
 

@@ -1,6 +1,4 @@
 use native.Mathlib.Omega.{arith}
-use Prim.Native.Nat.{◌-◌}
-use borrow.Author.Tests.{eqb-true, eqb-false}
 use Rattle.file_parts.proofs.Line.{large, bounds}
 use Rattle.file_parts.proofs.Buffer.{reads_start, reads_next, reads_end, reads_stopped}
 use Rattle.file_parts.proofs.read_part.Goals as goal

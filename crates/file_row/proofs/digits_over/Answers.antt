@@ -1,4 +1,3 @@
-use Prim.Native.Nat.{◌-◌}
 use native.Mathlib.Omega.{arith}
 use Rattle.ground.proofs.Scan.{tally_start, tally_next, tally_fits}
 use Rattle.file_row.proofs.Wide.{wide_at_lem, wide_told}

@@ -1,4 +1,3 @@
-use Prim.Native.Nat.{◌-◌}
 use Rattle.file_put.proofs.Appends.{append_long}
 use Rattle.file_row.proofs.Listed.{listed, row_room, next_fits}
 use borrow.Author.Rules.{rules}

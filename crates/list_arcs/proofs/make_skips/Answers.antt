@@ -1,4 +1,3 @@
-use Prim.Native.Nat.{◌-◌}
 use native.Mathlib.Omega.{arith}
 use Rattle.ground.proofs.Fill.{makes, make_next}
 use Rattle.list_arcs.specs.Arc.{skip_of}

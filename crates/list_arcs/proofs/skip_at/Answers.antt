@@ -1,4 +1,3 @@
-use Prim.Native.Nat.{◌-◌}
 use native.Mathlib.Omega.{arith}
 use Rattle.ground.proofs.Scan.{scans}
 use Rattle.list_arcs.proofs.Nexts.{row_below}

@@ -1,4 +1,3 @@
-use Prim.Native.Nat.{◌-◌}
 use Rattle.list_index.proofs.Finds.{Seeks}
 use Rattle.list_index.proofs.find.Given as goal
 

@@ -1,4 +1,3 @@
-use Prim.Native.Nat.{◌-◌}
 use Rattle.list_index.proofs.Hashes.{mixed_next, hashes}
 use borrow.Author.Rules.{rules}
 use Rattle.list_index.proofs.hash_of.Goals as goal

@@ -1,4 +1,3 @@
-use Prim.Native.Nat.{◌-◌}
 use Rattle.ground.proofs.Scan.{tally_start, tally_next, tally_fits}
 use Rattle.list_index.proofs.Wholly.{whole_end}
 use borrow.Author.Rules.{rules}

@@ -1,10 +1,9 @@
-use Prim.Native.Nat.{◌+◌, ◌*◌, ◌-◌, ◌≤◌}
+use Prim.Native.Nat.{◌+◌, ◌*◌, ◌≤◌}
 use lib.ListN.{length}
 use native.Mathlib.Omega.{arith}
 use native.Mathlib.Nat.{add-sub_cancel_left}
 use Rattle.ground.proofs.Fill.{make_start, make_next}
 use Rattle.net.proofs.Rows.{row_end}
-use Rattle.list_index.specs.Index.{change_of}
 use Rattle.list_index.proofs.Sums.{changes_made}
 use borrow.Author.Rules.{rules}
 use Rattle.list_index.proofs.make_changes.Goals as goal

@@ -1,5 +1,4 @@
 use native.Mathlib.Omega.{arith}
-use Prim.Native.Nat.{◌-◌}
 use Rattle.ground.proofs.Fill.{makes}
 use Rattle.list_pairs.proofs.Fires.{passes_at, fired_any_lem}
 use borrow.Author.Rules.{rules}

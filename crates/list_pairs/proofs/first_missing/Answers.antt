@@ -1,8 +1,5 @@
-use mathlib.Core.Logic.{⊎_elim}
 use native.Mathlib.Omega.{arith}
-use Prim.Native.Nat.{◌-◌}
-use mathlib.Core.Path.{sym, ap, ◌∙◌}
-use lib.ListN.{length}
+use mathlib.Core.Path.{◌∙◌}
 use Rattle.net.specs.Net.{net_of}
 use Rattle.ground.proofs.Scan.{scans}
 use Rattle.lists.proofs.Wholes.{marking_end}

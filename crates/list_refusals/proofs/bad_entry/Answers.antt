@@ -1,5 +1,4 @@
 use native.Mathlib.Omega.{arith}
-use Prim.Native.Nat.{◌-◌}
 use lib.ListN.{length}
 use Rattle.ground.proofs.Scan.{scans}
 use Rattle.list_refusals.proofs.Entries.{place_below}

@@ -1,4 +1,3 @@
-use Prim.Native.Nat.{◌-◌}
 use Rattle.ground.proofs.Scan.{tallies, tally_fits}
 use borrow.Author.Rules.{rules}
 use Rattle.list_refusals.proofs.is_fine.Goals as goal

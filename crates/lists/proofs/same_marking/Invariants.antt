@@ -1,9 +1,8 @@
-use Prim.Native.Nat.{ℕ, ◌≤◌, ◌<◌, ◌-◌}
+use Prim.Native.Nat.{ℕ, ◌≤◌, ◌<◌}
 use mathlib.Core.Path.{◌≡◌}
 use mathlib.Core.Bool.{Bool, false}
 use lib.ListN.{length, get_or}
 use Rattle.refusals.specs.Given.{unlike}
-use Rattle.lists.specs.Some.{none}
 use Rattle.lists.proofs.same_marking.Given as goal
 
 -- no place from i on, of n, passes the test: what a scan from the last place down knows at i

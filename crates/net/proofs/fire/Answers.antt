@@ -1,4 +1,3 @@
-use Prim.Native.Nat.{◌-◌}
 use Rattle.ground.proofs.Fill.{fills}
 use Rattle.net.proofs.Letters.{fill_enough, fill_small}
 use borrow.Author.Rules.{rules}

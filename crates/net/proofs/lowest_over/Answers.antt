@@ -1,4 +1,3 @@
-use Prim.Native.Nat.{◌-◌}
 use lib.ListN.{length}
 use Rattle.net.specs.Letter.{over, arcs_of}
 use Rattle.ground.proofs.Scan.{scan_hit, scan_next, scans}

@@ -1,5 +1,4 @@
 use Rattle.ground.proofs.Scan.{tallies, tally_fits}
-use Prim.Native.Nat.{◌-◌}
 use Rattle.net.proofs.Letters.{small_at}
 use borrow.Author.Rules.{rules}
 use Rattle.net.proofs.may_fire.Goals as goal

@@ -1,4 +1,3 @@
-use Prim.Native.Nat.{◌-◌}
 use Rattle.ground.proofs.Fill.{make_start, make_next}
 use Rattle.net.proofs.Copies.{widened_end}
 use borrow.Author.Rules.{rules}

@@ -1,4 +1,4 @@
-use Prim.Native.Nat.{ℕ, ◌-◌}
+use Prim.Native.Nat.{ℕ}
 use mathlib.Core.Path.{◌∙◌, ap}
 use native.Mathlib.Nat.{le_antisymm}
 use native.Mathlib.Omega.{arith}
@@ -28,8 +28,8 @@ loop-i-smaller c = omega arith
 pub loop-i-preserved : goal.loop-i-preserved
 loop-i-preserved c =
     elim c.if-order-i.branch [
-      then-order-i w ↦ (omega arith, (omega arith, w.n-is ∙ count_hit c.args.which c.args.order.now c.loop-i.i c.loop-i.n (omega arith) c.loop-i.invariant.1.1 w.if-order-i.true))
-    | else-order-i w ↦ (omega arith, (omega arith, w.n-is ∙ count_miss c.args.which c.args.order.now c.loop-i.i c.loop-i.n (omega arith) c.loop-i.invariant.1.1 w.if-order-i.false))
+      | then-order-i w ↦ (omega arith, (omega arith, w.n-is ∙ count_hit c.args.which c.args.order.now c.loop-i.i c.loop-i.n (omega arith) c.loop-i.invariant.1.1 w.if-order-i.true))
+      | else-order-i w ↦ (omega arith, (omega arith, w.n-is ∙ count_miss c.args.which c.args.order.now c.loop-i.i c.loop-i.n (omega arith) c.loop-i.invariant.1.1 w.if-order-i.false))
     ]
 
 pub returns : goal.returns

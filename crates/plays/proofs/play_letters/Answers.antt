@@ -1,4 +1,3 @@
-use Prim.Native.Nat.{◌-◌}
 use native.Mathlib.Omega.{arith}
 use Rattle.plays.proofs.Words.{run_stops, runs}
 use borrow.Author.Rules.{rules}

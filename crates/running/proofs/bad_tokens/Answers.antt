@@ -1,4 +1,3 @@
-use Prim.Native.Nat.{◌-◌}
 use Rattle.ground.proofs.Scan.{scans}
 use borrow.Author.Rules.{rules}
 use Rattle.running.proofs.bad_tokens.Goals as goal

@@ -1,4 +1,3 @@
-use Prim.Native.Nat.{◌-◌}
 use Rattle.ground.proofs.Scan.{scans}
 use Rattle.sets.proofs.Touches.{touching}
 use borrow.Author.Rules.{rules}

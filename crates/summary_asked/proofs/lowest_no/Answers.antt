@@ -1,5 +1,4 @@
 use native.Mathlib.Omega.{arith}
-use Prim.Native.Nat.{◌-◌}
 use Rattle.ground.proofs.Scan.{scans}
 use Rattle.summary_place.specs.Walk.{slot_limit, Wells}
 use borrow.Author.Rules.{rules}

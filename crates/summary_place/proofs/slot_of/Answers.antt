@@ -1,5 +1,4 @@
 use Rattle.summary_place.proofs.Running.{runs, run_letter}
-use Prim.Native.Nat.{◌-◌}
 use Rattle.net.specs.Net.{net_of}
 use borrow.Author.Rules.{rules}
 use Rattle.summary_place.proofs.slot_of.Goals as goal

@@ -1,7 +1,6 @@
 use Rattle.summary_place.specs.Walk.{slot_limit, Wells}
 use Rattle.summary_slots.proofs.Joins.{joining, joins_end}
 use Rattle.summary_slots.proofs.Tests.{well_at}
-use Prim.Native.Nat.{◌-◌}
 use Rattle.ground.proofs.Fill.{fills}
 use borrow.Author.Rules.{rules}
 use Rattle.summary_slots.proofs.join_slots.Goals as goal

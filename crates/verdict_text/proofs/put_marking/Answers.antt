@@ -1,5 +1,4 @@
 use native.Mathlib.Omega.{arith}
-use Prim.Native.Nat.{◌-◌}
 use Rattle.verdict_text.proofs.Puts.{puttings}
 use borrow.Author.Rules.{rules}
 use Rattle.verdict_text.proofs.put_marking.Goals as goal

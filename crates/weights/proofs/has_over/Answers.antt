@@ -1,4 +1,3 @@
-use Prim.Native.Nat.{◌-◌}
 use Rattle.ground.proofs.Scan.{tallies, tally_fits}
 use Rattle.weights.proofs.Heavies.{row_told}
 use borrow.Author.Rules.{rules}

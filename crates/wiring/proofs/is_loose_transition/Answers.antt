@@ -1,4 +1,3 @@
-use Prim.Native.Nat.{◌-◌}
 use native.Mathlib.Omega.{arith}
 use Rattle.net.specs.Net.{net_of}
 use Rattle.wiring.proofs.Loose.{transitions_scanned, transition_next, cell_inside}

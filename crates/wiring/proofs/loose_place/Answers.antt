@@ -1,4 +1,3 @@
-use Prim.Native.Nat.{◌-◌}
 use Rattle.ground.proofs.Scan.{scans}
 use borrow.Author.Rules.{rules}
 use Rattle.wiring.proofs.loose_place.Goals as goal
