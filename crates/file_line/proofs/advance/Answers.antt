@@ -1,3 +1,4 @@
+use borrow.Author.Rules.{rules}
 use native.Mathlib.Omega.{arith}
 use mathlib.Core.Path.{sym, ◌∙◌}
 use Rattle.file_line.proofs.Accept.{both, advanced_01, advanced_row, advanced_05, advanced_rest}

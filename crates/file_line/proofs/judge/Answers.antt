@@ -1,3 +1,4 @@
+use borrow.Author.Rules.{rules}
 use native.Mathlib.Omega.{arith}
 use mathlib.Core.Path.{sym, ◌∙◌}
 use mathlib.Core.Bool.{true}
@@ -43,4 +44,4 @@ pub returns-in-7 : goal.returns-in-7
 returns-in-7 c = judge_07 _ _ _ (sym c.rule.ensures ∙ c.if-not-rule.false) (sym c.is_formed.ensures ∙ c.if-not-is_formed.false) _ (sym c.byte_at-kind.ensures ∙ c.in-7.is) c.weights_fault.ensures
 
 pub returns-in_default : goal.returns-in_default
-returns-in_default c = let e = sym c.byte_at-kind.ensures in let r = c.in_default.in_default-own.rest in judge_rest _ _ _ (sym c.rule.ensures ∙ c.if-not-rule.false) (sym c.is_formed.ensures ∙ c.if-not-is_formed.false) (λ q. r.0.0.0.1 (sym e ∙ q)) (λ q. r.0.0.1 (sym e ∙ q)) (λ q. r.0.1 (sym e ∙ q)) (λ q. r.1 (sym e ∙ q))
+returns-in_default c = let e = sym c.byte_at-kind.ensures in judge_rest _ _ _ (sym c.rule.ensures ∙ c.if-not-rule.false) (sym c.is_formed.ensures ∙ c.if-not-is_formed.false) (search rules) (search rules) (search rules) (search rules)

@@ -1,3 +1,4 @@
+use borrow.Author.Rules.{rules}
 use mathlib.Core.Logic.{inl, inr}
 use Rattle.file_line.proofs.Accept.{phase_row}
 use borrow.Author.Tests.{ne_eqb}
@@ -16,4 +17,4 @@ pub returns-in-6 : goal.returns-in-6
 returns-in-6 c = simp c.in-6.is
 
 pub returns-in_default : goal.returns-in_default
-returns-in_default c = let r = c.in_default.in_default-own.rest in simp (ne_eqb _ 2 r.0.0.0.1, ne_eqb _ 4 (λ q. r.0.0.1 (inl q)), ne_eqb _ 7 (λ q. r.0.0.1 (inr q)), ne_eqb _ 5 r.0.1, ne_eqb _ 6 r.1)
+returns-in_default c = simp (ne_eqb c.args.kind 2 (search rules), ne_eqb c.args.kind 4 (search rules), ne_eqb c.args.kind 7 (search rules), ne_eqb c.args.kind 5 (search rules), ne_eqb c.args.kind 6 (search rules))

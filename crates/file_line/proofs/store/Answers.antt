@@ -1,3 +1,4 @@
+use borrow.Author.Rules.{rules}
 use native.Mathlib.Omega.{arith}
 use mathlib.Core.Path.{sym, ◌∙◌}
 use Rattle.file_line.specs.Read.{stored_kind}
@@ -45,4 +46,4 @@ unfolding stored_kind
 returns-in-6 c = simp (sym c.byte_at-kind.ensures ∙ c.in-6.is, c.store_marks.ensures, c.mask_at.ensures)
 
 pub returns-in_default : goal.returns-in_default
-returns-in_default c = let r = c.in_default.in_default-own.rest in sym (simp (← c.byte_at-kind.ensures) (stored_rest _ _ _ _ r.0.0.0.0.1 r.0.0.0.1 r.0.0.1 r.0.1 r.1))
+returns-in_default c = sym (simp (← c.byte_at-kind.ensures) (stored_rest _ _ _ _ (search rules) (search rules) (search rules) (search rules) (search rules)))

@@ -1,5 +1,6 @@
 use native.Mathlib.Omega.{arith}
 use Prim.Native.Nat.{◌-◌}
+use borrow.Author.Tests.{eqb-true, eqb-false}
 use Rattle.file_parts.proofs.Line.{large, bounds}
 use Rattle.file_parts.proofs.Buffer.{reads_start, reads_next, reads_end, reads_stopped}
 use Rattle.file_parts.proofs.read_part.Goals as goal
@@ -19,7 +20,7 @@ loop-at-smaller c = let b = bounds _ c.loop-at.at c.line_end-e.result c.line_end
 pub loop-at-preserved : goal.loop-at-preserved
 loop-at-preserved c =
     reads_next _ _ _ _ _ _ c.loop-at.invariant c.line_end-e.result _ _ c.feed_line-r.ensures.value c.feed_line-r.ensures.sound
-    (record { caps = omega arith; marks = omega arith; initial = omega arith; pre = omega arith; post = omega arith; word = omega arith })
+    (record { caps = c.feed_line-r.auto.caps; marks = c.feed_line-r.auto.marks; initial = c.feed_line-r.auto.initial; pre = c.feed_line-r.auto.pre; post = c.feed_line-r.auto.post; word = c.feed_line-r.auto.word })
 
 pub shape_of-caps-else-r-eq0 : goal.shape_of-caps-else-r-eq0
 shape_of-caps-else-r-eq0 c = c.loop-at.invariant.same.caps
