@@ -51,6 +51,15 @@ def contracts(crate, cache={}):
     return cache[crate]
 
 
+def params(crate, name):
+    """The names of a function's parameters."""
+    for f in glob.glob(f"crates/{crate}/src/**/*.rt", recursive=True):
+        m = re.search(rf"\bfn {re.escape(name)}(?:<[^>]*>)?\(([^)]*)\)", open(f, encoding="utf-8").read())
+        if m:
+            return re.findall(r"(\w+)\s*:(?!:)", m.group(1))
+    return []
+
+
 def clause(names, segs):
     """Turns a path into a product of clauses into the clause's name and the rest."""
     names = [n or None for n in names]
@@ -91,6 +100,23 @@ class Function:
         return contracts(self.crate).get(self.name.split(".")[-1], ([], []))
 
     def walk(self, place, segs):
+        """The place or the path that segs lead to from place: by the steps back, else by the nearest step of that name."""
+        got = self.walk_back(place, segs)
+        rest = list(segs)
+        while got is None and rest and rest[0] == "before":
+            rest.pop(0)
+        if got is None and rest:
+            if rest[0] in ("args", "pre", "requires", "ranges", "utf8", "fits"):
+                return self.walk_back("Start", rest)
+            at = place
+            while at is not None:
+                got = self.walk_back(at, rest)
+                if got is not None:
+                    return got
+                at = self.parent.get(at)
+        return got
+
+    def walk_back(self, place, segs):
         """The place or the path that segs lead to from place: ('place', p) or ('text', path)."""
         segs = list(segs)
         while segs:
@@ -107,12 +133,18 @@ class Function:
                 s = "ranges" if s == "fits" else s
                 if s in ("pre", "requires"):
                     return "text", ["c", "requires"] + clause(self.own()[0], rest)
+                m = re.fullmatch(r"t(\d+)", rest[0]) if rest else None
+                names = params(self.crate, self.name.split(".")[-1])
+                if m and rest[0] not in names and int(m.group(1)) <= len(names):
+                    rest = [names[int(m.group(1)) - 1]] + rest[1:]
                 return "text", ["c", s] + rest
             if norm(s) == old or norm(s).lower() == old.lower():
                 rest = segs[1:]
                 if rest:
                     if rest[0] == "inv":
                         rest[0] = "invariant"
+                    elif rest[0] == "left" and (old.startswith("if") or old.endswith("test")):
+                        rest[0] = "false"
                     elif rest[0] == "taken":
                         rest[0] = "true" if place.startswith("In-") or place.startswith("Then") else "false"
                     elif rest[0] == "ensures" and self.call[place]:
@@ -153,6 +185,11 @@ class Function:
                         continue
                     env.pop(name, None)
                     shown = self.turn(value, env)
+                    call = re.match(r"\(?([^\s()]+)\s", value)
+                    if kind is None and call and self.macros_type.get(call.group(1)) and call.group(1) in self.macros and len(self.macros_param[call.group(1)]) == 1:
+                        who, kind_ = self.macros_type[call.group(1)]
+                        out.append("let " + name + " : " + self.turn(kind_, {who: self.macros[call.group(1)][1]}) + " = " + shown + " in ")
+                        continue
                     out.append("let " + name + (" : " + self.turn(kind, env) if kind else "") + " = " + shown + " in ")
                     continue
             m = re.compile(r"\(([^\s()]+)\s+([^\s()]+|\([^()]*\))\)((?:\.[^\s(){}\[\].,;:]+)*)").match(text, i)
@@ -173,7 +210,7 @@ class Function:
                 word = m.group(0)
                 root, segs = word.split(".")[0], word.split(".")[1:]
                 if root in self.macros and not segs and self.macros[root][0] == "value":
-                    one = re.compile(r"\s+([^\s(),;\[\]]+|\((?:[^()]|\((?:[^()]|\([^()]*\))*\))*\))")
+                    one = re.compile(r"\s+([^\s(),;\[\]]+|\((?:[^()]|\((?:[^()]|\([^()]*\))*\))*\)(?:\.[^\s(){}\[\].,;:]+)*)")
                     arg = one.match(text, m.end())
                     if arg and (arg.group(1).startswith("(") or self.place_of(arg.group(1), env)):
                         _, place, body = self.macros[root]
@@ -186,6 +223,9 @@ class Function:
                             arg = next_
                             more[name] = self.turn(arg.group(1), env)
                         shown = self.turn(substitute(body, more) if more else body, {self.macros_param[root][0]: place})
+                        typed = self.typed(root, more)
+                        if typed and re.match(r"\(?(rw|simp|search|omega|let|\()(?![\w-])", shown):
+                            shown = "let h : " + typed + " = " + shown + " in h"
                         bare = "".join(out)[-1:] == "(" and text[arg.end():arg.end() + 1] == ")"
                         out.append(shown if bare or re.fullmatch(ATOM, shown) else "(" + shown + ")")
                         i = arg.end()
@@ -200,6 +240,31 @@ class Function:
             out.append(text[i])
             i += 1
         return "".join(out)
+
+    def typed(self, root, more):
+        """The type of a helper's value, at the places and arguments that it is given."""
+        if not self.macros_type.get(root):
+            return None
+        who, kind = self.macros_type[root]
+        parts, depth, start = [], 0, 0
+        for k, ch in enumerate(kind):
+            depth += ch in "({["
+            depth -= ch in ")}]"
+            if depth == 0 and ch == "→":
+                parts.append(kind[start:k].strip())
+                start = k + 1
+        parts.append(kind[start:].strip())
+        n = len(self.macros_param[root]) - 1
+        if len(parts) <= n:
+            return None
+        table = {}
+        for part, name in zip(parts[:n], self.macros_param[root][1:]):
+            m = re.match(r"\(([^\s:]+) : ", part)
+            if m and name in more:
+                table[m.group(1)] = more[name]
+        last = " → ".join(parts[n:])
+        turned = self.turn(last, {who or self.macros_param[root][0]: self.macros[root][1]})
+        return substitute(turned, table) if table else turned
 
     def let_end(self, text, i):
         """Where the `in` of a let stands."""
@@ -365,7 +430,10 @@ def tuple_parts(text, n):
         return None
     if len(parts) == n:
         return parts
-    rest = tuple_parts(parts[1] if len(parts) == 2 else "(" + ", ".join(parts[1:]) + ")", n - 1)
+    last = parts[1] if len(parts) == 2 else "(" + ", ".join(parts[1:]) + ")"
+    rest = tuple_parts(last, n - 1)
+    if rest is None and re.fullmatch(ATOM, last):
+        rest = [".".join([last] + ["1"] * i + ([] if i == n - 2 else ["0"])) for i in range(n - 1)]
     return [parts[0]] + rest if rest else None
 
 
@@ -387,7 +455,7 @@ def recordize(text, names):
     body = last.strip()
     pad = last[:len(last) - len(last.lstrip())]
     parts = tuple_parts(body, len(names))
-    if parts and "search rules" in parts:
+    if parts and "search rules" in parts and "let " not in head:
         return [(n, head + pad + p) for n, p in zip(names, parts) if p != "search rules"]
     if parts:
         return head + pad + "record { " + "; ".join(f"{n} = {p}" for n, p in zip(names, parts)) + " }"
@@ -435,7 +503,7 @@ def turn_proof(crate, folder, info):
     parts = blocks(body)
     kept, answers, invariants = [], {}, []
     loops = {norm(l[0][0]): (l[0][1], l[1], ch) for l, ch in zip(info["loops"], info["changed"])}
-    f.macros_param = {}
+    f.macros_param, f.macros_type = {}, {}
     f.answers = {}
     raw = {}
     for part in parts:
@@ -469,7 +537,7 @@ def turn_proof(crate, folder, info):
         if m and re.match(r"tie\.Need-", m.group(2)):
             raw[m.group(1)] = (comment, code)
             continue
-        if m and "tie." in part and not re.search(r"statement M", part):
+        if m and ("tie." in part or any(re.search(rf"(?<![^{SEP}]){re.escape(a)}(?![^{SEP}])", m.group(2)) for a in f.alias)) and not re.search(r"statement M", part):
             # a helper over places, or a type's other name
             al = re.match(r"(?:abbrev )?(\S+) : Type 0", head)
             if al and len(code) > 1 and "= tie." in code[1]:
@@ -478,16 +546,17 @@ def turn_proof(crate, folder, info):
                     f.alias[m.group(1)] = p
                     continue
             kind = m.group(2)
-            first = re.match(r"\(([^\s:]+) : (tie\.[^()]*)\)\s*→?\s*(.*)$", kind) or re.match(r"()(tie\.[^→]*)→\s*(.*)$", kind) or (re.match(r"()([^\s→()]+)\s*→\s*(.*)$", kind) if kind.split()[0] in f.alias else None)
+            first = re.match(r"\(([^\s:]+) : (tie\.[^()]*)\)\s*→?\s*(.*)$", kind) or re.match(r"\(([^\s:]+) : (%s)\)\s*→?\s*(.*)$" % ("|".join(map(re.escape, f.alias)) or "$^"), kind) or re.match(r"()(tie\.[^→]*)→\s*(.*)$", kind) or (re.match(r"()([^\s→()]+)\s*→\s*(.*)$", kind) if kind.split()[0] in f.alias else None)
             rest = "\n".join(l for l in code[1:] if not l.startswith("unfolding"))
             if first and "=" in rest:
                 p = f.place(first.group(2))
                 left = rest[:rest.index("=")].split()
                 value = rest[rest.index("=") + 1:].strip()
                 to = f.place(first.group(3))
-                if p and len(left) >= 2:
+                if (p or to) and len(left) >= 2:
                     f.macros_param[m.group(1)] = left[1:]
                     f.macros[m.group(1)] = ("place", to) if to and len(left) == 2 else ("value", p, value)
+                    f.macros_type[m.group(1)] = None if head.startswith("abbrev") else (first.group(1), first.group(3))
                     continue
             al2 = re.match(r"(?:abbrev )?(\S+) : Type", head)
             f.trouble.append("helper " + head[:80])
@@ -530,7 +599,7 @@ def turn_proof(crate, folder, info):
         value = rest[eq + 1:].strip()
         flat = re.sub(r"\s+", " ", value)
         cited = len(re.findall(rf"(?<![^{SEP}]){re.escape(n)}(?![^{SEP}])", referred)) > 2
-        if flat == "search rules" and not cited and not comment:
+        if flat == "search rules" and not cited and not comment and not unfold:
             continue
         turned = f.turn(value, {binders[0]: at} if binders else {})
         # What the test of an `if !x` says is now said of x itself.

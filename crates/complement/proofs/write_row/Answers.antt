@@ -1,4 +1,4 @@
-use Prim.Native.Nat.{◌-◌, ◌≤◌, ◌<◌}
+use Prim.Native.Nat.{◌-◌, ◌≤◌}
 use mathlib.Core.Path.{refl}
 use native.Mathlib.Omega.{arith}
 use lib.ListN.{length, get_or}
@@ -7,10 +7,6 @@ use Rattle.complement.specs.Walk.{taken_from, put_to}
 use Rattle.complement.proofs.Written.{copy_start, map_next, map_end}
 use Rattle.complement.proofs.write_row.Goals as goal
 
--- the turn's source stands inside the rows
-inside : (i : Turn) → get_or (start i).args.sources.now i.before.loop.q 0 < length (start i).args.puts.now
-inside i = (start i).pre.1.1.0.at i.before.loop.q i.loop-test.taken
-
 pub loop-q-init : goal.loop-q-init
 loop-q-init c = (copy_start _ _ _, copy_start _ _ _)
 
@@ -18,19 +14,19 @@ pub bounds-sources-q : goal.bounds-sources-q
 bounds-sources-q c = omega (arith, c.loop-q-test.true)
 
 pub offset_bounds-takes-p : goal.offset_bounds-takes-p
-offset_bounds-takes-p c = omega (arith, c.loop-q-test.true, c.requires.takes_len, inside c)
+offset_bounds-takes-p c = omega (arith, c.loop-q-test.true, c.requires.takes_len, (c.requires.inside.at c.loop-q.q c.loop-q-test.true))
 
 pub bounds-takes-p : goal.bounds-takes-p
-bounds-takes-p c = omega (arith, c.loop-q-test.true, c.requires.takes_len, inside c)
+bounds-takes-p c = omega (arith, c.loop-q-test.true, c.requires.takes_len, (c.requires.inside.at c.loop-q.q c.loop-q-test.true))
 
 pub offset_bounds-puts-p : goal.offset_bounds-puts-p
-offset_bounds-puts-p c = omega (arith, c.loop-q-test.true, c.requires.takes_len, inside c)
+offset_bounds-puts-p c = omega (arith, c.loop-q-test.true, c.requires.takes_len, (c.requires.inside.at c.loop-q.q c.loop-q-test.true))
 
 pub bounds-puts-p : goal.bounds-puts-p
-bounds-puts-p c = omega (arith, c.loop-q-test.true, c.requires.takes_len, inside c)
+bounds-puts-p c = omega (arith, c.loop-q-test.true, c.requires.takes_len, (c.requires.inside.at c.loop-q.q c.loop-q-test.true))
 
 pub bounds-marks-p : goal.bounds-marks-p
-bounds-marks-p c = omega (arith, c.loop-q-test.true, c.requires.marks_len, inside c)
+bounds-marks-p c = omega (arith, c.loop-q-test.true, c.requires.marks_len, (c.requires.inside.at c.loop-q.q c.loop-q-test.true))
 
 pub bounds-pre2-to : goal.bounds-pre2-to
 bounds-pre2-to c = omega (arith, c.loop-q-test.true, c.requires.sources_in_bounds, c.loop-q.invariant.0.long)

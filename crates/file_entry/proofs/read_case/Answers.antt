@@ -28,4 +28,4 @@ pub shape_of-word : goal.shape_of-word
 shape_of-word c = c.read_into.auto.word
 
 pub returns : goal.returns
-returns c = right_lengths _ _ _ c.is_largest-fits.ensures _ _ (c.if-not-fits.left) c.read_into.ensures
+returns c = right_lengths _ _ _ c.is_largest-fits.ensures _ _ (c.if-not-fits.false) c.read_into.ensures

@@ -5,4 +5,4 @@ pub returns-then-d-s : goal.returns-then-d-s
 returns-then-d-s c = simp (ne_eqb _ _ c.if-d-s.true)
 
 pub returns : goal.returns
-returns c = simp (eq-eqb _ _ c.if-d-s.left, ← c.byte_at.ensures, c.wide.ensures)
+returns c = simp (eq-eqb _ _ c.if-d-s.false, ← c.byte_at.ensures, c.wide.ensures)

@@ -1,13 +1,8 @@
 use native.Mathlib.Omega.{arith}
 use mathlib.Core.List.{[]}
-use borrow.Author.Tests.{not-false}
 use Rattle.file_line.specs.Read.{rooms}
 use Rattle.file_line.proofs.Hanging.{cells_few, front_long, not_asked, asked_loose, net_sized}
 use Rattle.file_line.proofs.is_net_loose.Goals as goal
-
--- the calls before a need, and the tables at the function's entry
-abbrev told : tie.After-is-loose-arg4 → tie.Else1
-told c = c.before.before.before.before
 
 pub returns-then-not-is_last_row : goal.returns-then-not-is_last_row
 returns-then-not-is_last_row c = not_asked c.args.s c.args.d.now _ c.byte_at-kind.ensures _ c.is_last_row.ensures (rooms c.args.caps.now c.args.marks.now [] c.args.pre.now c.args.post.now []) (c.if-not-is_last_row.true)
@@ -28,7 +23,7 @@ pub slice_bounds-is_loose-end-4 : goal.slice_bounds-is_loose-end-4
 slice_bounds-is_loose-end-4 c = front_long _ _ (omega (arith, c.requires.0.places, c.requires.2.marks))
 
 pub is_loose-requires : goal.is_loose-requires
-is_loose-requires c = let e = told c in net_sized c.args.s c.args.d.now _ e.before.before.byte_at.ensures _ e.before.is-last-row.ensures (not-false _ e.if1.left) c.requires.0 c.requires.1 _ _ _ _ c.requires.2
+is_loose-requires c = net_sized c.args.s c.args.d.now _ c.byte_at-kind.ensures _ c.is_last_row.ensures (c.if-not-is_last_row.false) c.requires.0 c.requires.1 _ _ _ _ c.requires.2
 
 pub returns : goal.returns
-returns c = let e = told c in asked_loose c.args.s c.args.d.now _ e.before.before.byte_at.ensures _ e.before.is-last-row.ensures (not-false _ e.if1.left) (rooms c.args.caps.now c.args.marks.now [] c.args.pre.now c.args.post.now []) _ c.is_loose.ensures
+returns c = asked_loose c.args.s c.args.d.now _ c.byte_at-kind.ensures _ c.is_last_row.ensures (c.if-not-is_last_row.false) (rooms c.args.caps.now c.args.marks.now [] c.args.pre.now c.args.post.now []) _ c.is_loose.ensures

@@ -1,5 +1,6 @@
-use mathlib.Core.Path.{sym, ◌∙◌}
+use mathlib.Core.Path.{◌≡◌, sym, ◌∙◌}
 use native.Mathlib.Omega.{arith}
+use Rattle.refusals.specs.declared.Fault.TheVariants.{Sound}
 use Rattle.file_line.specs.Read.{rooms}
 use Rattle.file_line.proofs.Judging.{asked_refused, stored_took, stored_rooms}
 use Rattle.file_line.proofs.Accept.{asked_accepted}
@@ -8,13 +9,13 @@ use borrow.Author.Rules.{rules}
 use Rattle.file_line.proofs.read_line.Goals as goal
 
 pub store-requires : goal.store-requires
-store-requires c = let p = c.requires in (p.0, asked_accepted _ _ _ (sym c.judge-fault.ensures ∙ (search rules)), p.1)
+store-requires c = let p = c.requires in (p.0, asked_accepted _ _ _ (sym c.judge-fault.ensures ∙ (let h : c.judge-fault.result ≡ Sound = search rules in h)), p.1)
 
 pub take_line-requires : goal.take_line-requires
 take_line-requires c =
     let p = c.requires in (
       p.0,
-      asked_accepted _ _ _ (sym c.judge-fault.ensures ∙ (search rules)),
+      asked_accepted _ _ _ (sym c.judge-fault.ensures ∙ (let h : c.judge-fault.result ≡ Sound = search rules in h)),
       record {
         caps = omega (arith, p.1.caps, c.store.kept.1.1.0);
         marks = omega (arith, p.1.marks, c.store.kept.1.1.1.0);
@@ -27,4 +28,4 @@ pub returns-in-Faulty : goal.returns-in-Faulty
 returns-in-Faulty c = let x = (rooms c.args.caps.now c.args.marks.now c.args.initial.now c.args.pre.now c.args.post.now c.args.word.now) in let a = asked_refused c.args.s c.args.d.now x c.judge-fault.result c.judge-fault.ensures _ _ c.fault-1.given.1 in let l = refused_line c.args.s c.args.d.now x _ _ a.0 in let n = judged_number c.args.s c.args.d.now x _ _ a.0 in record { value = sym l.0; lent = sym (rw a.1 at l.1); good = n.0 }
 
 pub returns-in-Sound : goal.returns-in-Sound
-returns-in-Sound c = let x = (rooms c.args.caps.now c.args.marks.now c.args.initial.now c.args.pre.now c.args.post.now c.args.word.now) in let took = stored_took c.args.s c.args.d.now x c.judge-fault.result c.judge-fault.ensures (search rules) _ c.store.ensures _ c.take_line.ensures.value in let left = stored_rooms c.args.s c.args.d.now x c.judge-fault.result c.judge-fault.ensures (search rules) _ c.store.ensures in record { value = took; lent = left; good = c.take_line.ensures.good }
+returns-in-Sound c = let x = (rooms c.args.caps.now c.args.marks.now c.args.initial.now c.args.pre.now c.args.post.now c.args.word.now) in let took = stored_took c.args.s c.args.d.now x c.judge-fault.result c.judge-fault.ensures (let h : c.judge-fault.result ≡ Sound = search rules in h) _ c.store.ensures _ c.take_line.ensures.value in let left = stored_rooms c.args.s c.args.d.now x c.judge-fault.result c.judge-fault.ensures (let h : c.judge-fault.result ≡ Sound = search rules in h) _ c.store.ensures in record { value = took; lent = left; good = c.take_line.ensures.good }

@@ -8,4 +8,4 @@ pub returns-then-is_net_loose : goal.returns-then-is_net_loose
 returns-then-is_net_loose c = record { value = line_loose c.args.s _ _ c.is_net_loose.ensures _ c.if-is_net_loose.true; good = omega arith }
 
 pub returns : goal.returns
-returns c = record { value = ap Next c.advance.ensures.value ∙ line_wired c.args.s _ _ c.is_net_loose.ensures _ c.if-is_net_loose.left; good = c.advance.ensures.good }
+returns c = record { value = ap Next c.advance.ensures.value ∙ line_wired c.args.s _ _ c.is_net_loose.ensures _ c.if-is_net_loose.false; good = c.advance.ensures.good }

@@ -21,4 +21,4 @@ pub returns-then-r-ne0 : goal.returns-then-r-ne0
 returns-then-r-ne0 c = record { value = line_long c.args.h _ _ c.requires.0 c.requires.1 _ _ c.requires.2 c.requires.3 c.hold-r.result c.hold-r.ensures.value (search rules) c.if-r-ne0.true; sound = c.hold-r.ensures.sound }
 
 pub returns : goal.returns
-returns c = record { value = line_whole c.args.h _ (rooms c.args.caps.now c.args.marks.now c.args.initial.now c.args.pre.now c.args.post.now c.args.word.now) c.requires.0 c.requires.1 _ _ c.requires.2 c.requires.3 c.hold-r.result c.hold-r.ensures.value c.if-e-part.left _ c.end_line.ensures.value; sound = c.end_line.ensures.sound }
+returns c = record { value = line_whole c.args.h _ (rooms c.args.caps.now c.args.marks.now c.args.initial.now c.args.pre.now c.args.post.now c.args.word.now) c.requires.0 c.requires.1 _ _ c.requires.2 c.requires.3 c.hold-r.result c.hold-r.ensures.value c.if-e-part.false _ c.end_line.ensures.value; sound = c.end_line.ensures.sound }

@@ -12,7 +12,7 @@ pub feed_line-r-requires : goal.feed_line-r-requires
 feed_line-r-requires c = (c.loop-at.invariant.sound, eqb-true _ _ c.if-r-eq0.true, omega (arith, c.loop-at-test.true), c.line_end-e.ensures, large _ _ c.loop-at.invariant.same c.requires.1)
 
 pub overflow_add-at : goal.overflow_add-at
-overflow_add-at c = let b = bounds _ c.loop-at.at c.line_end-e.result c.line_end-e.ensures (omega (arith, c.loop-at-test.true)) in omega (arith, b, i.before.before.before.before.before.before.before.before.good.1.0)
+overflow_add-at c = let b = bounds _ c.loop-at.at c.line_end-e.result c.line_end-e.ensures (omega (arith, c.loop-at-test.true)) in omega (arith, b)
 
 pub loop-at-smaller : goal.loop-at-smaller
 loop-at-smaller c = let b = bounds _ c.loop-at.at c.line_end-e.result c.line_end-e.ensures (omega (arith, c.loop-at-test.true)) in omega (arith, b, c.loop-at-test.true)

@@ -16,4 +16,4 @@ pub put_byte-requires : goal.put_byte-requires
 put_byte-requires c = omega (arith, c.requires.0, bytes_narrow c.args.kind c.if-kind-eq-WIDE_ROW.false)
 
 pub returns : goal.returns
-returns c = rw (text_narrow c.args.kind c.args.weight c.if-kind-eq-WIDE_ROW.left) c.put_byte.ensures
+returns c = rw (text_narrow c.args.kind c.args.weight c.if-kind-eq-WIDE_ROW.false) c.put_byte.ensures

@@ -1,3 +1,4 @@
+use mathlib.Core.Path.{refl}
 use lib.Seq.{length-take-le}
 use Rattle.order_rest.proofs.Parts.{part_refused, step_inside, first_left, second_left, part_first, part_second}
 use borrow.Author.Rules.{rules}
@@ -25,7 +26,7 @@ pub slice_bounds-result-start-else-order-step-eq0 : goal.slice_bounds-result-sta
 slice_bounds-result-start-else-order-step-eq0 c = second_left c.args.first.now c.args.second.now c.args.order.now c.args.step _ c.rest_fault-found.ensures (search rules) _ c.read_before-n.ensures c.if-order-step-eq0.false
 
 pub returns-in-Faulty : goal.returns-in-Faulty
-returns-in-Faulty c = part_refused c.args.first.now c.args.second.now c.args.order.now c.args.step _ c.rest_fault-found.ensures _ _ c.before.before.found.given.1
+returns-in-Faulty c = part_refused c.args.first.now c.args.second.now c.args.order.now c.args.step _ c.in-Faulty.ensures _ _ refl
 
 pub returns-then-order-step-eq0 : goal.returns-then-order-step-eq0
 returns-then-order-step-eq0 c = part_first c.args.first.now c.args.second.now c.args.order.now c.args.step _ c.rest_fault-found.ensures (search rules) _ c.read_before-n.ensures c.if-order-step-eq0.true

@@ -9,7 +9,7 @@ pub loop-p-init : goal.loop-p-init
 loop-p-init c = search (scans, rules)
 
 pub is_no-requires : goal.is_no-requires
-is_no-requires c = let w : Wells slot_limit c.args.t1 = search rules in (w.at c.loop-p.p (omega arith)).climb
+is_no-requires c = let w : Wells slot_limit c.args.slots = search rules in (w.at c.loop-p.p (omega arith)).climb
 
 pub returns-then-is_no : goal.returns-then-is_no
 returns-then-is_no c = search (scans, rules)

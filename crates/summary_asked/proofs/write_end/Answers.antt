@@ -17,7 +17,7 @@ pub loop-p-init : goal.loop-p-init
 loop-p-init c = search (makes, rules)
 
 pub end_at-e-requires : goal.end_at-e-requires
-end_at-e-requires c = let h : NeedsMet c.args.t1 c.args.marking.now = search rules in let e : length c.loop-p.room ≡ length c.args.room.now = c.loop-p.invariant.filled.long in let w : Wells slot_limit c.args.t1 = search rules in record { well = w.at c.loop-p.p (omega arith); need_le_tokens = h.at c.loop-p.p (omega arith) }
+end_at-e-requires c = let h : NeedsMet c.args.slots c.args.marking.now = search rules in let e : length c.loop-p.room ≡ length c.args.room.now = c.loop-p.invariant.filled.long in let w : Wells slot_limit c.args.slots = search rules in record { well = w.at c.loop-p.p (omega arith); need_le_tokens = h.at c.loop-p.p (omega arith) }
 
 pub loop-p-preserved : goal.loop-p-preserved
 loop-p-preserved c = search (makes, rules)
