@@ -73,6 +73,18 @@ def clause(names, segs):
     return segs
 
 
+def whole(path, names, segs):
+    """Several clauses at once, as the nested pairs that they were: for a path that ends before it has come to one clause."""
+    names = [n or None for n in names]
+    if len(names) <= 1 or not names[0] or any(s != "1" for s in segs) or len(segs) >= len(names) - 1:
+        return None
+    parts = [f"{path}.{n}" for n in names[len(segs):]]
+    text = parts[-1]
+    for part in reversed(parts[:-1]):
+        text = f"({part}, {text})"
+    return [text]
+
+
 class Function:
     def __init__(self, crate, name, info):
         self.crate, self.name, self.info = crate, name, info
@@ -132,7 +144,7 @@ class Function:
                 rest = segs[1:]
                 s = "ranges" if s == "fits" else s
                 if s in ("pre", "requires"):
-                    return "text", ["c", "requires"] + clause(self.own()[0], rest)
+                    return "text", whole("c.requires", self.own()[0], rest) or ["c", "requires"] + clause(self.own()[0], rest)
                 m = re.fullmatch(r"t(\d+)", rest[0]) if rest else None
                 names = params(self.crate, self.name.split(".")[-1])
                 if m and rest[0] not in names and int(m.group(1)) <= len(names):
@@ -149,7 +161,11 @@ class Function:
                         rest[0] = "true" if place.startswith("In-") or place.startswith("Then") else "false"
                     elif rest[0] == "ensures" and self.call[place]:
                         c, f = self.call[place].split("::")[0], self.call[place].split("::")[-1]
-                        rest = ["ensures"] + clause(contracts(c).get(f, ([], []))[1], rest[1:])
+                        names = contracts(c).get(f, ([], []))[1]
+                        all_ = whole(f"c.{new}.ensures", names, rest[1:])
+                        if all_:
+                            return "text", all_
+                        rest = ["ensures"] + clause(names, rest[1:])
                     elif rest[0] == "auto" and self.call[place] and self.call[place] in self.info["params"]:
                         names = self.info["params"][self.call[place]]
                         k, t = 0, rest[1:]

@@ -1,5 +1,5 @@
 -- A letter that passes, fired and taken back: place by place, within bounds, and as before. Assumes nothing.
-use Prim.Native.Nat.{ℕ, ◌+◌, ◌-◌, ◌*◌, ◌≤◌, ◌<◌, zero-le}
+use Prim.Native.Nat.{ℕ, ◌+◌, ◌*◌, ◌≤◌, ◌<◌, zero-le}
 use mathlib.Core.Path.{◌≡◌, ◌∙◌}
 use mathlib.Core.Bool.{true}
 use mathlib.Core.List.{List}
@@ -10,7 +10,7 @@ use lib.Seq.{ext_get_or}
 use Rattle.ground.specs.Limits.{weight_limit}
 use Rattle.ground.proofs.Fill.{map_at_length, map_at_at}
 use Rattle.net.specs.Net.{Net, Pre, Post, Light, Sized, tokens}
-use Rattle.net.specs.Letter.{row, arcs_at, passes, after, fired, fired_at, Small, Enough}
+use Rattle.net.specs.Letter.{row, arcs_at, passes, after, fired_at, Small, Enough}
 use Rattle.net.proofs.Rows.{row_at, row_length_lem, post_end}
 use Rattle.net.proofs.Judged.{enabled_of}
 use Rattle.order_find.specs.Walk.{taken_back}

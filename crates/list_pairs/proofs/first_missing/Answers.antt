@@ -10,6 +10,7 @@ use Rattle.lists.proofs.Pairs.{results_found, marking_passes, results_none}
 use Rattle.list_pairs.specs.Look.{missing}
 use borrow.Author.Rules.{rules}
 use Rattle.list_pairs.proofs.first_missing.Goals as goal
+use Rattle.list_pairs.proofs.first_missing.Goals.{else-markings-test, then-markings-test+then-loop-t-test+then-is_missing}
 
 pub markings-init : goal.markings-init
 markings-init c = search (scans, rules)
@@ -44,26 +45,14 @@ loop-t-preserved c = (c.is_missing.auto.room ∙ c.loop-t.invariant.0, (search r
 pub markings-preserved : goal.markings-preserved
 markings-preserved c = (search rules, (search rules, marking_passes (missing c.args.kind (net_of c.args.places c.args.transitions c.args.pre.now c.args.post.now c.args.caps.now c.args.marks.now) c.args.count c.args.list.now) c.args.transitions c.markings.k c.markings.invariant.1.1 c.loop-t.t c.loop-t.invariant.1.1 c.loop-t.invariant.1.0 c.loop-t-test.false))
 
-pub shape_of-room-then-k-count : goal.shape_of-room-then-k-count
-shape_of-room-then-k-count c =
-    let e = sym c.requires.room_len in ⊎_elim
-    (λ w. ap length w.1 ∙ c.markings.invariant.0 ∙ e)
-    (λ w. ap length w.9 ∙ w.5.kept.1.1.1.1.1.1.1.1.1.1.1.1.1.1.1.1.0 ∙ w.2.inv.0 ∙ e)
-    c.markings-test.branch
-
 pub returns-then-k-count : goal.returns-then-k-count
 returns-then-k-count c =
-    ⊎_elim
-    (λ w. absurd (omega (arith, w.0.left, c.if-k-count.true)))
-    (λ w. rw w.10 (results_found (missing c.args.kind (net_of c.args.places c.args.transitions c.args.pre.now c.args.post.now c.args.caps.now c.args.marks.now) c.args.count c.args.list.now) c.args.transitions c.markings.k c.markings.invariant.1.1 c.args.count w.2.t w.2.inv.1.1 _ w.5.ensures w.8.taken c.if-k-count.true w.3.taken))
-    c.markings-test.branch
-
-pub shape_of-room-else-k-count : goal.shape_of-room-else-k-count
-shape_of-room-else-k-count c =
-    let e = sym c.requires.room_len in ⊎_elim
-    (λ w. ap length w.1 ∙ c.markings.invariant.0 ∙ e)
-    (λ w. ap length w.9 ∙ w.5.kept.1.1.1.1.1.1.1.1.1.1.1.1.1.1.1.1.0 ∙ w.2.inv.0 ∙ e)
-    c.markings-test.branch
+    elim c.markings-test.branch [
+      else-markings-test w ↦ absurd (omega (arith, w.markings-test.false, c.if-k-count.true))
+    | then-markings-test+then-loop-t-test+then-is_missing w ↦
+        rw w.t-is
+        (results_found (missing c.args.kind (net_of c.args.places c.args.transitions c.args.pre.now c.args.post.now c.args.caps.now c.args.marks.now) c.args.count c.args.list.now) c.args.transitions c.markings.k c.markings.invariant.1.1 c.args.count w.loop-t.t w.loop-t.invariant.1.1 _ w.is_missing.ensures w.if-is_missing.true c.if-k-count.true w.loop-t-test.true)
+    ]
 
 pub returns-else-k-count : goal.returns-else-k-count
 returns-else-k-count c = search (results_none, rules)

@@ -19,7 +19,7 @@ slice_bounds-is_absent-end c = omega (arith, (marking_end c.args.places c.args.c
 pub is_absent-requires : goal.is_absent-requires
 is_absent-requires c =
     let l = marking_long c.args.places c.args.count c.args.list.now c.args.k c.requires.ready.long c.requires.k_lt_count.0 in rw (add-sub_cancel_left (c.args.k * c.args.places) c.args.places)
-    record { ready = c.requires.ready; listed_len = (l, c.requires.room_len); t_lt_transitions = c.requires.k_lt_count.1; found = c.requires.found; skipped = (c.requires.skipped, c.requires.kept.at c.args.k c.requires.k_lt_count.0); shifted = c.requires.1.1.1.1.1.1 }
+    record { ready = c.requires.ready; listed_len = (l, c.requires.room_len); t_lt_transitions = c.requires.k_lt_count.1; found = c.requires.found; skipped = (c.requires.skipped, c.requires.kept.at c.args.k c.requires.k_lt_count.0); shifted = (c.requires.shifted, c.requires.hashed) }
 
 pub returns : goal.returns
 returns c = simp add-sub_cancel_left at c.is_absent.ensures

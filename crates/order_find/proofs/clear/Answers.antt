@@ -1,4 +1,3 @@
-use Prim.Native.Nat.{◌-◌}
 use mathlib.Core.Path.{refl}
 use Rattle.ground.proofs.Fill.{makes, make_next}
 use Rattle.order_find.proofs.Copies.{cleared}

@@ -1,4 +1,3 @@
-use Prim.Native.Nat.{◌-◌}
 use Rattle.ground.proofs.Fill.{make_start, makes}
 use Rattle.order_find.proofs.Copies.{copied}
 use borrow.Author.Rules.{rules}
