@@ -166,7 +166,11 @@ class Function:
                         if all_:
                             return "text", all_
                         rest = ["ensures"] + clause(names, rest[1:])
-                    elif rest[0] == "auto" and self.call[place] and self.call[place] in self.info["params"]:
+                    elif re.fullmatch(r"keys\d+", rest[0]):
+                        rest[0] = "is"
+                    elif rest[0] == "rest" and new.startswith("in_default"):
+                        return "text", ["c", new + "-own"] + rest
+                    elif rest[0] in ("auto", "kept") and self.call[place] and self.call[place] in self.info["params"]:
                         names = self.info["params"][self.call[place]]
                         k, t = 0, rest[1:]
                         while t and t[0] == "1":
@@ -619,7 +623,7 @@ def turn_proof(crate, folder, info):
             continue
         turned = f.turn(value, {binders[0]: at} if binders else {})
         # What the test of an `if !x` says is now said of x itself.
-        turned = re.sub(r"not-(?:true|false) _ (c\.if-not-[^\s()]+)", r"\1", turned)
+        turned = re.sub(r"not-(?:true|false) [^\s()]+ (c\.if-not-[^\s()]+)", r"\1", turned)
         turned = turned.replace(".type-inv", ".type_inv").replace(".well-formed", ".well_formed")
         asked = [a for a in asked_names(f, goal) if a]
         if len(asked) > 1:

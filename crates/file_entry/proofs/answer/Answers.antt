@@ -3,7 +3,7 @@ use Rattle.file_entry.proofs.Ends.{whole_good, whole_answered, refused_answered}
 use Rattle.file_entry.proofs.answer.Goals as goal
 
 pub lay_out-requires : goal.lay_out-requires
-lay_out-requires c = (whole_good _ _ c.case-1.given.1 c.requires.0, c.requires.1, c.requires.2)
+lay_out-requires c = (whole_good _ _ c.in-Whole.is c.requires.0, c.requires.1, c.requires.2)
 
 pub shape_of-caps : goal.shape_of-caps
 shape_of-caps c = c.lay_out.auto.caps
@@ -25,8 +25,8 @@ shape_of-word c = c.lay_out.auto.word
 
 pub returns-in-Whole : goal.returns-in-Whole
 returns-in-Whole c =
-    -- the rooms are written, since to find them takes c.args second
-    whole_answered c.args.case _ (rooms c.args.c.now c.args.k.now c.args.m.now c.args.a.now c.args.b.now c.args.w.now) (rooms c.args.caps.now c.args.marks.now c.args.initial.now c.args.pre.now c.args.post.now c.args.word.now) _ c.case-1.given.1 c.lay_out.ensures
+    -- the rooms are written, since to find them takes a second
+    whole_answered c.args.case _ (rooms c.args.c.now c.args.k.now c.args.m.now c.args.a.now c.args.b.now c.args.w.now) (rooms c.args.caps.now c.args.marks.now c.args.initial.now c.args.pre.now c.args.post.now c.args.word.now) _ c.in-Whole.is c.lay_out.ensures
 
 pub returns-in-Refused : goal.returns-in-Refused
-returns-in-Refused c = refused_answered _ _ _ _ _ c.case-in-Refused-1.given.1
+returns-in-Refused c = refused_answered _ _ _ _ _ c.in-Refused.is

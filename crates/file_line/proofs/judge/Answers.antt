@@ -1,3 +1,4 @@
+use borrow.Author.Rules.{rules}
 use native.Mathlib.Omega.{arith}
 use mathlib.Core.Path.{sym, ◌∙◌}
 use mathlib.Core.Bool.{true}
@@ -19,28 +20,28 @@ pub byte_at-kind-requires : goal.byte_at-kind-requires
 byte_at-kind-requires c = let z = rule_says _ (sym c.rule.ensures ∙ c.if-not-rule.false) in omega (arith, z.0)
 
 pub counts_fault-requires : goal.counts_fault-requires
-counts_fault-requires c = (formed_01 _ _ (formed_of_lem _ _ (sym c.is_formed.ensures ∙ c.if-not-is_formed.false)) (sym c.byte_at-kind.ensures ∙ c.in-1.keys1)).1
+counts_fault-requires c = (formed_01 _ _ (formed_of_lem _ _ (sym c.is_formed.ensures ∙ c.if-not-is_formed.false)) (sym c.byte_at-kind.ensures ∙ c.in-1.is)).1
 
 pub tokens_fault-requires : goal.tokens_fault-requires
-tokens_fault-requires c = (c.requires.0.places, (formed_03 _ _ (formed_of_lem _ _ (sym c.is_formed.ensures ∙ c.if-not-is_formed.false)) (sym c.byte_at-kind.ensures ∙ c.in-3.keys2)).1, c.requires.1)
+tokens_fault-requires c = (c.requires.0.places, (formed_03 _ _ (formed_of_lem _ _ (sym c.is_formed.ensures ∙ c.if-not-is_formed.false)) (sym c.byte_at-kind.ensures ∙ c.in-3.is)).1, c.requires.1)
 
 pub letters_fault-requires : goal.letters_fault-requires
 letters_fault-requires c = let z = rule_says _ (sym c.rule.ensures ∙ c.if-not-rule.false) in (c.requires.0.letters, z.0)
 
 pub weights_fault-requires : goal.weights_fault-requires
-weights_fault-requires c = (c.requires.0.places, (formed_07 _ _ (formed_of_lem _ _ (sym c.is_formed.ensures ∙ c.if-not-is_formed.false)) (sym c.byte_at-kind.ensures ∙ c.in-7.keys4)).1)
+weights_fault-requires c = (c.requires.0.places, (formed_07 _ _ (formed_of_lem _ _ (sym c.is_formed.ensures ∙ c.if-not-is_formed.false)) (sym c.byte_at-kind.ensures ∙ c.in-7.is)).1)
 
 pub returns-in-1 : goal.returns-in-1
-returns-in-1 c = judge_01 _ _ _ (sym c.rule.ensures ∙ c.if-not-rule.false) (sym c.is_formed.ensures ∙ c.if-not-is_formed.false) _ (sym c.byte_at-kind.ensures ∙ c.in-1.keys1) c.counts_fault.ensures
+returns-in-1 c = judge_01 _ _ _ (sym c.rule.ensures ∙ c.if-not-rule.false) (sym c.is_formed.ensures ∙ c.if-not-is_formed.false) _ (sym c.byte_at-kind.ensures ∙ c.in-1.is) c.counts_fault.ensures
 
 pub returns-in-3 : goal.returns-in-3
-returns-in-3 c = judge_03 _ _ _ (sym c.rule.ensures ∙ c.if-not-rule.false) (sym c.is_formed.ensures ∙ c.if-not-is_formed.false) _ (sym c.byte_at-kind.ensures ∙ c.in-3.keys2) c.tokens_fault.ensures
+returns-in-3 c = judge_03 _ _ _ (sym c.rule.ensures ∙ c.if-not-rule.false) (sym c.is_formed.ensures ∙ c.if-not-is_formed.false) _ (sym c.byte_at-kind.ensures ∙ c.in-3.is) c.tokens_fault.ensures
 
 pub returns-in-5 : goal.returns-in-5
-returns-in-5 c = judge_05 _ _ _ (sym c.rule.ensures ∙ c.if-not-rule.false) (sym c.is_formed.ensures ∙ c.if-not-is_formed.false) _ (sym c.byte_at-kind.ensures ∙ c.in-5.keys3) c.letters_fault.ensures
+returns-in-5 c = judge_05 _ _ _ (sym c.rule.ensures ∙ c.if-not-rule.false) (sym c.is_formed.ensures ∙ c.if-not-is_formed.false) _ (sym c.byte_at-kind.ensures ∙ c.in-5.is) c.letters_fault.ensures
 
 pub returns-in-7 : goal.returns-in-7
-returns-in-7 c = judge_07 _ _ _ (sym c.rule.ensures ∙ c.if-not-rule.false) (sym c.is_formed.ensures ∙ c.if-not-is_formed.false) _ (sym c.byte_at-kind.ensures ∙ c.in-7.keys4) c.weights_fault.ensures
+returns-in-7 c = judge_07 _ _ _ (sym c.rule.ensures ∙ c.if-not-rule.false) (sym c.is_formed.ensures ∙ c.if-not-is_formed.false) _ (sym c.byte_at-kind.ensures ∙ c.in-7.is) c.weights_fault.ensures
 
 pub returns-in_default : goal.returns-in_default
-returns-in_default c = let e = sym c.byte_at-kind.ensures in judge_rest _ _ _ (sym c.rule.ensures ∙ c.if-not-rule.false) (sym c.is_formed.ensures ∙ c.if-not-is_formed.false) (λ q. c.in_default.rest.0.0.0.1 (sym e ∙ q)) (λ q. c.in_default.rest.0.0.1 (sym e ∙ q)) (λ q. c.in_default.rest.0.1 (sym e ∙ q)) (λ q. c.in_default.rest.1 (sym e ∙ q))
+returns-in_default c = let e = sym c.byte_at-kind.ensures in judge_rest _ _ _ (sym c.rule.ensures ∙ c.if-not-rule.false) (sym c.is_formed.ensures ∙ c.if-not-is_formed.false) (search rules) (search rules) (search rules) (search rules)

@@ -1,4 +1,4 @@
-use mathlib.Core.Path.{◌≡◌, sym, ◌∙◌}
+use mathlib.Core.Path.{◌≡◌, refl, sym, ◌∙◌}
 use native.Mathlib.Omega.{arith}
 use Rattle.refusals.specs.declared.Fault.TheVariants.{Sound}
 use Rattle.file_line.specs.Read.{rooms}
@@ -17,15 +17,15 @@ take_line-requires c =
       p.0,
       asked_accepted _ _ _ (sym c.judge-fault.ensures ∙ (let h : c.judge-fault.result ≡ Sound = search rules in h)),
       record {
-        caps = omega (arith, p.1.caps, c.store.kept.1.1.0);
-        marks = omega (arith, p.1.marks, c.store.kept.1.1.1.0);
-        pre = omega (arith, p.1.pre, c.store.kept.1.1.1.1.1.0);
-        post = omega (arith, p.1.post, c.store.kept.1.1.1.1.1.1.0);
+        caps = omega (arith, p.1.caps, c.store.auto.caps);
+        marks = omega (arith, p.1.marks, c.store.auto.marks);
+        pre = omega (arith, p.1.pre, c.store.auto.pre);
+        post = omega (arith, p.1.post, c.store.auto.post);
       },
     )
 
 pub returns-in-Faulty : goal.returns-in-Faulty
-returns-in-Faulty c = let x = (rooms c.args.caps.now c.args.marks.now c.args.initial.now c.args.pre.now c.args.post.now c.args.word.now) in let a = asked_refused c.args.s c.args.d.now x c.judge-fault.result c.judge-fault.ensures _ _ c.fault-1.given.1 in let l = refused_line c.args.s c.args.d.now x _ _ a.0 in let n = judged_number c.args.s c.args.d.now x _ _ a.0 in record { value = sym l.0; lent = sym (rw a.1 at l.1); good = n.0 }
+returns-in-Faulty c = let x = (rooms c.args.caps.now c.args.marks.now c.args.initial.now c.args.pre.now c.args.post.now c.args.word.now) in let a = asked_refused c.args.s c.args.d.now x _ c.in-Faulty.ensures _ _ refl in let l = refused_line c.args.s c.args.d.now x _ _ a.0 in let n = judged_number c.args.s c.args.d.now x _ _ a.0 in record { value = sym l.0; lent = sym (rw a.1 at l.1); good = n.0 }
 
 pub returns-in-Sound : goal.returns-in-Sound
 returns-in-Sound c = let x = (rooms c.args.caps.now c.args.marks.now c.args.initial.now c.args.pre.now c.args.post.now c.args.word.now) in let took = stored_took c.args.s c.args.d.now x c.judge-fault.result c.judge-fault.ensures (let h : c.judge-fault.result ≡ Sound = search rules in h) _ c.store.ensures _ c.take_line.ensures.value in let left = stored_rooms c.args.s c.args.d.now x c.judge-fault.result c.judge-fault.ensures (let h : c.judge-fault.result ≡ Sound = search rules in h) _ c.store.ensures in record { value = took; lent = left; good = c.take_line.ensures.good }

@@ -9,7 +9,7 @@ pub loop-at-init : goal.loop-at-init
 loop-at-init c = reads_start _ _ _ c.requires.0
 
 pub feed_line-r-requires : goal.feed_line-r-requires
-feed_line-r-requires c = (c.loop-at.invariant.sound, eqb-true _ _ c.if-r-eq0.true, omega (arith, c.loop-at-test.true), c.line_end-e.ensures, large _ _ c.loop-at.invariant.same c.requires.1)
+feed_line-r-requires c = (c.loop-at.invariant.sound, c.if-r-eq0.true, omega (arith, c.loop-at-test.true), c.line_end-e.ensures, large _ _ c.loop-at.invariant.same c.requires.1)
 
 pub overflow_add-at : goal.overflow_add-at
 overflow_add-at c = let b = bounds _ c.loop-at.at c.line_end-e.result c.line_end-e.ensures (omega (arith, c.loop-at-test.true)) in omega (arith, b)
@@ -20,7 +20,7 @@ loop-at-smaller c = let b = bounds _ c.loop-at.at c.line_end-e.result c.line_end
 pub loop-at-preserved : goal.loop-at-preserved
 loop-at-preserved c =
     reads_next _ _ _ _ _ _ c.loop-at.invariant c.line_end-e.result _ _ c.feed_line-r.ensures.value c.feed_line-r.ensures.sound
-    (record { caps = c.feed_line-r.kept.1.1.1.1.0; marks = c.feed_line-r.kept.1.1.1.1.1.0; initial = c.feed_line-r.kept.1.1.1.1.1.1.0; pre = c.feed_line-r.kept.1.1.1.1.1.1.1.0; post = c.feed_line-r.kept.1.1.1.1.1.1.1.1.0; word = c.feed_line-r.kept.1.1.1.1.1.1.1.1.1.0 })
+    (record { caps = c.feed_line-r.auto.caps; marks = c.feed_line-r.auto.marks; initial = c.feed_line-r.auto.initial; pre = c.feed_line-r.auto.pre; post = c.feed_line-r.auto.post; word = c.feed_line-r.auto.word })
 
 pub shape_of-caps-else-r-eq0 : goal.shape_of-caps-else-r-eq0
 shape_of-caps-else-r-eq0 c = c.loop-at.invariant.same.caps
@@ -41,7 +41,7 @@ pub shape_of-word-else-r-eq0 : goal.shape_of-word-else-r-eq0
 shape_of-word-else-r-eq0 c = c.loop-at.invariant.same.word
 
 pub returns-else-r-eq0 : goal.returns-else-r-eq0
-returns-else-r-eq0 c = record { value = reads_stopped _ _ _ _ _ _ c.loop-at.invariant (eqb-false _ _ c.if-r-eq0.false); sound = c.loop-at.invariant.sound }
+returns-else-r-eq0 c = record { value = reads_stopped _ _ _ _ _ _ c.loop-at.invariant c.if-r-eq0.false; sound = c.loop-at.invariant.sound }
 
 pub shape_of-caps-after-loop-at : goal.shape_of-caps-after-loop-at
 shape_of-caps-after-loop-at c = c.loop-at.invariant.same.caps

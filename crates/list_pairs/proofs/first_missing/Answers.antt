@@ -48,10 +48,10 @@ markings-preserved c = (search rules, (search rules, marking_passes (missing c.a
 pub returns-then-k-count : goal.returns-then-k-count
 returns-then-k-count c =
     elim c.markings-test.branch [
-      else-markings-test w ↦ absurd (omega (arith, w.markings-test.false, c.if-k-count.true))
-    | then-markings-test+then-loop-t-test+then-is_missing w ↦
-        rw w.t-is
-        (results_found (missing c.args.kind (net_of c.args.places c.args.transitions c.args.pre.now c.args.post.now c.args.caps.now c.args.marks.now) c.args.count c.args.list.now) c.args.transitions c.markings.k c.markings.invariant.1.1 c.args.count w.loop-t.t w.loop-t.invariant.1.1 _ w.is_missing.ensures w.if-is_missing.true c.if-k-count.true w.loop-t-test.true)
+      | else-markings-test w ↦ absurd (omega (arith, w.markings-test.false, c.if-k-count.true))
+      | then-markings-test+then-loop-t-test+then-is_missing w ↦
+          rw w.t-is
+          (results_found (missing c.args.kind (net_of c.args.places c.args.transitions c.args.pre.now c.args.post.now c.args.caps.now c.args.marks.now) c.args.count c.args.list.now) c.args.transitions c.markings.k c.markings.invariant.1.1 c.args.count w.loop-t.t w.loop-t.invariant.1.1 _ w.is_missing.ensures w.if-is_missing.true c.if-k-count.true w.loop-t-test.true)
     ]
 
 pub returns-else-k-count : goal.returns-else-k-count
