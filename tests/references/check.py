@@ -41,6 +41,7 @@ class Tree:
         self.root, self.known, self.wrong = root, {}, []
         self.sources = sorted(p for part in ("specs", "proofs", "src") for end in ("antt", "rt")
                               for p in (root / "crates").glob(f"*/{part}/**/*.{end}"))
+        self.names = [self.named(p) for p in self.sources]
         self.pages = sorted((root / "docs").glob("*.md"))
 
     def declared(self, file):
@@ -64,7 +65,7 @@ class Tree:
 
     def where_else(self, name, file):
         """The one other file that declares the name: one of the same place in another crate first."""
-        files = [f for f in map(self.named, self.sources) if f != file and self.has(f, name)]
+        files = [f for f in self.names if f != file and self.has(f, name)]
         alike = [f for f in files if f.split("/")[2:] == file.split("/")[2:]]
         return alike[0] if len(alike) == 1 else files[0] if len(files) == 1 else None
 
