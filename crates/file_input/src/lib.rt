@@ -1,6 +1,8 @@
-// Inner: the reads of standard input. What each comes to is decided in file_reads: reading stops at
+// Inner: the reads of the input, by std's `Read`. What each comes to is decided in file_reads: reading stops at
 // the file's end, at the first refusal, or at a read that fails.
 #![tactic(auto)]
+
+mod source;
 
 ghost use Rattle.file_line.specs.Read.{rooms};
 ghost use Rattle.file_line.specs.Walk.{Large};
@@ -12,11 +14,15 @@ ghost use Rattle.file_reads.specs.Walk.{OneRead};
 use file_parts::Held;
 use file_reads::{Fed, Input};
 use ground::Weight;
-use libc::STDIN_FILENO;
+pub use source::{Failure, Source, status_of};
+use std::io::Read;
 
-// One read, and what it comes to. That got, errno and buf are those of a read of standard input is all that is trusted
-// here; errno means something only where got is negative, and is looked at only there.
-fn read_some(
+// As many bytes as one read asks for: a loop that moves much data would spend its time on smaller reads.
+const READ_SIZE: usize = 65536;
+
+// One read, and what it comes to. That it is one of standard input, where the source is, is all that is trusted here.
+fn read_some<R: Read + Drop>(
+    source: &mut Source<R>,
     h: Held,
     caps: &mut [u16],
     marks: &mut [u8],
@@ -30,13 +36,12 @@ fn read_some(
     ensures step { OneRead (state (both (abs h) (rooms caps.old marks.old initial.old pre.old post.old word.old)) Input.More)
         (state (both (abs result.held) (rooms caps.new marks.new initial.new pre.new post.new word.new)) result.input) }
 {
-    let mut buf = io::large_buffer();
-    let got = libc::read(STDIN_FILENO, &mut buf);
-    let interrupted = os::errno() == libc::EINTR;
+    let mut buf = [0u8; READ_SIZE];
+    let read = source.read_once(&mut buf);
     file_reads::take_read(
         h,
-        got,
-        interrupted,
+        read.got,
+        read.interrupted,
         &buf,
         caps,
         marks,
@@ -47,9 +52,10 @@ fn read_some(
     )
 }
 
-// Every read of standard input, up to the first that leaves no more. The loop counts its turns down from a number that no
+// Every read of the source, up to the first that leaves no more. The loop counts its turns down from a number that no
 // run uses up, since nothing says that an input ends; if one did, that would be a failure.
-pub fn read_all(
+pub fn read_all<R: Read + Drop>(
+    source: &mut Source<R>,
     h: Held,
     caps: &mut [u16],
     marks: &mut [u8],
@@ -66,7 +72,7 @@ pub fn read_all(
     let mut r = h;
     let mut turns = u64::MAX;
     while 0 < turns {
-        let f = read_some(r, caps, marks, initial, pre, post, word);
+        let f = read_some(source, r, caps, marks, initial, pre, post, word);
         let input = f.input;
         match input {
             Input::More => {

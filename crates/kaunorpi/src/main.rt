@@ -12,15 +12,18 @@ ghost use Rattle.verdict_text.specs.Verdict.{answer_limit};
 ghost use Rattle.verdict_line.specs.Answer.{answer_for};
 ghost use Rattle.kaunorpi.specs.Made.{Shown, Made};
 
+use file_input::{Failure, Source};
 use file_line::{CELL_LIMIT, Reading};
 use file_parts::Held;
 use file_reads::Input;
 use ground::{COUNT_LIMIT, WORD_LIMIT, Weight};
-use libc::STDOUT_FILENO;
+use std::io::{Read, Write};
+use std::process::ExitCode;
 use verdict_text::ANSWER_LIMIT;
 
-// The line is made in the room out, and written.
-fn show(
+// The line is made in the room out, and written. Where the write fails the line stands in the room all the same.
+fn show<W: Write>(
+    output: &mut W,
     h: Held,
     caps: &[u16],
     marks: &[u8],
@@ -29,18 +32,18 @@ fn show(
     post: &[Weight],
     word: &[u8],
     out: &mut [u8],
-)
+) -> Result<(), Failure>
     requires { (Sound h) × (Large (rooms caps.now marks.now initial.now pre.now post.now word.now)) × (answer_limit ≤ length out.old) }
     ensures { Shown out.old (answer_for (case_of (abs h)) (rooms caps.now marks.now initial.now pre.now post.now word.now)) out.new }
 {
     let n = verdict_line::answer_line(h, caps, marks, initial, pre, post, word, out);
-    if !io::write_all(STDOUT_FILENO, &out[..n]) {
-        os::fail(b"kaunorpi: standard output");
-    }
+    output.write_all(&out[..n]).map_err(Failure::Output)
 }
 
 // The whole program, over rooms that are large enough for any file and for any line.
-fn answer(
+fn answer<R: Read + Drop, W: Write>(
+    source: &mut Source<R>,
+    output: &mut W,
     caps: &mut [u16],
     marks: &mut [u8],
     initial: &mut [u16],
@@ -48,22 +51,22 @@ fn answer(
     post: &mut [Weight],
     word: &mut [u8],
     out: &mut [u8],
-)
+) -> Result<(), Failure>
     requires { (Large (rooms caps.old marks.old initial.old pre.old post.old word.old)) × (answer_limit ≤ length out.old) }
     ensures { Made (rooms caps.old marks.old initial.old pre.old post.old word.old) out.old out.new }
 {
     let s = Reading::new();
     let h = file_parts::cleared(s);
-    let f = file_input::read_all(h, caps, marks, initial, pre, post, word);
+    let f = file_input::read_all(source, h, caps, marks, initial, pre, post, word);
     let input = f.input;
     match input {
-        Input::Failed => os::fail(b"kaunorpi: standard input"),
-        _ => show(f.held, caps, marks, initial, pre, post, word, out),
+        Input::Failed => Err(source.failure()),
+        _ => show(output, f.held, caps, marks, initial, pre, post, word, out),
     }
 }
 
-// Makes the rooms of the largest sizes; the rest is done in rooms that are lent.
-fn main() {
+// Makes the rooms of the largest sizes; the rest is done in rooms that are lent. A failure is told, and is the exit status.
+fn main(rt: HostRuntime) -> ExitCode {
     let mut caps = [0u16; COUNT_LIMIT];
     let mut marks = [0u8; COUNT_LIMIT];
     let mut initial = [0u16; COUNT_LIMIT];
@@ -71,7 +74,9 @@ fn main() {
     let mut post: [Weight; CELL_LIMIT] = [0; CELL_LIMIT];
     let mut word = [0u8; WORD_LIMIT];
     let mut out = [0u8; ANSWER_LIMIT];
-    answer(
+    let ended = answer(
+        &mut Source::new(rt.stdin()),
+        &mut rt.stdout(),
         &mut caps,
         &mut marks,
         &mut initial,
@@ -80,4 +85,5 @@ fn main() {
         &mut word,
         &mut out,
     );
+    file_input::status_of(&rt, ended)
 }

@@ -13,35 +13,38 @@ ghost use Rattle.verdict_text.specs.Verdict.{answer_limit};
 ghost use Rattle.file_again.specs.Again.{again_for};
 ghost use Rattle.rewrite.specs.Made.{refusal_bytes, Line, Shown, Made};
 
+use file_input::{Failure, Source};
 use file_line::{CELL_LIMIT, Reading};
 use file_out::FILE_LIMIT;
 use file_parts::Held;
 use file_reads::Input;
 use file_write::WriteCase;
 use ground::{COUNT_LIMIT, WORD_LIMIT, Weight};
-use libc::{STDERR_FILENO, STDOUT_FILENO};
+use std::io::{Read, Write};
+use std::process::ExitCode;
 use verdict_text::ANSWER_LIMIT;
 
 // The first n bytes of the room are written to standard output.
-fn give(out: &[u8], n: usize)
+fn give<W: Write>(output: &mut W, out: &[u8], n: usize) -> Result<(), Failure>
     requires { n ≤ length out.now }
 {
-    if !io::write_all(STDOUT_FILENO, &out[..n]) {
-        os::fail(b"kaunorpi: standard output");
-    }
+    output.write_all(&out[..n]).map_err(Failure::Output)
 }
 
-// A refusal's line is made in the room told, and written to standard error.
-fn tell(number: u8, line: usize, told: &mut [u8])
+// A refusal's line is made in the room told, and written to standard error. If it cannot be written there is nowhere
+// left to say so, and the program ends as it would have.
+fn tell<E: Write>(errors: &mut E, number: u8, line: usize, told: &mut [u8])
     requires { answer_limit ≤ length told.old }
     ensures { Line told.old (refusal_bytes number line) told.new }
 {
     let n = verdict_text::write_refused(told, number, line);
-    io::write_all(STDERR_FILENO, &told[..n]);
+    let _ = errors.write_all(&told[..n]);
 }
 
 // The file is made in the room out, and given; a refusal is told.
-fn show(
+fn show<W: Write, E: Write>(
+    output: &mut W,
+    errors: &mut E,
     h: Held,
     caps: &[u16],
     marks: &[u8],
@@ -51,19 +54,25 @@ fn show(
     word: &[u8],
     out: &mut [u8],
     told: &mut [u8],
-)
+) -> Result<(), Failure>
     requires { (Sound h) × (Large (rooms caps.now marks.now initial.now pre.now post.now word.now)) × (answer_limit ≤ length told.old) }
     ensures { Shown (again_for (case_of (abs h)) (rooms caps.now marks.now initial.now pre.now post.now word.now) out.old) out.new told.old told.new }
 {
     let again = file_again::rewrite_held(h, caps, marks, initial, pre, post, word, out);
     match again {
-        WriteCase::Written(n) => give(out, n),
-        WriteCase::Refused(number, line) => tell(number, line, told),
+        WriteCase::Written(n) => give(output, out, n),
+        WriteCase::Refused(number, line) => {
+            tell(errors, number, line, told);
+            Ok(())
+        }
     }
 }
 
 // The whole program, over rooms that are large enough for any file and for any line.
-fn answer(
+fn answer<R: Read + Drop, W: Write, E: Write>(
+    source: &mut Source<R>,
+    output: &mut W,
+    errors: &mut E,
     caps: &mut [u16],
     marks: &mut [u8],
     initial: &mut [u16],
@@ -72,22 +81,24 @@ fn answer(
     word: &mut [u8],
     out: &mut [u8],
     told: &mut [u8],
-)
+) -> Result<(), Failure>
     requires { (Large (rooms caps.old marks.old initial.old pre.old post.old word.old)) × (file_limit ≤ length out.old) × (answer_limit ≤ length told.old) }
     ensures { Made (rooms caps.old marks.old initial.old pre.old post.old word.old) out.old out.new told.old told.new }
 {
     let s = Reading::new();
     let h = file_parts::cleared(s);
-    let f = file_input::read_all(h, caps, marks, initial, pre, post, word);
+    let f = file_input::read_all(source, h, caps, marks, initial, pre, post, word);
     let input = f.input;
     match input {
-        Input::Failed => os::fail(b"kaunorpi: standard input"),
-        _ => show(f.held, caps, marks, initial, pre, post, word, out, told),
+        Input::Failed => Err(source.failure()),
+        _ => show(
+            output, errors, f.held, caps, marks, initial, pre, post, word, out, told,
+        ),
     }
 }
 
-// Makes the rooms of the largest sizes; the rest is done in rooms that are lent.
-fn main() {
+// Makes the rooms of the largest sizes; the rest is done in rooms that are lent. A failure is told, and is the exit status.
+fn main(rt: HostRuntime) -> ExitCode {
     let mut caps = [0u16; COUNT_LIMIT];
     let mut marks = [0u8; COUNT_LIMIT];
     let mut initial = [0u16; COUNT_LIMIT];
@@ -96,7 +107,10 @@ fn main() {
     let mut word = [0u8; WORD_LIMIT];
     let mut out = [0u8; FILE_LIMIT];
     let mut told = [0u8; ANSWER_LIMIT];
-    answer(
+    let ended = answer(
+        &mut Source::new(rt.stdin()),
+        &mut rt.stdout(),
+        &mut rt.stderr(),
         &mut caps,
         &mut marks,
         &mut initial,
@@ -106,4 +120,5 @@ fn main() {
         &mut out,
         &mut told,
     );
+    file_input::status_of(&rt, ended)
 }

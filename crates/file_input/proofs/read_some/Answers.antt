@@ -1,8 +1,7 @@
-use native.Mathlib.Omega.{arith}
 use mir.Syntax.{w64}
 use mir.Facts.{to_z-of_z}
-use Rattle.file_input.proofs.Asked.{moved_fits, read_one}
+use Rattle.file_input.proofs.Asked.{read_one}
 use Rattle.file_input.proofs.read_some.Goals as goal
 
 pub returns : goal.returns
-returns c = let z = to_z-of_z {w = w64} (moved_fits _ c.read-got.result (omega (arith, c.large_buffer-buf.ensures)) c.read-got.ensures) in record { sound = c.take_read.ensures.sound; step = read_one _ _ c.read-got.result _ _ _ _ z (omega (arith, c.large_buffer-buf.ensures, c.read-got.kept.1.0)) c.read-got.ensures c.take_read.ensures.value }
+returns g c = record { sound = c.take_read.ensures.sound; step = read_one _ _ c.read_once-read.result.got _ _ _ (to_z-of_z {w = w64} (record { sfits = c.read_once-read.type_inv.1.1.0.1 })) c.read_once-read.ensures c.take_read.ensures.value }

@@ -2,6 +2,7 @@ use borrow.Author.Rules.{rules}
 use native.Mathlib.Omega.{arith}
 use mathlib.Core.Path.{sym, ◌∙◌}
 use Rattle.file_line.proofs.Accept.{both, advanced_01, advanced_row, advanced_05, advanced_rest}
+use borrow.Author.Rules.{rules}
 use Rattle.file_line.proofs.advance.Goals as goal
 
 pub byte_at-requires : goal.byte_at-requires

@@ -27,7 +27,7 @@ pub slice_bounds-replay_word-end-6 : goal.slice_bounds-replay_word-end-6
 slice_bounds-replay_word-end-6 c = front_long _ _ (omega (arith, c.requires.0.letters, c.requires.1.word))
 
 pub write_verdict-requires : goal.write_verdict-requires
-write_verdict-requires c = (c.requires.3, omega (arith, c.requires.2, c.requires.0.places, c.replay_word-r.auto.places), placed _ _ _ _ _ _ _ c.replay_word-r.ensures c.requires.0.places)
+write_verdict-requires c = (c.requires.3, omega (arith, c.requires.2, c.requires.0.places), placed _ _ _ _ _ _ _ c.replay_word-r.ensures c.requires.0.places)
 
 pub returns : goal.returns
 returns c = record { line = played_line c.args.s (rooms c.args.caps.now c.args.marks.now c.args.initial.now c.args.pre.now c.args.post.now c.args.word.now) _ _ _ _ _ _ c.requires.2 c.replay_word-r.ensures c.write_verdict.ensures.line; few = c.write_verdict.ensures.few }
