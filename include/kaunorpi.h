@@ -193,13 +193,13 @@ typedef struct kaunorpi_running {
  * 0x81 2: letter `position` cannot happen: no place is short, but `place` would hold more than its capacity, a pocket
  *         before the letter's tokens leave it; no lower place would.
  * In the last two cases room holds the tokens after the letters before that one. room: places entries.
- * Contract: crates/c_replay/src/lib.rt. Theorems: fired-means, fires-fired, fired-longest, blocked-cause in
+ * Contract: crates/c_replay/src/lib.rt. Theorems: fired_means, fires_fired, fired_longest, blocked_cause in
  * crates/replay/proofs/Meaning.antt. */
 kaunorpi_replay kaunorpi_replay_word(KAUNORPI_NET, const uint16_t *initial, size_t initial_len, const uint8_t *word,
                                      size_t word_len, uint32_t *room, size_t room_len);
 /* The same for the letters from number start up to, and without, number end. Positions count from start, and the
  * rest of the word is not looked at.
- * Contract: crates/c_replay/src/lib.rt. Theorems: fired-means, fires-fired, fired-longest, blocked-cause in
+ * Contract: crates/c_replay/src/lib.rt. Theorems: fired_means, fires_fired, fired_longest, blocked_cause in
  * crates/replay/proofs/Meaning.antt. */
 kaunorpi_replay kaunorpi_replay_stretch(KAUNORPI_NET, const uint16_t *initial, size_t initial_len, const uint8_t *word,
                                         size_t word_len, size_t start, size_t end, uint32_t *room, size_t room_len);
@@ -211,8 +211,8 @@ kaunorpi_replay kaunorpi_replay_stretch(KAUNORPI_NET, const uint16_t *initial, s
 /* Sets the state before the first part. Refusals 1 2 18 3 17.
  * 0x81 0: set, position 0. state: the initial marking, 0 past the places, and 0 everywhere else. A refusal leaves it as
  * found.
- * Contract: crates/c_running/src/lib.rt. Theorems: start-as-found in crates/c_running/proofs/Meaning.antt;
- * start-refused-exactly, start-unique in crates/running/proofs/Exactly.antt. */
+ * Contract: crates/c_running/src/lib.rt. Theorems: start_as_found in crates/c_running/proofs/Meaning.antt;
+ * start_refused_exactly, start_unique in crates/running/proofs/Exactly.antt. */
 kaunorpi_replay kaunorpi_start_replay(KAUNORPI_NET, const uint16_t *initial, size_t initial_len, kaunorpi_running *state);
 /* Plays a part of the log from where the state stands. Refusals 1 2 18 3 17 4 5 13. Positions count from the first letter of
  * the first part, but that of 5 from the first letter of this one.
@@ -224,8 +224,8 @@ kaunorpi_replay kaunorpi_start_replay(KAUNORPI_NET, const uint16_t *initial, siz
  * In the last two cases the state has the tokens after the letters before that one, their number, and the block.
  * A state that holds a block already: the answer is that block as it stands, 0x81 and its `blocked`, position and place, and
  * nothing changes; a part with a wrong letter is refused all the same. A refusal leaves the state as found.
- * Contract: crates/c_running/src/lib.rt. Theorems: any-cutting, block-stays, tail-stays in
- * crates/running/proofs/Cutting.antt; resumes in crates/running/proofs/Meaning.antt; refused-exactly, refused-as-found in
+ * Contract: crates/c_running/src/lib.rt. Theorems: any_cutting, block_stays, tail_stays in
+ * crates/running/proofs/Cutting.antt; resumes in crates/running/proofs/Meaning.antt; refused_exactly, refused_as_found in
  * crates/running/proofs/Exactly.antt. */
 kaunorpi_replay kaunorpi_replay_part(KAUNORPI_NET, kaunorpi_running *state, const uint8_t *part, size_t part_len);
 
@@ -237,25 +237,25 @@ kaunorpi_replay kaunorpi_replay_part(KAUNORPI_NET, kaunorpi_running *state, cons
  * 0x81 0: made. places, letters: the summary's own. need, climb, change: its lists, all 64 entries written. */
 
 /* The summary of no letters. Refusals 1 2.
- * Contract: crates/c_summary/src/lib.rt. Theorems: empty-allowed-made in crates/summary/proofs/Exactly.antt;
- * empty-left, empty-right in crates/summary_join/proofs/Meaning.antt. */
+ * Contract: crates/c_summary/src/lib.rt. Theorems: empty_allowed_made in crates/summary/proofs/Exactly.antt;
+ * empty_left, empty_right in crates/summary_join/proofs/Meaning.antt. */
 kaunorpi_summary kaunorpi_empty_summary(size_t places, uint32_t *need, size_t need_len, uint32_t *climb,
                                         size_t climb_len, int32_t *change, size_t change_len);
 /* The summary of a word. Refusals 1 2 18 17 4 5.
- * Contract: crates/c_summary/src/lib.rt. Theorems: word-allowed-made in crates/summary/proofs/Exactly.antt;
- * summary-published in crates/summary_form/proofs/Meaning.antt; fires-iff in crates/summary_ask/proofs/Meaning.antt. */
+ * Contract: crates/c_summary/src/lib.rt. Theorems: word_allowed_made in crates/summary/proofs/Exactly.antt;
+ * summary_published in crates/summary_form/proofs/Meaning.antt; fires_iff in crates/summary_ask/proofs/Meaning.antt. */
 kaunorpi_summary kaunorpi_summary_word(KAUNORPI_NET, const uint8_t *word, size_t word_len, uint32_t *need,
                                        size_t need_len, uint32_t *climb, size_t climb_len, int32_t *change,
                                        size_t change_len);
 /* The same for a stretch of a word (see kaunorpi_replay_stretch). Refusals 1 2 18 17 4 5.
- * Contract: crates/c_summary/src/lib.rt. Theorems: stretch-allowed-made in crates/summary/proofs/Exactly.antt;
- * summary-published in crates/summary_form/proofs/Meaning.antt; fires-iff in crates/summary_ask/proofs/Meaning.antt. */
+ * Contract: crates/c_summary/src/lib.rt. Theorems: stretch_allowed_made in crates/summary/proofs/Exactly.antt;
+ * summary_published in crates/summary_form/proofs/Meaning.antt; fires_iff in crates/summary_ask/proofs/Meaning.antt. */
 kaunorpi_summary kaunorpi_summary_stretch(KAUNORPI_NET, const uint8_t *word, size_t word_len, size_t start, size_t end,
                                           uint32_t *need, size_t need_len, uint32_t *climb, size_t climb_len,
                                           int32_t *change, size_t change_len);
 /* The summary of the first word followed by the second, from their summaries. Refusals 1 2 6 7.
- * Contract: crates/c_summary_join/src/lib.rt. Theorems: join-allowed-made in crates/summary_join/proofs/Exactly.antt;
- * join-of-words, join-associative in crates/summary_join/proofs/Meaning.antt. */
+ * Contract: crates/c_summary_join/src/lib.rt. Theorems: join_allowed_made in crates/summary_join/proofs/Exactly.antt;
+ * join_of_words, join_associative in crates/summary_join/proofs/Meaning.antt. */
 kaunorpi_summary kaunorpi_join_summaries(size_t first_places, uint32_t first_letters, const uint32_t *first_need,
                                          size_t first_need_len, const uint32_t *first_climb, size_t first_climb_len,
                                          const int32_t *first_change, size_t first_change_len, size_t second_places,
@@ -266,7 +266,7 @@ kaunorpi_summary kaunorpi_join_summaries(size_t first_places, uint32_t first_let
                                          size_t change_len);
 /* Does the word of this summary fire from this marking? Refusals 1 2 18 3 17 6. room: places entries.
  * 0x81 0: yes, and room holds the tokens of each place afterwards. 0x81 1: no, and room is as it was.
- * Contract: crates/c_summary_ask/src/lib.rt. Theorems: ask-fires, fires-ask, ask-yes, ask-no in
+ * Contract: crates/c_summary_ask/src/lib.rt. Theorems: ask_fires, fires_ask, ask_yes, ask_no in
  * crates/summary_ask/proofs/Meaning.antt. */
 kaunorpi_answer kaunorpi_ask_summary(KAUNORPI_NET, const uint16_t *marking, size_t marking_len, size_t summary_places,
                                      uint32_t summary_letters, const uint32_t *need, size_t need_len,
@@ -276,19 +276,19 @@ kaunorpi_answer kaunorpi_ask_summary(KAUNORPI_NET, const uint16_t *marking, size
 /* ---- Weightings. Refusals 1 2 18 17 8.
  * y: places entries. 0x81 0: invariant: every firing keeps the sum of y x tokens. 0x81 1: not invariant; position: the
  * lowest transition that changes the sum.
- * Contract: crates/c_weighting/src/lib.rt. Theorems: place-invariant-exactly, place-no-exactly, accepted-keeps-sum
+ * Contract: crates/c_weighting/src/lib.rt. Theorems: place_invariant_exactly, place_no_exactly, accepted_keeps_sum
  * in crates/weighting/proofs/Promise.antt. */
 kaunorpi_answer kaunorpi_place_weighting(KAUNORPI_NET, const int16_t *y, size_t y_len);
 /* x: transitions entries. 0x81 0: invariant, with a negative entry. 0x81 1: not invariant; position: the lowest place
  * that would change. 0x81 2: invariant and proper, no entry is negative: firing each t x(t) times changes nothing.
- * Contract: crates/c_weighting/src/lib.rt. Theorems: transition-proper-exactly, transition-invariant-exactly,
- * transition-no-exactly, proper-returns in crates/weighting/proofs/Promise.antt. */
+ * Contract: crates/c_weighting/src/lib.rt. Theorems: transition_proper_exactly, transition_invariant_exactly,
+ * transition_no_exactly, proper_returns in crates/weighting/proofs/Promise.antt. */
 kaunorpi_answer kaunorpi_transition_weighting(KAUNORPI_NET, const int16_t *x, size_t x_len);
 /* What y bounds the tokens of `place` by. Refusals 1 2 18 3 17 8 13.
  * 0x81 0: bound: the place never holds more. 0x81 1: no bound, since position: 1 y is not invariant, 2 it has a
  * negative entry, 3 y(place) is not positive.
- * Contract: crates/c_weighting/src/lib.rt. Theorems: bounded-holds in crates/weighting_bound/proofs/Promise.antt;
- * bound-judged in crates/weighting_bound/proofs/Meaning.antt. */
+ * Contract: crates/c_weighting/src/lib.rt. Theorems: bounded_holds in crates/weighting_bound/proofs/Promise.antt;
+ * bound_judged in crates/weighting_bound/proofs/Meaning.antt. */
 kaunorpi_bound kaunorpi_place_bound(KAUNORPI_NET, const uint16_t *initial, size_t initial_len, const int16_t *y,
                                     size_t y_len, size_t place);
 
@@ -296,11 +296,11 @@ kaunorpi_bound kaunorpi_place_bound(KAUNORPI_NET, const uint16_t *initial, size_
  * 0x81 0: yes. 0x81 1: no; position: the lowest transition that breaks it. */
 
 /* Siphon: every transition that puts into the set takes from it; empty, it stays empty.
- * Contract: crates/c_weighting/src/lib.rt. Theorems: siphon-yes-exactly, siphon-no-exactly, accepted-stays-empty in
+ * Contract: crates/c_weighting/src/lib.rt. Theorems: siphon_yes_exactly, siphon_no_exactly, accepted_stays_empty in
  * crates/sets/proofs/Promise.antt. */
 kaunorpi_answer kaunorpi_siphon_set(KAUNORPI_NET, const uint8_t *set, size_t set_len);
 /* Trap: every transition that takes from the set puts into it; marked, it stays marked.
- * Contract: crates/c_weighting/src/lib.rt. Theorems: trap-yes-exactly, trap-no-exactly, accepted-stays-marked in
+ * Contract: crates/c_weighting/src/lib.rt. Theorems: trap_yes_exactly, trap_no_exactly, accepted_stays_marked in
  * crates/sets/proofs/Promise.antt. */
 kaunorpi_answer kaunorpi_trap_set(KAUNORPI_NET, const uint8_t *set, size_t set_len);
 
@@ -310,35 +310,35 @@ kaunorpi_answer kaunorpi_trap_set(KAUNORPI_NET, const uint8_t *set, size_t set_l
  *         from it (or not covered). It is the first such marking, and in it the lowest such transition. */
 
 /* Closed: 0x81 0: accepted: whatever can be reached from the initial marking is listed.
- * Contract: crates/c_lists/src/lib.rt. Theorems: accepted-exactly, initial-missing-exactly, result-missing-exactly,
- * accepted-never-reached in crates/closed/proofs/Promise.antt. */
+ * Contract: crates/c_lists/src/lib.rt. Theorems: accepted_exactly, initial_missing_exactly, result_missing_exactly,
+ * accepted_never_reached in crates/closed/proofs/Promise.antt. */
 kaunorpi_list kaunorpi_closed_list(KAUNORPI_NET, const uint16_t *initial, size_t initial_len, const uint16_t *list,
                                    size_t list_len);
 /* 0x81 0: the target is never reached. 0x81 3: not shown: it is listed, and a list may hold more than can be reached.
- * Contract: crates/c_lists/src/lib.rt. Theorems: target-shown-exactly, target-open-exactly, shown-never-reached in
+ * Contract: crates/c_lists/src/lib.rt. Theorems: target_shown_exactly, target_open_exactly, shown_never_reached in
  * crates/closed/proofs/Promise.antt. */
 kaunorpi_list kaunorpi_closed_target(KAUNORPI_NET, const uint16_t *initial, size_t initial_len, const uint16_t *list,
                                      size_t list_len, const uint16_t *target, size_t target_len);
 /* 0x81 0: the line never stalls: every listed marking enables something. 0x81 3: not shown.
- * Contract: crates/c_lists/src/lib.rt. Theorems: stall-shown-exactly, stall-open-exactly, shown-never-stalls in
+ * Contract: crates/c_lists/src/lib.rt. Theorems: stall_shown_exactly, stall_open_exactly, shown_never_stalls in
  * crates/closed/proofs/Promise.antt. */
 kaunorpi_list kaunorpi_closed_stall(KAUNORPI_NET, const uint16_t *initial, size_t initial_len, const uint16_t *list,
                                     size_t list_len);
 /* Cover: an entry of 65,535 is "any number". Capacities are not used. 0x81 0: accepted: whatever can be reached is
  * covered by a listed marking.
- * Contract: crates/c_lists/src/lib.rt. Theorems: accepted-exactly, initial-missing-exactly, result-missing-exactly,
- * accepted-covers in crates/cover/proofs/Promise.antt. */
+ * Contract: crates/c_lists/src/lib.rt. Theorems: accepted_exactly, initial_missing_exactly, result_missing_exactly,
+ * accepted_covers in crates/cover/proofs/Promise.antt. */
 kaunorpi_list kaunorpi_cover_list(KAUNORPI_NET, const uint16_t *initial, size_t initial_len, const uint16_t *list,
                                   size_t list_len);
 /* 0x81 0: nothing that can be reached covers the target. 0x81 3: not shown.
- * Contract: crates/c_lists/src/lib.rt. Theorems: target-shown-exactly, target-open-exactly, shown-never-covered in
+ * Contract: crates/c_lists/src/lib.rt. Theorems: target_shown_exactly, target_open_exactly, shown_never_covered in
  * crates/cover/proofs/Promise.antt. */
 kaunorpi_list kaunorpi_cover_target(KAUNORPI_NET, const uint16_t *initial, size_t initial_len, const uint16_t *list,
                                     size_t list_len, const uint16_t *target, size_t target_len);
 
 /* ---- The complement net: the same net without capacities, which fires the very same words.
  * 0x81 0: places: how many places it has. Refusals 1 2 18 17 10.
- * Contract: crates/c_net/src/lib.rt. Theorems: told-places, told-rooms in crates/complement/proofs/Promise.antt. */
+ * Contract: crates/c_net/src/lib.rt. Theorems: told_places, told_rooms in crates/complement/proofs/Promise.antt. */
 kaunorpi_places kaunorpi_complement_places(KAUNORPI_NET);
 /* 0x81 0: the rooms hold it: transitions * n weights in pre2 and in post2, n capacities, n marks and n tokens, where n
  * is what kaunorpi_complement_places answers. The old places come first, with their arcs and tokens; then one place for
@@ -348,7 +348,7 @@ kaunorpi_places kaunorpi_complement_places(KAUNORPI_NET);
  * it puts into the old one, and puts there what it takes from the old one. Every capacity is 65,535, none, and every
  * mark 0, plain. Where n is over 64, rooms of another length than n says are 2, and rooms of that length 10.
  * Refusals 1 2 18 3 17 10.
- * Contract: crates/c_net/src/lib.rt. Theorems: made-net, made-initial, made-fires-same, made-blocked-same, made-ready
+ * Contract: crates/c_net/src/lib.rt. Theorems: made_net, made_initial, made_fires_same, made_blocked_same, made_ready
  * in crates/complement/proofs/Promise.antt. */
 kaunorpi_answer kaunorpi_complement_net(KAUNORPI_NET, const uint16_t *initial, size_t initial_len, uint16_t *pre2,
                                         size_t pre2_len, uint16_t *post2, size_t post2_len, uint16_t *caps2,
@@ -361,8 +361,8 @@ kaunorpi_answer kaunorpi_complement_net(KAUNORPI_NET, const uint16_t *initial, s
  * 0x81 0: places, transitions, letters: the file's. Its capacities, marks, tokens, weights and letters stand at the
  * front of the rooms; what lies behind them is as it was. A pocket's mark is 1, a plain place's 0; where the file has
  * no frame 06 they are all 0.
- * Contract: crates/c_net/src/lib.rt. Theorems: read-exactly, read-those in crates/file_entry/proofs/Accepted.antt;
- * refused-file in crates/file_entry/proofs/Meaning.antt. */
+ * Contract: crates/c_net/src/lib.rt. Theorems: read_exactly, read_those in crates/file_entry/proofs/Accepted.antt;
+ * refused_file in crates/file_entry/proofs/Meaning.antt. */
 kaunorpi_case kaunorpi_read_case(const uint8_t *file, size_t file_len, uint16_t *caps, size_t caps_len, uint8_t *marks,
                                  size_t marks_len, uint16_t *initial, size_t initial_len, uint16_t *pre,
                                  size_t pre_len, uint16_t *post, size_t post_len, uint8_t *word, size_t word_len);
@@ -378,7 +378,7 @@ kaunorpi_case kaunorpi_read_case(const uint8_t *file, size_t file_len, uint16_t 
 
 /* How many bytes the file has, so that a room of that length can be lent. Refusals 1 2 18 3 17 4 5.
  * 0x81 0: length.
- * Contract: crates/c_write/src/lib.rt. Theorems: told-length, told-few, told-is-written, short-refused in
+ * Contract: crates/c_write/src/lib.rt. Theorems: told_length, told_few, told_is_written, short_refused in
  * crates/file_write/proofs/Meaning.antt. */
 kaunorpi_length kaunorpi_case_length(KAUNORPI_NET, const uint16_t *initial, size_t initial_len, const uint8_t *word,
                                      size_t word_len);
@@ -386,8 +386,8 @@ kaunorpi_length kaunorpi_case_length(KAUNORPI_NET, const uint16_t *initial, size
  * KAUNORPI_FILE_LIMIT for every file; a shorter one is refusal 14, given last. Refusals 1 2 18 3 17 4 5 14.
  * 0x81 0: length: the file is the first `length` bytes of room; what lies behind them is as it was. No zero byte is put
  * at its end.
- * Contract: crates/c_write/src/lib.rt. Theorems: written-length, written-file, written-rest in
- * crates/file_write/proofs/Meaning.antt; read-written, write-read, written-apart in
+ * Contract: crates/c_write/src/lib.rt. Theorems: written_length, written_file, written_rest in
+ * crates/file_write/proofs/Meaning.antt; read_written, write_read, written_apart in
  * crates/file_round/proofs/Meaning.antt. */
 kaunorpi_length kaunorpi_write_case(KAUNORPI_NET, const uint16_t *initial, size_t initial_len, const uint8_t *word,
                                     size_t word_len, uint8_t *room, size_t room_len);
@@ -407,7 +407,7 @@ kaunorpi_length kaunorpi_write_case(KAUNORPI_NET, const uint16_t *initial, size_
  * differ.
  * 0x81 1: no order of the two logs fires, and room is as it was.
  * Both leave all of work 0; a refusal leaves it as it was. The position in 5 is the letter's in its own log.
- * Contract: crates/c_order/src/lib.rt. Theorems: found-fires, found-first, none-exactly, keeps-order, replays in
+ * Contract: crates/c_order/src/lib.rt. Theorems: found_fires, found_first, none_exactly, keeps_order, replays in
  * crates/order/proofs/Meaning.antt. */
 kaunorpi_answer kaunorpi_order_logs(KAUNORPI_NET, const uint16_t *initial, size_t initial_len, const uint8_t *first,
                                     size_t first_len, const uint8_t *second, size_t second_len, uint8_t *room,
@@ -415,14 +415,14 @@ kaunorpi_answer kaunorpi_order_logs(KAUNORPI_NET, const uint16_t *initial, size_
 /* May the unread rest be asked for, for a step of an order of the two logs? Steps count from 0. No net is lent: whether
  * the order fires is not looked at. Refusals 4 15 16.
  * 0x81 0: yes.
- * Contract: crates/c_order/src/lib.rt. Theorems: allowed-answered, answered-allowed, refused-exactly in
+ * Contract: crates/c_order/src/lib.rt. Theorems: allowed_answered, answered_allowed, refused_exactly in
  * crates/order_rest/proofs/Meaning.antt. */
 kaunorpi_answer kaunorpi_rest_fault(const uint8_t *first, size_t first_len, const uint8_t *second, size_t second_len,
                                     const uint8_t *order, size_t order_len, size_t step);
 /* What is still unread of the log that the step takes from, from that step's letter on. Refusals 4 15 16.
  * 0x81 0: it is the last `length` letters of log `log`, 0 the first and 1 the second: they begin at letter `start` of
  * it, which is the step's own. There is at least that one.
- * Contract: crates/c_order/src/lib.rt. Theorems: rest-lies, rest-refused in crates/c_order/proofs/Meaning.antt. */
+ * Contract: crates/c_order/src/lib.rt. Theorems: rest_lies, rest_refused in crates/c_order/proofs/Meaning.antt. */
 kaunorpi_rest kaunorpi_unread_rest(const uint8_t *first, size_t first_len, const uint8_t *second, size_t second_len,
                                    const uint8_t *order, size_t order_len, size_t step);
 

@@ -24,5 +24,5 @@ for source in "$@"; do
         -isystem "$here/tests/headers" -I "$here/include" -c -o "$object" "$source"
     objects+=("$object")
 done
-"$kit/on/$(uname -m)/bin/rattle-link" --target x86_64-unknown-linux-gnu --toolchain "$tools" -o "$out" "${objects[@]}" ${ALSO:+"$ALSO"} "$archive" \
+"$kit/bin/rattle-link" --target x86_64-unknown-linux-gnu --toolchain "$tools" -o "$out" "${objects[@]}" ${ALSO:+"$ALSO"} "$archive" \
     >"$room/said" 2>&1 || { cat "$room/said" >&2; exit 1; }

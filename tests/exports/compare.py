@@ -1,7 +1,8 @@
 #!/usr/bin/env python3
 """The header against the exports: every function and struct of include/kaunorpi.h has the parameters and fields, in
-order and type, that crates/c_*/src say; a struct may stand in a crate below (Running does). No proof sees the header, and two
-fields of one type exchanged in an export's struct are proved all the same. Prints nothing unless something differs; compare.py HEADER CRATES tries another pair."""
+order and type, that the crates say that crates.txt marks `staticlib`; a struct may stand in a crate below (Running does). No proof
+sees the header, and two fields of one type exchanged in an export's struct are proved all the same. Prints nothing unless something
+differs; compare.py HEADER CRATES tries another pair, with the crates.txt beside CRATES."""
 import re
 import sys
 from pathlib import Path
@@ -37,7 +38,7 @@ def structs_of(crates, known):
     """name -> its fields, of every struct that has C's form; an array's type is that of its entries, and their number."""
     numbers, found = constants(crates), {}
     for file in sorted(crates.glob("*/src/lib.rt")):
-        for name, body in re.findall(r"#\[repr\(C\)\]\npub struct (\w+) \{(.*?)\n\}", file.read_text(), re.S):
+        for name, body in re.findall(r"#\[repr\(C\)\]\n(?:#\[[^\n]*\]\n)*pub struct (\w+) \{(.*?)\n\}", file.read_text(), re.S):
             found[name] = []
             for field, kind, entries, length in re.findall(r"pub (\w+): (?:(\w+)|\[(\w+); (\w+)\]),", body):
                 one = type_in_c(kind or entries, known)
@@ -61,8 +62,9 @@ def exports(crates):
     """name -> (parameters, fields of the answer), from the crates' sources."""
     known, found = aliases(crates), {}
     structs = structs_of(crates, known)
-    for text in (file.read_text() for file in sorted(crates.glob("c_*/src/lib.rt"))):
-        for name, body, answer in re.findall(r'pub extern "C" fn (\w+)\((.*?)\) -> (\w+)', text, re.S):
+    for crate in re.findall(r"^(\w+) staticlib:", (crates.parent / "crates.txt").read_text(), re.M):
+        text = (crates / crate / "src/lib.rt").read_text()
+        for name, body, answer in re.findall(r'#\[unsafe\(no_mangle\)\]\npub extern "C" fn (\w+)\((.*?)\) -> (\w+)', text, re.S):
             lent = [parameter(part, known, structs) for part in body.split(",") if part.strip()]
             found[name] = ([(said(name, one), kind) for part in lent for one, kind in part], structs[answer])
     return found

@@ -4,22 +4,24 @@
     tests/references/check.py [--mend] [ROOT]
 
 - docs/STATEMENTS.md: `name` crates/FILE:LINE (or :LINE, in the file named last): the name is declared on that line.
-  `name`, `name` (FILE): each is declared in that file; `word-..` stands for the three names of section 1.2.
+  `name`, `name` (FILE): each is declared in that file; `word_..` stands for the three names of section 1.2.
   `crate::function`: it is a function of that crate. Its edits, after gate: and also:, are those that stand in
-  crates/*/must-fail and in tests/edits. Elsewhere, too, a name with - and _ is an edit, and one with - is declared.
+  crates/*/must-fail and in tests/edits. Elsewhere, too, a name with - is an edit, and one with _ is declared, is a crate,
+  or is a name of the tests' C files.
 - docs/*.md: each path exists. docs/DECISIONS.md is numbered from 1, and whoever cites a decision or a section of
   STATEMENTS cites one that is there.
 - include/kaunorpi.h: each function has its contract in the file named, and its theorems are declared in theirs.
 
 --mend writes the right lines into the documents, and the right file or crate where a name is declared, or a file of that
 place in a crate stands, in exactly one other. It says what was wrong; what it could not mend is said again next time."""
+import os
 import re
 import sys
 from pathlib import Path
 
-ANTT = re.compile(r" *(?:(?:pub|abbrev|unfoldable|told) )*(?:(?:record|data) (\S+)|(\S+) :(?: |$))")
+ANTT = re.compile(r" *(?:(?:pub|abbrev|unfoldable|opaque|told) )*(?:(?:record|data) (\S+)|(\S+) :(?: |$))")
 RT = re.compile(r'(?:pub )?(?:extern "C" )?(?:fn|struct|enum|const|type) (\w+)()')
-REFUSING = ("refused-exactly", "allowed-answered", "answered-allowed")
+REFUSING = ("refused_exactly", "allowed_answered", "answered_allowed")
 NAME = r"[^\s`]+"
 FILE = r"\w+/(?:specs|proofs|src)/[\w/]+\.(?:antt|rt)"
 AT_LINE = re.compile(rf"`({NAME})`(\s+)((?:crates/{FILE})?):(\d+)")
@@ -37,8 +39,9 @@ class Tree:
 
     def __init__(self, root):
         self.root, self.known, self.wrong = root, {}, []
-        self.sources = sorted(p for end in ("antt", "rt") for p in (root / "crates").glob(f"*/*/**/*.{end}")
-                              if p.relative_to(root).parts[2] in ("specs", "proofs", "src"))
+        self.sources = sorted(p for part in ("specs", "proofs", "src") for end in ("antt", "rt")
+                              for p in (root / "crates").glob(f"*/{part}/**/*.{end}"))
+        self.names = [self.named(p) for p in self.sources]
         self.pages = sorted((root / "docs").glob("*.md"))
 
     def declared(self, file):
@@ -62,7 +65,7 @@ class Tree:
 
     def where_else(self, name, file):
         """The one other file that declares the name: one of the same place in another crate first."""
-        files = [f for f in map(self.named, self.sources) if f != file and self.has(f, name)]
+        files = [f for f in self.names if f != file and self.has(f, name)]
         alike = [f for f in files if f.split("/")[2:] == file.split("/")[2:]]
         return alike[0] if len(alike) == 1 else files[0] if len(files) == 1 else None
 
@@ -141,16 +144,20 @@ def check_functions(tree, page, text):
     return rewritten(text, pieces)
 
 
+def words_beside(tree):
+    """The names that are no declarations of the sources: crates, and what the tests' C files call their own."""
+    texts = [p for folder in ("tests", "bench") for p in (tree.root / folder).rglob("*.c")]
+    return {word for p in texts for word in re.findall(r"\w+", p.read_text())} | {p.name for p in (tree.root / "crates").iterdir()}
+
+
 def check_names(tree, page, text, edits):
-    """Edits, and whatever else has a name with - in it."""
-    anywhere = {name for file in tree.sources for name in tree.declared(tree.named(file))}
+    """Edits, and whatever else has a name with - or _ in it."""
+    anywhere = {name for file in tree.sources for name in tree.declared(tree.named(file))} | words_beside(tree)
     for one in SPAN.finditer(text):
         name = one[1]
-        if not re.fullmatch(r"[a-z][a-z0-9_]*(-[a-z0-9_]+)+", name):
-            continue
-        if "_" in name and name not in edits:
+        if re.fullmatch(r"[a-z][a-z0-9_]*(-[a-z0-9_]+)+", name) and "_" in name and name not in edits:
             tree.tell(page, text, one.start(), f"there is no edit {name}")
-        if "_" not in name and name not in anywhere:
+        elif re.fullmatch(r"[a-z][a-z0-9]*([-_][a-z0-9]+)+'*", name) and name not in anywhere and name not in edits:
             tree.tell(page, text, one.start(), f"`{name}` is declared nowhere")
 
 
@@ -188,15 +195,21 @@ def check_edits(tree, page, text, edits):
         tree.wrong.append(f"{page}: the edit {name} ({edits[name]}) is not named under gate: or also:")
 
 
+def files_below(folder):
+    """All files of a folder, but for what rt makes."""
+    for at, folders, names in os.walk(folder):
+        folders[:] = [name for name in folders if name not in ("out", "__pycache__")]
+        yield from (Path(at) / name for name in names)
+
+
 def check_numbers(tree):
     """Decisions are numbered in order; who cites one, or a section of STATEMENTS, cites one that is there."""
     decisions = [int(n) for n in re.findall(r"^(\d+)\. ", (tree.root / "docs/DECISIONS.md").read_text(), re.M)]
     if decisions != list(range(1, len(decisions) + 1)):
         tree.wrong.append("docs/DECISIONS.md: the decisions are not numbered 1, 2, .. in the order in which they stand")
     sections = set(re.findall(r"^### (\d\.\d+) ", (tree.root / "docs/STATEMENTS.md").read_text(), re.M))
-    folders = ("docs", "crates", "tests", "include", "bench", "script", "examples")
-    texts = [p for folder in folders for p in (tree.root / folder).rglob("*")
-             if p.suffix in (".md", ".antt", ".rt", ".py", ".c", ".h", ".sh", ".edit", ".calls", "") and p.is_file()]
+    texts = [p for folder in ("docs", "crates", "tests", "include", "bench", "script", "examples") for p in files_below(tree.root / folder)
+             if p.suffix in (".md", ".antt", ".rt", ".py", ".c", ".h", ".sh", ".edit", ".calls", "")]
     for file in sorted(texts) + [tree.root / "README.md"]:
         text = file.read_text(errors="replace") if file.is_file() else ""
         page = file.relative_to(tree.root)

@@ -110,7 +110,7 @@ def signals(room, env):
     os.mkfifo(pipe)
     long_name = os.path.join(room, "./" * 1500 + "saw.case")
     os.symlink(SAW, os.path.join(room, "saw.case"))
-    reader = "qemu-x86_64" if os.uname().machine != "x86_64" else "ld-linux-x86-64"
+    reader = "ld-linux-x86-64"
     ways = (("standard input", [], reader), ("standard input among files", [SAW, "-", SAW], reader), ("a pipe", [pipe, SAW, pipe], "bash"),
             ("--words", ["--words"], "head"), ("output that nobody takes", [long_name] * 40, NOBODY),
             ("--rewrite", ["--rewrite"], reader), ("a long file that nobody takes", ["--rewrite", LONG], NOBODY))

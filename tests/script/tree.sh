@@ -1,12 +1,11 @@
 # make_tree FOLDER: the script in a tree of its own, FOLDER/tree, with a kit that only pretends (FOLDER/kit, FOLDER/bin/rt),
 # so that the making of the program, and a reader that misbehaves, can be tried in a moment. Sourced, or run with FOLDER.
-# What the pretended reader does with a file is what the file's first line says. rt waits for FOLDER/go before it ends, and
-# makes the program only where there is none, as the true one may.
+# What the pretended reader does with a file is what the file's first line says. rt says what the true one says, waits for
+# FOLDER/go before it ends, and makes the program only where there is none, as the true one may.
 # shellcheck shell=bash
 make_tree() {
-    local kit
-    kit=$1/kit/on/$(uname -m)/toolchain
-    mkdir -p "$1/bin" "$1/tree/tests" "$1/tree/crates/net" "$kit/bin" "$kit/lib"
+    local kit=$1/kit/toolchain
+    mkdir -p "$1/bin" "$1/tree/tests" "$1"/tree/crates/{net,kaunorpi,rewrite}/src "$kit/bin" "$kit/lib"
     cp kaunorpi "$1/tree/"
     cp -r script "$1/tree/"
     cp tests/kit.sh "$1/tree/tests/"
@@ -29,17 +28,25 @@ esac
 READER
     cat > "$1/bin/rt" <<'RT'
 #!/bin/sh
+[ "$*" = run ] || { echo "rt: what is $*?"; exit 2; }
 here=$(dirname "$(dirname "$0")")
-echo "rt: ground proved (unchanged since it was last proved)"
-echo "rt: net proved (3 s)"
+name=$(basename "$PWD")
+{
+echo "rt: chose --jobs 2 for net"
+echo "fn net::fire: proved"
+echo "logic=proved functions=1 sum=0 native=nat"
 for turn in $(seq 50); do
     [ -e "$here/go" ] && break
     sleep 0.2 & wait
 done
 [ -e "$here/go" ] || { echo "rt: nobody has seen that net is proved"; exit 1; }
-[ ! -e "$here/bad" ] || { echo "rt: $2 NOT PROVED (exit 1, 2 s)"; exit 1; }
-[ -e "target/bin/$2" ] || { mkdir -p target/bin && : > "target/bin/$2" && chmod +x "target/bin/$2"; }
-echo "rt: $2 proved (1 s)"
+echo "rt: chose --jobs 2 for $name"
+[ ! -e "$here/bad" ] || { echo "fn $name::main: not proved"; echo "logic=not-proved functions=1"; exit 1; }
+[ -e "out/$name" ] || { mkdir -p out && : > "out/$name" && chmod +x "out/$name"; }
+echo "logic=proved functions=1 target=x86_64-unknown-linux-gnu sum=0"
+echo "rt: running out/$name; to give it other input, run that file yourself"
+} >&2
+echo 820C00000001
 RT
     chmod +x "$1/bin/rt" "$kit/bin/clang" "$kit/lib/ld-linux-x86-64.so.2"
 }

@@ -24,14 +24,14 @@ list_whole (list.Failed InitialMissing) = refl
 list_whole (list.Failed (ResultMissing k t)) = refl
 list_whole (list.Refused n at) = refl
 
-abbrev pub claim_of_lem : ListNumbers → ClaimAnswer
-claim_of_lem r =
+abbrev pub claim_of : ListNumbers → ClaimAnswer
+claim_of r =
     cond (eqb r.kind 0x82) (claim.Refused r.number r.position)
     (cond (eqb r.number 0) claim.Shown
     (cond (eqb r.number 3) claim.NotShown
     (cond (eqb r.number 1) (claim.Failed InitialMissing) (claim.Failed (ResultMissing r.position r.transition)))))
 
-pub claim_whole : (a : ClaimAnswer) → claim_of_lem (handed_list (claim_numbers a)) ≡ a
+pub claim_whole : (a : ClaimAnswer) → claim_of (handed_list (claim_numbers a)) ≡ a
 unfolding handed_list
 claim_whole claim.Shown = refl
 claim_whole claim.NotShown = refl

@@ -35,18 +35,18 @@ unfolding handed_places
 places_whole (places.Places n) = refl
 places_whole (places.Refused n at) = refl
 
-abbrev pub net_of_lem : Answer → ComplementNet
-net_of_lem r = cond (eqb r.kind 0x82) (net.Refused r.number r.position) net.Made
+abbrev pub net_of : Answer → ComplementNet
+net_of r = cond (eqb r.kind 0x82) (net.Refused r.number r.position) net.Made
 
-pub net_whole : (a : ComplementNet) → net_of_lem (handed (complement.numbers a)) ≡ a
+pub net_whole : (a : ComplementNet) → net_of (handed (complement.numbers a)) ≡ a
 unfolding handed
 net_whole net.Made = refl
 net_whole (net.Refused n at) = refl
 
-abbrev pub case_of_lem : CaseAnswer → CaseFile
-case_of_lem r = cond (eqb r.kind 0x82) (read.Refused r.number r.position) (read.Read r.places r.transitions r.letters)
+abbrev pub case_of : CaseAnswer → CaseFile
+case_of r = cond (eqb r.kind 0x82) (read.Refused r.number r.position) (read.Read r.places r.transitions r.letters)
 
-pub case_whole : (a : CaseFile) → case_of_lem (handed_case (casefile.numbers a)) ≡ a
+pub case_whole : (a : CaseFile) → case_of (handed_case (casefile.numbers a)) ≡ a
 unfolding handed_case
 case_whole (read.Read p t n) = refl
 case_whole (read.Refused n at) = refl

@@ -24,10 +24,10 @@ use Rattle.c_order.specs.declared.RestAnswer.{RestAnswer}
 pub unique_order : (x : Answered) (r r' : Answer) (m m' w w' : List ℕ) → HandedOrder x r m w → HandedOrder x r' m' w' → (r ≡ r') × ((m ≡ m') × (w ≡ w'))
 unique_order x r r' m m' w w' a b = (a.answer ∙ sym b.answer, (a.left ∙ sym b.left, a.cleared ∙ sym b.cleared))
 
-abbrev pub order_of_lem : Answer → LogOrder
-order_of_lem r = cond (eqb r.kind 0x82) (order.Refused r.number r.position) (cond (eqb r.number 0) order.Found order.NoneFires)
+abbrev pub order_of : Answer → LogOrder
+order_of r = cond (eqb r.kind 0x82) (order.Refused r.number r.position) (cond (eqb r.number 0) order.Found order.NoneFires)
 
-pub order_whole : (a : LogOrder) → order_of_lem (handed (numbers a)) ≡ a
+pub order_whole : (a : LogOrder) → order_of (handed (numbers a)) ≡ a
 unfolding handed
 order_whole order.Found = refl
 order_whole order.NoneFires = refl

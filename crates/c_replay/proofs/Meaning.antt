@@ -15,13 +15,13 @@ use Rattle.c_replay.specs.declared.ReplayAnswer.{ReplayAnswer}
 pub unique_replay : (x : Ran) (r r' : ReplayAnswer) (m m' : List ℕ) → HandedReplay x r m → HandedReplay x r' m' → (r ≡ r') × (m ≡ m')
 unique_replay x r r' m m' a b = (a.answer ∙ sym b.answer, a.left ∙ sym b.left)
 
-abbrev pub replay_of_lem : ReplayAnswer → Replay
-replay_of_lem r =
+abbrev pub replay_of : ReplayAnswer → Replay
+replay_of r =
     cond (eqb r.kind 0x82) (ran.Refused r.number r.position)
     (cond (eqb r.number 0) (ran.Fired r.position)
     (cond (eqb r.number 1) (ran.Blocked r.position (Short r.place)) (ran.Blocked r.position (Over r.place))))
 
-pub replay_whole : (a : Replay) → replay_of_lem (handed_replay (replay.numbers a)) ≡ a
+pub replay_whole : (a : Replay) → replay_of (handed_replay (replay.numbers a)) ≡ a
 unfolding handed_replay
 replay_whole (ran.Fired n) = refl
 replay_whole (ran.Blocked i (Short p)) = refl

@@ -1,6 +1,7 @@
 // Replays for C, as include/kaunorpi.h declares them: a list passes
 // as its pointer and its number of entries, and an answer is a struct of document 01's numbers. Each
-// export asks the entry of its name; a function of_.. puts an answer's numbers into the struct.
+// export asks the entry of its name; a function of_.. puts an answer's numbers into the struct. Since
+// c_running stands on this crate too, it is a library, and c_replay_c hands its exports to C.
 #![tactic(auto)]
 
 ghost use Rattle.std.specs.Prelude.{◌≡◌, true, [], ◌∷◌};
@@ -68,8 +69,7 @@ fn of_replay(answer: Replay) -> ReplayAnswer
 }
 
 // Whether the letters of a word can happen in this order.
-#[unsafe(no_mangle)]
-pub extern "C" fn kaunorpi_replay_word(
+pub fn kaunorpi_replay_word(
     places: usize,
     transitions: usize,
     pre: &[Weight],
@@ -97,8 +97,7 @@ pub extern "C" fn kaunorpi_replay_word(
 }
 
 // The same for the letters from number start up to number end.
-#[unsafe(no_mangle)]
-pub extern "C" fn kaunorpi_replay_stretch(
+pub fn kaunorpi_replay_stretch(
     places: usize,
     transitions: usize,
     pre: &[Weight],

@@ -14,10 +14,10 @@ use Rattle.c_answer.specs.declared.Answer.{Answer}
 pub unique_reply : (x : Reply) (r r' : Answer) (m m' : List ℕ) → HandedReply x r m → HandedReply x r' m' → (r ≡ r') × (m ≡ m')
 unique_reply x r r' m m' a b = (a.answer ∙ sym b.answer, a.left ∙ sym b.left)
 
-abbrev pub asked_of_lem : Answer → Asked
-asked_of_lem r = cond (eqb r.kind 0x82) (reply.Refused r.number r.position) (cond (eqb r.number 0) reply.Yes reply.No)
+abbrev pub asked_of : Answer → Asked
+asked_of r = cond (eqb r.kind 0x82) (reply.Refused r.number r.position) (cond (eqb r.number 0) reply.Yes reply.No)
 
-pub asked_whole : (a : Asked) → asked_of_lem (handed (asked_numbers a)) ≡ a
+pub asked_whole : (a : Asked) → asked_of (handed (asked_numbers a)) ≡ a
 unfolding handed
 asked_whole reply.Yes = refl
 asked_whole reply.No = refl

@@ -29,27 +29,27 @@ place_whole place.Invariant = refl
 place_whole (place.NotInvariant t) = refl
 place_whole (place.Refused n at) = refl
 
-abbrev pub transition_of_lem : Answer → TransitionWeighting
-transition_of_lem r =
+abbrev pub transition_of : Answer → TransitionWeighting
+transition_of r =
     cond (eqb r.kind 0x82) (transition.Refused r.number r.position)
     (cond (eqb r.number 0) transition.Invariant
     (cond (eqb r.number 1) (transition.NotInvariant r.position) transition.Proper))
 
-pub transition_whole : (a : TransitionWeighting) → transition_of_lem (handed (transition_numbers a)) ≡ a
+pub transition_whole : (a : TransitionWeighting) → transition_of (handed (transition_numbers a)) ≡ a
 unfolding handed
 transition_whole transition.Invariant = refl
 transition_whole (transition.NotInvariant p) = refl
 transition_whole transition.Proper = refl
 transition_whole (transition.Refused n at) = refl
 
-abbrev pub bound_of_lem : BoundAnswer → Bound
-bound_of_lem r =
+abbrev pub bound_of : BoundAnswer → Bound
+bound_of r =
     cond (eqb r.kind 0x82) (bound.Refused r.number r.position)
     (cond (eqb r.number 0) (bound.Bounded r.bound)
     (cond (eqb r.position 1) (bound.NoBound NotInvariant)
     (cond (eqb r.position 2) (bound.NoBound Negative) (bound.NoBound NotPositive))))
 
-pub bound_whole : (a : Bound) → bound_of_lem (handed_bound (bound_numbers a)) ≡ a
+pub bound_whole : (a : Bound) → bound_of (handed_bound (bound_numbers a)) ≡ a
 unfolding handed_bound
 bound_whole (bound.Bounded b) = refl
 bound_whole (bound.NoBound NotInvariant) = refl

@@ -16,18 +16,18 @@ use Rattle.c_write.specs.declared.LengthAnswer.{LengthAnswer}
 pub unique_file : (x : Wrote) (r r' : LengthAnswer) (m m' : List ℕ) → HandedFile x r m → HandedFile x r' m' → (r ≡ r') × (m ≡ m')
 unique_file x r r' m m' a b = (a.answer ∙ sym b.answer, a.left ∙ sym b.left)
 
-abbrev pub length_of_lem : LengthAnswer → CaseLength
-length_of_lem r = cond (eqb r.kind 0x82) (told.Refused r.number r.position) (told.Told r.length)
+abbrev pub length_of : LengthAnswer → CaseLength
+length_of r = cond (eqb r.kind 0x82) (told.Refused r.number r.position) (told.Told r.length)
 
-pub length_whole : (a : CaseLength) → length_of_lem (handed_length (length_numbers a)) ≡ a
+pub length_whole : (a : CaseLength) → length_of (handed_length (length_numbers a)) ≡ a
 unfolding handed_length
 length_whole (told.Told n) = refl
 length_whole (told.Refused n at) = refl
 
-abbrev pub file_of_lem : LengthAnswer → WriteCase
-file_of_lem r = cond (eqb r.kind 0x82) (written.Refused r.number r.position) (written.Written r.length)
+abbrev pub file_of : LengthAnswer → WriteCase
+file_of r = cond (eqb r.kind 0x82) (written.Refused r.number r.position) (written.Written r.length)
 
-pub file_whole : (a : WriteCase) → file_of_lem (handed_length (numbers a)) ≡ a
+pub file_whole : (a : WriteCase) → file_of (handed_length (numbers a)) ≡ a
 unfolding handed_length
 file_whole (written.Written n) = refl
 file_whole (written.Refused n at) = refl

@@ -29,7 +29,7 @@ use Rattle.file_line.proofs.Meaning.{taken_exactly}
 use Rattle.file_mask.specs.Mask.{Bits, mask_of, bits_of, mask_in, eight}
 use Rattle.file_mask.proofs.Masks.{bits_long, bits_small, bits_none, mask_none, mask_of_bits}
 use Rattle.file_text.specs.Text.{counts_line, caps_line, pockets_line, pockets_lines, pockets_count, tokens_line, row_line, letters_line, letters_lines, joined, file_of, end_of, filled}
-use Rattle.file_text.specs.Refusal.{TakenLines, no_line_lem, one_more}
+use Rattle.file_text.specs.Refusal.{TakenLines, no_line, one_more}
 use Rattle.file_digits.proofs.Bytes.{Below, none, below_append, bytes_long, words_long, words_small}
 use Rattle.file_text.proofs.Fronts.{get_d_sets, front_of, sets_again}
 use Rattle.file_text.proofs.Lines.{state, kind_next, kind_pockets, counts_of, caps_of, pockets_of, tokens_of, tokens_fine, row_of, row_below, row_keeps, row_advances, row_wired, letters_of}
@@ -372,5 +372,5 @@ module _ (x : Rooms) (big : Large x) (d : List ℕ) where
 
 -- so far has a reading come after lines that are taken
 pub staged : (x : Rooms) → Large x → (lines : List ℕ) (s : Reading) (y : Rooms) → TakenLines x lines s y → Stage x s y lines
-staged x big lines s y no_line_lem = start refl refl refl
+staged x big lines s y no_line = start refl refl refl
 staged x big lines s y (one_more before line t z k f m) = step x big line t z before (staged x big before t z k) ((taken_exactly t line z).1 m)

@@ -16,7 +16,7 @@ use Rattle.file_line.proofs.Meaning as line-meaning
 use Rattle.file_parts.specs.File.{going, stopped, Both, both, feed_all, read_of, line_len, NoFeed}
 use Rattle.file_parts.specs.Held.{hold_of}
 use Rattle.file_parts.proofs.Line.{all_append, holds, next_line, refused_line}
-use Rattle.file_text.specs.Refusal.{feeds, TakenLines, no_line_lem, one_more}
+use Rattle.file_text.specs.Refusal.{feeds, TakenLines, no_line, one_more}
 use Rattle.file_text.proofs.Fold.{fed_file}
 
 -- bytes without a line feed, one after another
@@ -60,12 +60,12 @@ cuts x (b ∷ bs) s y q d k f = go (eqb b line_feed) refl (λ s y q d k f. cuts 
 
 pub cutting : (x : Rooms) (file : List ℕ) → Cutting x file
 unfolding line_len
-cutting x file = cuts x file fresh x [] [] no_line_lem refl
+cutting x file = cuts x file fresh x [] [] no_line refl
 
 -- lines that are taken are read to the state and the rooms after them
 pub taken_read : (x : Rooms) (lines : List ℕ) (s : Reading) (y : Rooms) → TakenLines x lines s y → read_of x lines ≡ both (going s []) y
 unfolding feed_all
-taken_read x lines s y no_line_lem = refl
+taken_read x lines s y no_line = refl
 taken_read x lines s y (one_more before line t z k h m) =
     let j : judge_of t line z ≡ Sound = (line-meaning.taken_exactly t line z).1 m in
     let l = line-meaning.taken_line t line z j in

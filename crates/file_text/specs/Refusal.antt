@@ -15,7 +15,7 @@ feeds (b ∷ bs) = cond (eqb b line_feed) 1 0 + feeds bs
 
 -- whole lines from the first on, each with all that document 01 asks of it where it stands; s and y are the state and the rooms after them
 pub data TakenLines (x : Rooms) : List ℕ → Reading → Rooms → Type 0 where
-  no_line_lem : TakenLines x [] fresh x
+  no_line : TakenLines x [] fresh x
   one_more : (lines line : List ℕ) (s : Reading) (y : Rooms) → TakenLines x lines s y → NoFeed line → Taken s line y
       → TakenLines x (lines ++ (line ++ (line_feed ∷ []))) (advanced s line) (stored s line y)
 

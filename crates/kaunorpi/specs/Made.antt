@@ -1,6 +1,8 @@
 -- To be believed: the line that the program makes. No contract can say which bytes a read gives, so the promise is that there are
 -- reads of which all that the program does follows; that they are those of standard input is trusted.
-use Rattle.std.specs.Prelude.{ℕ, ◌≡◌, List}
+use Rattle.std.specs.Prelude.{ℕ, ◌≡◌, List, Option}
+use Rattle.std.specs.Io.KnownBytes.{Appends}
+use Rattle.file_put.specs.Put.{line_text}
 use Rattle.file_line.specs.Read.{Rooms}
 use Rattle.file_parts.specs.File.{case_of}
 use Rattle.file_reads.specs.declared.Input.TheVariants.{Over, Failed}
@@ -23,3 +25,12 @@ pub record Made (x : Rooms) (out out' : List ℕ) : Type 0 where
   pub end : State
   pub input : InputRead (unread x) end
   pub output : Output end out out'
+
+-- what the program has made where it ends well: the input is over, the line of all that was fed stands in the room, and where it is known which
+-- bytes the output had and has, they are that line's more
+pub record Answered (x : Rooms) (out out' : List ℕ) (had has : Option (List ℕ)) : Type 0 where
+  pub end : State
+  pub input : InputRead (unread x) end
+  pub over : end.input ≡ Over
+  pub shown : Shown out (answer_for (case_of end.fed.run) end.fed.rooms) out'
+  pub written : Appends had has (line_text (answer_for (case_of end.fed.run) end.fed.rooms))

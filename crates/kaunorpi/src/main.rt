@@ -3,14 +3,16 @@
 // standard error.
 #![tactic(auto)]
 
-ghost use Rattle.std.specs.Prelude.{◌≤◌, length};
+ghost use Rattle.std.specs.Prelude.{◌≤◌, length, OnOk};
+ghost use Rattle.std.specs.Io.KnownBytes.{Appends};
+ghost use Rattle.file_put.specs.Put.{line_text};
 ghost use Rattle.file_line.specs.Read.{rooms};
 ghost use Rattle.file_line.specs.Walk.{Large};
 ghost use Rattle.file_parts.specs.File.{case_of};
 ghost use Rattle.file_parts.specs.Held.{abs, Sound};
 ghost use Rattle.verdict_text.specs.Verdict.{answer_limit};
 ghost use Rattle.verdict_line.specs.Answer.{answer_for};
-ghost use Rattle.kaunorpi.specs.Made.{Shown, Made};
+ghost use Rattle.kaunorpi.specs.Made.{Shown, Made, Answered};
 
 use file_input::{Failure, Source};
 use file_line::{CELL_LIMIT, Reading};
@@ -34,7 +36,9 @@ fn show<W: Write>(
     out: &mut [u8],
 ) -> Result<(), Failure>
     requires { (Sound h) × (Large (rooms caps.now marks.now initial.now pre.now post.now word.now)) × (answer_limit ≤ length out.old) }
-    ensures { Shown out.old (answer_for (case_of (abs h)) (rooms caps.now marks.now initial.now pre.now post.now word.now)) out.new }
+    ensures shown { Shown out.old (answer_for (case_of (abs h)) (rooms caps.now marks.now initial.now pre.now post.now word.now)) out.new }
+    ensures written { OnOk result (Appends (W.contents output.old) (W.contents output.new)
+        (line_text (answer_for (case_of (abs h)) (rooms caps.now marks.now initial.now pre.now post.now word.now)))) }
 {
     let n = verdict_line::answer_line(h, caps, marks, initial, pre, post, word, out);
     output.write_all(&out[..n]).map_err(Failure::Output)
@@ -53,7 +57,9 @@ fn answer<R: Read + Drop, W: Write>(
     out: &mut [u8],
 ) -> Result<(), Failure>
     requires { (Large (rooms caps.old marks.old initial.old pre.old post.old word.old)) × (answer_limit ≤ length out.old) }
-    ensures { Made (rooms caps.old marks.old initial.old pre.old post.old word.old) out.old out.new }
+    ensures made { Made (rooms caps.old marks.old initial.old pre.old post.old word.old) out.old out.new }
+    ensures ok { OnOk result (Answered (rooms caps.old marks.old initial.old pre.old post.old word.old) out.old out.new
+        (W.contents output.old) (W.contents output.new)) }
 {
     let s = Reading::new();
     let h = file_parts::cleared(s);

@@ -1,6 +1,7 @@
 -- To be believed: what the program makes in its two rooms, of which the front of the one is written to standard output and that of the other to standard error.
 -- As of the other program (kaunorpi/specs/Made.antt), the promise is that there are reads of which all this follows; that they are those of standard input is trusted.
-use Rattle.std.specs.Prelude.{ℕ, ◌≡◌, List, []}
+use Rattle.std.specs.Prelude.{ℕ, ◌≡◌, List, [], take, Option}
+use Rattle.std.specs.Io.KnownBytes.{Keeps, Appends}
 use Rattle.file_line.specs.Read.{Rooms}
 use Rattle.file_reads.specs.declared.Input.TheVariants.{Over, Failed}
 use Rattle.file_reads.specs.Reads.{State, unread, InputRead}
@@ -34,3 +35,16 @@ pub record Made (x : Rooms) (out out' told told' : List ℕ) : Type 0 where
   pub end : State
   pub input : InputRead (unread x) end
   pub output : Output end out out' told told'
+
+-- what an output, where it is known which bytes it had and has, was given of a file that was written back: the front of the room, as long as the file; of a refusal nothing
+pub data Given (w : Wrote) (had has : Option (List ℕ)) : Type 0 where
+  a_front : (n : ℕ) → w.answer ≡ Written n → Appends had has (take n w.left) → Given w had has
+  no_front : (n l : ℕ) → w.answer ≡ Refused n l → Keeps had has → Given w had has
+
+-- what the program has made where it ends well: the input is over, and what was written back of all that was fed is shown and given
+pub record Answered (x : Rooms) (out out' told told' : List ℕ) (had has : Option (List ℕ)) : Type 0 where
+  pub end : State
+  pub input : InputRead (unread x) end
+  pub over : end.input ≡ Over
+  pub shown : Shown (again_at end.fed out) out' told told'
+  pub given : Given (again_at end.fed out) had has

@@ -3,7 +3,8 @@
 // fails nothing is written, and the failure is told on standard error.
 #![tactic(auto)]
 
-ghost use Rattle.std.specs.Prelude.{◌≤◌, length};
+ghost use Rattle.std.specs.Prelude.{◌≤◌, length, OnOk, take};
+ghost use Rattle.std.specs.Io.KnownBytes.{Appends};
 ghost use Rattle.file_line.specs.Read.{rooms};
 ghost use Rattle.file_line.specs.Walk.{Large};
 ghost use Rattle.file_out.specs.Length.{file_limit};
@@ -11,7 +12,7 @@ ghost use Rattle.file_parts.specs.File.{case_of};
 ghost use Rattle.file_parts.specs.Held.{abs, Sound};
 ghost use Rattle.verdict_text.specs.Verdict.{answer_limit};
 ghost use Rattle.file_again.specs.Again.{again_for};
-ghost use Rattle.rewrite.specs.Made.{refusal_bytes, Line, Shown, Made};
+ghost use Rattle.rewrite.specs.Made.{refusal_bytes, Line, Shown, Made, Given, Answered};
 
 use file_input::{Failure, Source};
 use file_line::{CELL_LIMIT, Reading};
@@ -27,6 +28,7 @@ use verdict_text::ANSWER_LIMIT;
 // The first n bytes of the room are written to standard output.
 fn give<W: Write>(output: &mut W, out: &[u8], n: usize) -> Result<(), Failure>
     requires { n ≤ length out.now }
+    ensures { OnOk result (Appends (W.contents output.old) (W.contents output.new) (take n out.now)) }
 {
     output.write_all(&out[..n]).map_err(Failure::Output)
 }
@@ -56,7 +58,9 @@ fn show<W: Write, E: Write>(
     told: &mut [u8],
 ) -> Result<(), Failure>
     requires { (Sound h) × (Large (rooms caps.now marks.now initial.now pre.now post.now word.now)) × (answer_limit ≤ length told.old) }
-    ensures { Shown (again_for (case_of (abs h)) (rooms caps.now marks.now initial.now pre.now post.now word.now) out.old) out.new told.old told.new }
+    ensures shown { Shown (again_for (case_of (abs h)) (rooms caps.now marks.now initial.now pre.now post.now word.now) out.old) out.new told.old told.new }
+    ensures given { OnOk result (Given (again_for (case_of (abs h)) (rooms caps.now marks.now initial.now pre.now post.now word.now) out.old)
+        (W.contents output.old) (W.contents output.new)) }
 {
     let again = file_again::rewrite_held(h, caps, marks, initial, pre, post, word, out);
     match again {
@@ -83,7 +87,9 @@ fn answer<R: Read + Drop, W: Write, E: Write>(
     told: &mut [u8],
 ) -> Result<(), Failure>
     requires { (Large (rooms caps.old marks.old initial.old pre.old post.old word.old)) × (file_limit ≤ length out.old) × (answer_limit ≤ length told.old) }
-    ensures { Made (rooms caps.old marks.old initial.old pre.old post.old word.old) out.old out.new told.old told.new }
+    ensures made { Made (rooms caps.old marks.old initial.old pre.old post.old word.old) out.old out.new told.old told.new }
+    ensures ok { OnOk result (Answered (rooms caps.old marks.old initial.old pre.old post.old word.old) out.old out.new told.old told.new
+        (W.contents output.old) (W.contents output.new)) }
 {
     let s = Reading::new();
     let h = file_parts::cleared(s);

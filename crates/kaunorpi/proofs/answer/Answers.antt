@@ -9,8 +9,8 @@ use Rattle.kaunorpi.proofs.answer.Goals as goal
 pub show-requires : goal.show-requires
 show-requires g c = (c.read_all-f.ensures.sound, large _ _ (record { caps = omega arith; marks = omega arith; initial = omega arith; pre = omega arith; post = omega arith; word = omega arith }) c.requires.0, c.requires.1)
 
-pub returns-in-Failed : goal.returns-in-Failed
-returns-in-Failed g c = made_nothing _ _ (from_first c.new-s.result c.cleared-h.result _ _ c.new-s.ensures.0 c.cleared-h.ensures.value c.read_all-f.ensures.reads) _ _ (search rules) refl
+pub returns-in-Failed-clause-made : goal.returns-in-Failed-clause-made
+returns-in-Failed-clause-made g c = made_nothing _ _ (from_first c.new-s.result c.cleared-h.result _ _ c.new-s.ensures.0 c.cleared-h.ensures.value c.read_all-f.ensures.reads) _ _ (search rules) refl
 
-pub returns-in_default : goal.returns-in_default
-returns-in_default g c = made_line _ _ (from_first c.new-s.result c.cleared-h.result _ _ c.new-s.ensures.0 c.cleared-h.ensures.value c.read_all-f.ensures.reads) _ _ c.in_default.not-Failed c.show.ensures
+pub returns-in_default-clause-made : goal.returns-in_default-clause-made
+returns-in_default-clause-made g c = made_line _ _ (from_first c.new-s.result c.cleared-h.result _ _ c.new-s.ensures.0 c.cleared-h.ensures.value c.read_all-f.ensures.reads) _ _ c.in_default.not-Failed c.show.ensures.shown

@@ -1,7 +1,8 @@
 use mathlib.Core.Path.{refl}
 use native.Mathlib.Omega.{arith}
+use Rattle.std.proofs.lemmas.Result.{on_ok_weaker}
 use Rattle.file_reads.proofs.Inputs.{from_first}
-use Rattle.rewrite.proofs.Making.{made_nothing, made_again}
+use Rattle.rewrite.proofs.Making.{made_nothing, made_again, answered}
 use Rattle.file_parts.proofs.Line.{large}
 use borrow.Author.Rules.{rules}
 use Rattle.rewrite.proofs.answer.Goals as goal
@@ -9,8 +10,14 @@ use Rattle.rewrite.proofs.answer.Goals as goal
 pub show-requires : goal.show-requires
 show-requires g c = (c.read_all-f.ensures.sound, large _ _ (record { caps = omega arith; marks = omega arith; initial = omega arith; pre = omega arith; post = omega arith; word = omega arith }) c.requires.0, c.requires.2)
 
-pub returns-in-Failed : goal.returns-in-Failed
-returns-in-Failed g c = made_nothing _ _ (from_first c.new-s.result c.cleared-h.result _ _ c.new-s.ensures.0 c.cleared-h.ensures.value c.read_all-f.ensures.reads) _ _ _ _ (search rules) refl refl
+pub returns-in-Failed-clause-made : goal.returns-in-Failed-clause-made
+returns-in-Failed-clause-made g c = made_nothing _ _ (from_first c.new-s.result c.cleared-h.result _ _ c.new-s.ensures.0 c.cleared-h.ensures.value c.read_all-f.ensures.reads) _ _ _ _ (search rules) refl refl
 
-pub returns-in_default : goal.returns-in_default
-returns-in_default g c = made_again _ _ (from_first c.new-s.result c.cleared-h.result _ _ c.new-s.ensures.0 c.cleared-h.ensures.value c.read_all-f.ensures.reads) _ _ _ _ c.in_default.not-Failed c.show.ensures
+pub returns-in_default-clause-made : goal.returns-in_default-clause-made
+returns-in_default-clause-made g c = made_again _ _ (from_first c.new-s.result c.cleared-h.result _ _ c.new-s.ensures.0 c.cleared-h.ensures.value c.read_all-f.ensures.reads) _ _ _ _ c.in_default.not-Failed c.show.ensures.shown
+
+pub returns-in_default-clause-ok : goal.returns-in_default-clause-ok
+returns-in_default-clause-ok g c =
+    on_ok_weaker _
+    (λ w. answered _ _ (from_first c.new-s.result c.cleared-h.result _ _ c.new-s.ensures.0 c.cleared-h.ensures.value c.read_all-f.ensures.reads) _ _ _ _ _ _ c.in_default.not-Failed c.show.ensures.shown w)
+    c.show.ensures.given

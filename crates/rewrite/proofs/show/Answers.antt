@@ -1,14 +1,22 @@
 use native.Mathlib.Omega.{arith}
+use Rattle.std.proofs.lemmas.Result.{on_ok_weaker}
 use Rattle.file_again.proofs.Meaning.{written_fits}
-use Rattle.rewrite.proofs.Making.{show_file, show_line}
+use Rattle.rewrite.proofs.Making.{show_file, show_line, given_file, given_nothing}
 use borrow.Author.Rules.{rules}
 use Rattle.rewrite.proofs.show.Goals as goal
 
 pub give-requires : goal.give-requires
 give-requires g c = omega (arith, written_fits _ _ _ c.rewrite_held-again.result _ c.rewrite_held-again.ensures c.in-Written.n (search rules))
 
-pub returns-in-Written : goal.returns-in-Written
-returns-in-Written g c = show_file _ _ _ c.rewrite_held-again.result _ c.rewrite_held-again.ensures c.args.told.now c.in-Written.n (search rules)
+pub returns-in-Written-clause-shown : goal.returns-in-Written-clause-shown
+returns-in-Written-clause-shown g c = show_file _ _ _ c.rewrite_held-again.result _ c.rewrite_held-again.ensures c.args.told.now c.in-Written.n (search rules)
 
-pub returns-in-Refused : goal.returns-in-Refused
-returns-in-Refused g c = show_line _ _ _ c.rewrite_held-again.result _ c.rewrite_held-again.ensures _ _ _ _ (search rules) c.tell.ensures
+pub returns-in-Refused-clause-shown : goal.returns-in-Refused-clause-shown
+returns-in-Refused-clause-shown g c = show_line _ _ _ c.rewrite_held-again.result _ c.rewrite_held-again.ensures _ _ _ _ (search rules) c.tell.ensures
+
+pub returns-in-Written-clause-given : goal.returns-in-Written-clause-given
+returns-in-Written-clause-given g c =
+    on_ok_weaker _ (λ w. given_file _ _ _ c.rewrite_held-again.result _ c.rewrite_held-again.ensures _ _ c.in-Written.n (search rules) w) c.give.ensures
+
+pub returns-in-Refused-clause-given : goal.returns-in-Refused-clause-given
+returns-in-Refused-clause-given g c = given_nothing _ _ _ c.rewrite_held-again.result _ c.rewrite_held-again.ensures _ c.in-Refused.number c.in-Refused.line (search rules)
