@@ -1,5 +1,7 @@
 // The source of a case file, and why a program that reads one may end without its line.
-ghost use Rattle.std.specs.Prelude.{◌≡◌, ◌≤◌, ◌↔◌, ℕ, length, IfOk, IfErr, MatchResult, IsTrue, pos, negsuc};
+ghost use Rattle.std.specs.Prelude.{◌≡◌, ◌≤◌, ◌↔◌, ℕ, length, take, None, IfOk, IfErr, MatchOption, MatchResult, IsTrue, pos, negsuc};
+ghost use Rattle.std.specs.Io.KnownBytes.{Consumes, Keeps, IsAtEnd};
+ghost use Rattle.file_input.specs.Blame.{BlamesInput};
 ghost use Rattle.std.specs.IoError.{error_kind};
 ghost use Rattle.std.specs.Process.{exit_status};
 ghost use Rattle.ground.specs.Parts.{up};
@@ -80,7 +82,9 @@ fn count_of(read: &io::Result<usize>) -> Answered
 }
 
 impl<R: Read + Drop> Source<R> {
-    pub fn new(input: R) -> Source<R> {
+    pub fn new(input: R) -> Source<R>
+        ensures { (result.input ≡ input) × (result.failure ≡ None) }
+    {
         Source {
             input,
             failure: None,
@@ -88,16 +92,27 @@ impl<R: Read + Drop> Source<R> {
     }
 
     // Why the input failed: by its last read, or, where that brought bytes, by having no end.
-    pub fn failure(&self) -> Failure {
+    pub fn failure(&self) -> Failure
+        ensures { MatchOption self.now.failure (BlamesInput result) (λ e. result ≡ Failure.Input e) }
+    {
         match self.failure {
             Some(e) => Failure::Input(e),
             None => Failure::Input(io::Error::other("it has no end")),
         }
     }
 
-    // One read, whose error is kept.
+    // One read, whose error is kept. Without one as many bytes as are counted came from the input, and none only at its
+    // end; with one none did, and the count is -1.
     pub(crate) fn read_once(&mut self, buf: &mut [u8; 65536]) -> Answered
-        ensures { up result.got ≤ length buf.new }
+        ensures bound { up result.got ≤ length buf.new }
+        ensures count { MatchOption self.new.failure (result.got ≡ pos (up result.got)) (λ _. result.got ≡ negsuc 0) }
+        ensures signal { MatchOption self.new.failure (Unit {0}) (λ e. IsTrue result.interrupted ↔ error_kind e ≡ ErrorKind.Interrupted) }
+        ensures brought { MatchOption self.new.failure
+            (Consumes (R.remaining self.old.input) (R.remaining self.new.input) (take (up result.got) buf.new))
+            (λ _. Keeps (R.remaining self.old.input) (R.remaining self.new.input)) }
+        ensures end { MatchOption self.new.failure
+            (result.got ≡ pos 0 → IsAtEnd (R.remaining self.new.input))
+            (λ _. Unit {0}) }
     {
         let read = self.input.read(buf);
         let a = count_of(&read);
