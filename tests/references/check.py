@@ -20,7 +20,7 @@ import sys
 from pathlib import Path
 
 ANTT = re.compile(r" *(?:(?:pub|abbrev|unfoldable|opaque|told) )*(?:(?:record|data) (\S+)|(\S+) :(?: |$))")
-RT = re.compile(r'(?:pub )?(?:extern "C" )?(?:fn|struct|enum|const|type) (\w+)()')
+RT = re.compile(r' *(?:pub )?(?:extern "C" )?(?:fn|struct|enum|const|type) (\w+)()')
 REFUSING = ("refused_exactly", "allowed_answered", "answered_allowed")
 NAME = r"[^\s`]+"
 FILE = r"\w+/(?:specs|proofs|src)/[\w/]+\.(?:antt|rt)"
@@ -188,7 +188,7 @@ def check_edits(tree, page, text, edits):
     said = {}
     for one in EDITS.finditer(text):
         for name in SPAN.findall(one[2]):
-            if "-" in name and "_" in name:
+            if name in edits or "-" in name and "_" in name:
                 if said.setdefault(name, one[1]) != one[1] or edits.get(name, one[1]) != one[1]:
                     tree.tell(page, text, one.start(), f"the edit {name} stands under {one[1]}, and is not there")
     for name in sorted(edits.keys() - said.keys()):

@@ -3,9 +3,8 @@
 // export asks the entry of its name; a function of_.. puts an answer's numbers into the struct.
 #![tactic(auto)]
 
-ghost use Rattle.std.specs.Prelude.{◌≡◌, true, ◌∷◌};
+ghost use Rattle.std.specs.Prelude.{◌≡◌, true, [], ◌∷◌, Ok};
 ghost use Rattle.net.specs.Net.{net_of};
-ghost use Rattle.refusals.specs.declared.Fault.TheVariants.{Sound};
 ghost use Rattle.lists.specs.Answers.{failure_numbers, numbers, claim_numbers};
 ghost use Rattle.lists.specs.declared.Kind.TheVariants.{Closed, Cover};
 ghost use Rattle.list_check.specs.Given.{list_of, target_of};
@@ -15,6 +14,8 @@ ghost use Rattle.c_lists.specs.Handed.{handed_list};
 use c_answer::{ANSWERED, REFUSED};
 use ground::Weight;
 use lists::{ClaimAnswer, Failure, ListAnswer};
+use net::Lent;
+use refusals::Refusal;
 
 // What an answer about a marking list says.
 #[repr(C)]
@@ -26,71 +27,65 @@ pub struct ListNumbers {
     pub transition: usize,
 }
 
+// An answer that is a number alone.
+fn answered(number: u8) -> ListNumbers
+    ensures { result ≡ handed_list (0x81 ∷ number ∷ []) }
+{
+    ListNumbers {
+        kind: ANSWERED,
+        number,
+        position: 0,
+        transition: 0,
+    }
+}
+
+// A refusal.
+fn refused(why: Refusal) -> ListNumbers
+    ensures { result ≡ handed_list (0x82 ∷ why.number ∷ why.at ∷ []) }
+{
+    ListNumbers {
+        kind: REFUSED,
+        number: why.number,
+        position: why.at,
+        transition: 0,
+    }
+}
+
 // A list's failure: 1 initial missing, or 2 with the marking and the transition.
 fn of_failure(why: Failure) -> ListNumbers
     ensures { result ≡ handed_list (0x81 ∷ failure_numbers why) }
 {
     match why {
-        Failure::InitialMissing => ListNumbers {
-            kind: ANSWERED,
-            number: 1,
-            position: 0,
-            transition: 0,
-        },
+        Failure::InitialMissing => answered(1),
         Failure::ResultMissing(marking, transition) => ListNumbers {
             kind: ANSWERED,
             number: 2,
             position: marking,
-            transition: transition,
+            transition,
         },
     }
 }
 
 // The answer about a list, in 01's numbers.
-fn of_list(answer: ListAnswer) -> ListNumbers
+fn of_list(answer: Result<ListAnswer, Refusal>) -> ListNumbers
     ensures { result ≡ handed_list (numbers answer) }
 {
     match answer {
-        ListAnswer::Accepted => ListNumbers {
-            kind: ANSWERED,
-            number: 0,
-            position: 0,
-            transition: 0,
-        },
-        ListAnswer::Failed(why) => of_failure(why),
-        ListAnswer::Refused(number, at) => ListNumbers {
-            kind: REFUSED,
-            number: number,
-            position: at,
-            transition: 0,
-        },
+        Ok(ListAnswer::Accepted) => answered(0),
+        Ok(ListAnswer::Failed(why)) => of_failure(why),
+        Err(why) => refused(why),
     }
 }
 
 // The answer about what a list is to show, in 01's numbers.
-fn of_claim(answer: ClaimAnswer) -> ListNumbers
+fn of_claim(answer: Result<ClaimAnswer, Refusal>) -> ListNumbers
     ensures { result ≡ handed_list (claim_numbers answer) }
 {
     match answer {
-        ClaimAnswer::Shown => ListNumbers {
-            kind: ANSWERED,
-            number: 0,
-            position: 0,
-            transition: 0,
-        },
-        ClaimAnswer::NotShown => ListNumbers {
-            kind: ANSWERED,
-            number: 3,
-            position: 0,
-            transition: 0,
-        },
-        ClaimAnswer::Failed(why) => of_failure(why),
-        ClaimAnswer::Refused(number, at) => ListNumbers {
-            kind: REFUSED,
-            number: number,
-            position: at,
-            transition: 0,
-        },
+        Ok(ClaimAnswer::Shown) => answered(0),
+        Ok(ClaimAnswer::NotShown) => answered(3),
+        Ok(ClaimAnswer::Failed(why)) => of_failure(why),
+        Err(why) => refused(why),
     }
 }
 
@@ -106,10 +101,17 @@ pub extern "C" fn kaunorpi_closed_list(
     initial: &[u16],
     list: &[u16],
 ) -> ListNumbers
-    ensures { result ≡ handed_list (numbers (list_of Closed (net_of places transitions pre.now post.now caps.now marks.now) initial.now list.now true Sound)) }
+    ensures { result ≡ handed_list (numbers (list_of Closed (net_of places transitions pre.now post.now caps.now marks.now) initial.now list.now true (Ok tt))) }
 {
-    let answer = closed::closed_list(places, transitions, pre, post, caps, marks, initial, list);
-    of_list(answer)
+    let net = Lent {
+        places,
+        transitions,
+        pre,
+        post,
+        caps,
+        marks,
+    };
+    of_list(closed::closed_list(&net, initial, list))
 }
 
 // Whether a closed list shows that a target is never reached.
@@ -127,18 +129,15 @@ pub extern "C" fn kaunorpi_closed_target(
 ) -> ListNumbers
     ensures { result ≡ handed_list (claim_numbers (target_of Closed (net_of places transitions pre.now post.now caps.now marks.now) initial.now list.now target.now)) }
 {
-    let answer = closed::closed_target(
+    let net = Lent {
         places,
         transitions,
         pre,
         post,
         caps,
         marks,
-        initial,
-        list,
-        target,
-    );
-    of_claim(answer)
+    };
+    of_claim(closed::closed_target(&net, initial, list, target))
 }
 
 // Whether a closed list shows that the line never stalls.
@@ -155,8 +154,15 @@ pub extern "C" fn kaunorpi_closed_stall(
 ) -> ListNumbers
     ensures { result ≡ handed_list (claim_numbers (stall_of (net_of places transitions pre.now post.now caps.now marks.now) initial.now list.now)) }
 {
-    let answer = closed::closed_stall(places, transitions, pre, post, caps, marks, initial, list);
-    of_claim(answer)
+    let net = Lent {
+        places,
+        transitions,
+        pre,
+        post,
+        caps,
+        marks,
+    };
+    of_claim(closed::closed_stall(&net, initial, list))
 }
 
 // Whether a list of markings is a cover list.
@@ -171,10 +177,17 @@ pub extern "C" fn kaunorpi_cover_list(
     initial: &[u16],
     list: &[u16],
 ) -> ListNumbers
-    ensures { result ≡ handed_list (numbers (list_of Cover (net_of places transitions pre.now post.now caps.now marks.now) initial.now list.now true Sound)) }
+    ensures { result ≡ handed_list (numbers (list_of Cover (net_of places transitions pre.now post.now caps.now marks.now) initial.now list.now true (Ok tt))) }
 {
-    let answer = cover::cover_list(places, transitions, pre, post, caps, marks, initial, list);
-    of_list(answer)
+    let net = Lent {
+        places,
+        transitions,
+        pre,
+        post,
+        caps,
+        marks,
+    };
+    of_list(cover::cover_list(&net, initial, list))
 }
 
 // Whether a cover list shows that a target is never covered.
@@ -192,16 +205,13 @@ pub extern "C" fn kaunorpi_cover_target(
 ) -> ListNumbers
     ensures { result ≡ handed_list (claim_numbers (target_of Cover (net_of places transitions pre.now post.now caps.now marks.now) initial.now list.now target.now)) }
 {
-    let answer = cover::cover_target(
+    let net = Lent {
         places,
         transitions,
         pre,
         post,
         caps,
         marks,
-        initial,
-        list,
-        target,
-    );
-    of_claim(answer)
+    };
+    of_claim(cover::cover_target(&net, initial, list, target))
 }

@@ -3,17 +3,15 @@ use mathlib.Core.Path.{◌≡◌, refl, sym, ◌∙◌}
 use mathlib.Core.Bool.{cond}
 use lib.Dec.{eqb}
 use Rattle.complement.specs.Told.{places_numbers}
-use Rattle.complement.specs.declared.ComplementPlaces.{ComplementPlaces}
-use Rattle.complement.specs.declared.ComplementPlaces.TheVariants as places
 use Rattle.complement.specs.Entry as complement
 use Rattle.complement.specs.Entry.{Rooms, Wrote}
-use Rattle.complement.specs.declared.ComplementNet.{ComplementNet}
-use Rattle.complement.specs.declared.ComplementNet.TheVariants as net
-use Rattle.file_line.specs.Read as case
+use Rattle.std.specs.Prelude.{ℕ, Ok, Err}
+use Rattle.refusals.specs.Given
+use Rattle.refusals.specs.Given.{Fault, refused}
+use Rattle.file_line.specs.declared.Rooms as case
 use Rattle.file_entry.specs.Entry as casefile
 use Rattle.file_entry.specs.Entry.{Came}
 use Rattle.file_entry.specs.declared.CaseFile.{CaseFile}
-use Rattle.file_entry.specs.declared.CaseFile.TheVariants as read
 use Rattle.c_answer.specs.Hand.{handed}
 use Rattle.c_net.specs.Handed.{handed_places, HandedNet}
 use Rattle.c_net.specs.Cases.{handed_case, HandedCase}
@@ -27,26 +25,26 @@ unique_net x r r' m m' a b = (a.answer ∙ sym b.answer, a.left ∙ sym b.left)
 pub unique_case : (x : Came) (r r' : CaseAnswer) (m m' : case.Rooms) → HandedCase x r m → HandedCase x r' m' → (r ≡ r') × (m ≡ m')
 unique_case x r r' m m' a b = (a.answer ∙ sym b.answer, a.left ∙ sym b.left)
 
-abbrev pub places_of : PlacesAnswer → ComplementPlaces
-places_of r = cond (eqb r.kind 0x82) (places.Refused r.number r.position) (places.Places r.places)
+abbrev pub places_of : PlacesAnswer → Given.Answer ℕ
+places_of r = cond (eqb r.kind 0x82) (refused r.number r.position) (Ok r.places)
 
-pub places_whole : (a : ComplementPlaces) → places_of (handed_places (places_numbers a)) ≡ a
+pub places_whole : (a : Given.Answer ℕ) → places_of (handed_places (places_numbers a)) ≡ a
 unfolding handed_places
-places_whole (places.Places n) = refl
-places_whole (places.Refused n at) = refl
+places_whole (Ok n) = refl
+places_whole (Err r) = refl
 
-abbrev pub net_of : Answer → ComplementNet
-net_of r = cond (eqb r.kind 0x82) (net.Refused r.number r.position) net.Made
+abbrev pub net_of : Answer → Fault
+net_of r = cond (eqb r.kind 0x82) (refused r.number r.position) (Ok tt)
 
-pub net_whole : (a : ComplementNet) → net_of (handed (complement.numbers a)) ≡ a
+pub net_whole : (a : Fault) → net_of (handed (complement.numbers a)) ≡ a
 unfolding handed
-net_whole net.Made = refl
-net_whole (net.Refused n at) = refl
+net_whole (Ok _) = refl
+net_whole (Err r) = refl
 
-abbrev pub case_of : CaseAnswer → CaseFile
-case_of r = cond (eqb r.kind 0x82) (read.Refused r.number r.position) (read.Read r.places r.transitions r.letters)
+abbrev pub case_of : CaseAnswer → Given.Answer CaseFile
+case_of r = cond (eqb r.kind 0x82) (refused r.number r.position) (casefile.read r.places r.transitions r.letters)
 
-pub case_whole : (a : CaseFile) → case_of (handed_case (casefile.numbers a)) ≡ a
+pub case_whole : (a : Given.Answer CaseFile) → case_of (handed_case (casefile.numbers a)) ≡ a
 unfolding handed_case
-case_whole (read.Read p t n) = refl
-case_whole (read.Refused n at) = refl
+case_whole (Ok c) = refl
+case_whole (Err r) = refl

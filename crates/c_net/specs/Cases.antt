@@ -1,6 +1,6 @@
 -- To be believed: a case file for C: the counts of what was read, or a refusal with its line.
 use Rattle.std.specs.Prelude.{◌≡◌, cond, List, ℕ}
-use Rattle.file_line.specs.Read.{Rooms}
+use Rattle.file_line.specs.declared.Rooms.{Rooms}
 use Rattle.file_entry.specs.Entry.{Came, numbers}
 use Rattle.c_answer.specs.Hand.{at, asked}
 use Rattle.c_net.specs.declared.CaseAnswer.{CaseAnswer}

@@ -15,9 +15,10 @@ ghost use Rattle.file_entry.specs.Entry as casefile;
 ghost use Rattle.c_net.specs.Cases.{handed_case, HandedCase};
 
 use c_answer::{ANSWERED, Answer, REFUSED};
-use complement::{ComplementNet, ComplementPlaces};
 use file_entry::CaseFile;
 use ground::Weight;
+use net::Lent;
+use refusals::Refusal;
 
 // What the answer to the complement net's places says.
 #[repr(C)]
@@ -42,20 +43,21 @@ pub struct CaseAnswer {
 }
 
 // The answer about the complement's places, in 01's numbers.
-fn of_places(answer: ComplementPlaces) -> PlacesAnswer
+#[tactic(auto, unfolding(crate::specs::Handed::handed_places))]
+fn of_places(answer: Result<usize, Refusal>) -> PlacesAnswer
     ensures { result ≡ handed_places (places_numbers answer) }
 {
     match answer {
-        ComplementPlaces::Places(n) => PlacesAnswer {
+        Ok(places) => PlacesAnswer {
             kind: ANSWERED,
             number: 0,
             position: 0,
-            places: n,
+            places,
         },
-        ComplementPlaces::Refused(number, at) => PlacesAnswer {
+        Err(why) => PlacesAnswer {
             kind: REFUSED,
-            number: number,
-            position: at,
+            number: why.number,
+            position: why.at,
             places: 0,
         },
     }
@@ -73,24 +75,31 @@ pub extern "C" fn kaunorpi_complement_places(
 ) -> PlacesAnswer
     ensures { result ≡ handed_places (places_numbers (places_of (net_of places transitions pre.now post.now caps.now marks.now))) }
 {
-    let answer = complement::complement_places(places, transitions, pre, post, caps, marks);
-    of_places(answer)
+    of_places(complement::complement_places(&Lent {
+        places,
+        transitions,
+        pre,
+        post,
+        caps,
+        marks,
+    }))
 }
 
 // The answer about the complement net, in 01's numbers.
-fn of_net(answer: ComplementNet) -> Answer
+#[tactic(auto, unfolding(c_answer::specs::Hand::handed))]
+fn of_net(answer: Result<(), Refusal>) -> Answer
     ensures { result ≡ handed (complement.numbers answer) }
 {
     match answer {
-        ComplementNet::Made => Answer {
+        Ok(()) => Answer {
             kind: ANSWERED,
             number: 0,
             position: 0,
         },
-        ComplementNet::Refused(number, at) => Answer {
+        Err(why) => Answer {
             kind: REFUSED,
-            number: number,
-            position: at,
+            number: why.number,
+            position: why.at,
         },
     }
 }
@@ -113,40 +122,35 @@ pub extern "C" fn kaunorpi_complement_net(
 ) -> Answer
     ensures { HandedNet (complement_of (net_of places transitions pre.now post.now caps.now marks.now) initial.now (rooms_of pre2.old post2.old caps2.old marks2.old initial2.old)) result (rooms_of pre2.new post2.new caps2.new marks2.new initial2.new) }
 {
-    let answer = complement::complement_net(
+    let net = Lent {
         places,
         transitions,
         pre,
         post,
         caps,
         marks,
-        initial,
-        pre2,
-        post2,
-        caps2,
-        marks2,
-        initial2,
-    );
-    of_net(answer)
+    };
+    of_net(complement::complement_net(&net, initial, pre2, post2, caps2, marks2, initial2))
 }
 
 // The answer about a case file, in 01's numbers.
-fn of_case(answer: CaseFile) -> CaseAnswer
+#[tactic(auto, unfolding(crate::specs::Cases::handed_case))]
+fn of_case(answer: Result<CaseFile, Refusal>) -> CaseAnswer
     ensures { result ≡ handed_case (casefile.numbers answer) }
 {
     match answer {
-        CaseFile::Read(places, transitions, letters) => CaseAnswer {
+        Ok(file) => CaseAnswer {
             kind: ANSWERED,
             number: 0,
             position: 0,
-            places,
-            transitions,
-            letters,
+            places: file.places,
+            transitions: file.transitions,
+            letters: file.letters,
         },
-        CaseFile::Refused(number, at) => CaseAnswer {
+        Err(why) => CaseAnswer {
             kind: REFUSED,
-            number,
-            position: at,
+            number: why.number,
+            position: why.at,
             places: 0,
             transitions: 0,
             letters: 0,
@@ -167,6 +171,5 @@ pub extern "C" fn kaunorpi_read_case(
 ) -> CaseAnswer
     ensures { HandedCase (casefile.case_file_of file.now (rooms caps.old marks.old initial.old pre.old post.old word.old)) result (rooms caps.new marks.new initial.new pre.new post.new word.new) }
 {
-    let answer = file_entry::read_case(file, caps, marks, initial, pre, post, word);
-    of_case(answer)
+    of_case(file_entry::read_case(file, caps, marks, initial, pre, post, word))
 }

@@ -3,19 +3,21 @@
 // name; a function of_.. puts an answer's numbers into the struct.
 #![tactic(auto)]
 
-ghost use Rattle.std.specs.Prelude.{◌≡◌, ◌≤◌, ◌-◌};
+ghost use Rattle.std.specs.Prelude.{◌≡◌, ◌≤◌, length, drop, Ok};
 ghost use Rattle.net.specs.Net.{net_of};
 ghost use Rattle.order.specs.Entry.{order_of};
 ghost use Rattle.order.specs.Entry as ordered;
 ghost use Rattle.order_rest.specs.Rest.{rest_fault};
 ghost use Rattle.order_rest.specs.Rest as rest;
 ghost use Rattle.c_answer.specs.Hand.{handed};
-ghost use Rattle.c_order.specs.Handed.{HandedOrder, handed_unread};
+ghost use Rattle.c_order.specs.Handed.{HandedOrder, handed_rest, handed_unread};
 
 use c_answer::{ANSWERED, Answer, REFUSED};
 use ground::Weight;
+use net::Lent;
 use order::LogOrder;
-use refusals::Fault;
+use orders::Logs;
+use refusals::Refusal;
 
 // What the answer to the unread rest says: from letter `start` of log `log` on, `length` letters.
 #[repr(C)]
@@ -30,24 +32,25 @@ pub struct RestAnswer {
 }
 
 // The answer about two logs, in 01's numbers.
-fn of_order(answer: LogOrder) -> Answer
+#[tactic(auto, unfolding(c_answer::specs::Hand::handed))]
+fn of_order(answer: Result<LogOrder, Refusal>) -> Answer
     ensures { result ≡ handed (ordered.numbers answer) }
 {
     match answer {
-        LogOrder::Found => Answer {
+        Ok(LogOrder::Found) => Answer {
             kind: ANSWERED,
             number: 0,
             position: 0,
         },
-        LogOrder::NoneFires => Answer {
+        Ok(LogOrder::NoneFires) => Answer {
             kind: ANSWERED,
             number: 1,
             position: 0,
         },
-        LogOrder::Refused(number, at) => Answer {
+        Err(why) => Answer {
             kind: REFUSED,
-            number,
-            position: at,
+            number: why.number,
+            position: why.at,
         },
     }
 }
@@ -69,36 +72,33 @@ pub extern "C" fn kaunorpi_order_logs(
 ) -> Answer
     ensures { HandedOrder (order_of (net_of places transitions pre.now post.now caps.now marks.now) initial.now first.now second.now room.old work.old) result room.new work.new }
 {
-    let answer = order::order_logs(
+    let net = Lent {
         places,
         transitions,
         pre,
         post,
         caps,
         marks,
-        initial,
-        first,
-        second,
-        room,
-        work,
-    );
-    of_order(answer)
+    };
+    let logs = Logs { first, second };
+    of_order(order::order_logs(&net, initial, &logs, room, work))
 }
 
 // What is refused of the question for the rest, in 01's numbers.
-fn of_fault(found: Fault) -> Answer
-    ensures { result ≡ handed (rest.numbers found) }
+#[tactic(auto, unfolding(c_answer::specs::Hand::handed))]
+fn of_fault(told: Result<(), Refusal>) -> Answer
+    ensures { result ≡ handed (rest.numbers told) }
 {
-    match found {
-        Fault::Sound => Answer {
+    match told {
+        Ok(()) => Answer {
             kind: ANSWERED,
             number: 0,
             position: 0,
         },
-        Fault::Faulty(number, at) => Answer {
+        Err(why) => Answer {
             kind: REFUSED,
-            number,
-            position: at,
+            number: why.number,
+            position: why.at,
         },
     }
 }
@@ -113,8 +113,24 @@ pub extern "C" fn kaunorpi_rest_fault(
 ) -> Answer
     ensures { result ≡ handed (rest.numbers (rest_fault first.now second.now order.now step)) }
 {
-    let told = order_rest::rest_fault(first, second, order, step);
-    of_fault(told)
+    let logs = Logs { first, second };
+    of_fault(order_rest::rest_fault(&logs, order, step))
+}
+
+// The rest of a log from one of its letters on, and which log that is.
+#[tactic(auto, unfolding(crate::specs::Handed::handed_rest))]
+fn rest_from(log: usize, letters: &[u8], start: usize) -> RestAnswer
+    requires { start ≤ length letters.now }
+    ensures { result ≡ handed_rest (Ok tt) log start (drop start letters.now) }
+{
+    RestAnswer {
+        kind: ANSWERED,
+        number: 0,
+        position: 0,
+        log,
+        start,
+        length: letters.len() - start,
+    }
 }
 
 // Where the unread rest of whichever log the step takes from lies in that log.
@@ -127,37 +143,23 @@ pub extern "C" fn kaunorpi_unread_rest(
 ) -> RestAnswer
     ensures { result ≡ handed_unread first.now second.now order.now step }
 {
-    let found = order_rest::rest_fault(first, second, order, step);
-    match found {
-        Fault::Faulty(number, at) => RestAnswer {
+    let logs = Logs { first, second };
+    match order_rest::rest_fault(&logs, order, step) {
+        Err(why) => RestAnswer {
             kind: REFUSED,
-            number,
-            position: at,
+            number: why.number,
+            position: why.at,
             log: 0,
             start: 0,
             length: 0,
         },
-        Fault::Sound => {
+        Ok(()) => {
             let which = order[step];
             let n = orders::read_of(order, step, which);
             if which == 0 {
-                RestAnswer {
-                    kind: ANSWERED,
-                    number: 0,
-                    position: 0,
-                    log: 0,
-                    start: n,
-                    length: first.len() - n,
-                }
+                rest_from(0, first, n)
             } else {
-                RestAnswer {
-                    kind: ANSWERED,
-                    number: 0,
-                    position: 0,
-                    log: 1,
-                    start: n,
-                    length: second.len() - n,
-                }
+                rest_from(1, second, n)
             }
         }
     }

@@ -14,7 +14,8 @@ ghost use Rattle.c_replay.specs.Handed.{handed_replay, HandedReplay};
 
 use c_answer::{ANSWERED, REFUSED};
 use ground::Weight;
-use net::Cause;
+use net::{Cause, Lent};
+use refusals::Refusal;
 use replay::Replay;
 
 // What a replay's answer says.
@@ -28,6 +29,7 @@ pub struct ReplayAnswer {
 }
 
 // A block: 1 short or 2 over, with the letter and the place.
+#[tactic(auto, unfolding(crate::specs::Handed::handed_replay))]
 fn of_block(at: usize, why: Cause) -> ReplayAnswer
     ensures { result ≡ handed_replay (0x81 ∷ cause_number why ∷ at ∷ cause_values why) }
 {
@@ -48,21 +50,22 @@ fn of_block(at: usize, why: Cause) -> ReplayAnswer
 }
 
 // The answer to a replay, in 01's numbers.
-fn of_replay(answer: Replay) -> ReplayAnswer
+#[tactic(auto, unfolding(crate::specs::Handed::handed_replay))]
+fn of_replay(answer: Result<Replay, Refusal>) -> ReplayAnswer
     ensures { result ≡ handed_replay (replay.numbers answer) }
 {
     match answer {
-        Replay::Fired(letters) => ReplayAnswer {
+        Ok(Replay::Fired(letters)) => ReplayAnswer {
             kind: ANSWERED,
             number: 0,
             position: letters,
             place: 0,
         },
-        Replay::Blocked(at, why) => of_block(at, why),
-        Replay::Refused(number, at) => ReplayAnswer {
+        Ok(Replay::Blocked(at, why)) => of_block(at, why),
+        Err(why) => ReplayAnswer {
             kind: REFUSED,
-            number: number,
-            position: at,
+            number: why.number,
+            position: why.at,
             place: 0,
         },
     }
@@ -82,18 +85,15 @@ pub fn kaunorpi_replay_word(
 ) -> ReplayAnswer
     ensures { HandedReplay (replay_of (net_of places transitions pre.now post.now caps.now marks.now) initial.now word.now true room.old) result room.new }
 {
-    let answer = replay::replay_word(
+    let net = Lent {
         places,
         transitions,
         pre,
         post,
         caps,
         marks,
-        initial,
-        word,
-        room,
-    );
-    of_replay(answer)
+    };
+    of_replay(replay::replay_word(&net, initial, word, room))
 }
 
 // The same for the letters from number start up to number end.
@@ -112,18 +112,13 @@ pub fn kaunorpi_replay_stretch(
 ) -> ReplayAnswer
     ensures { HandedReplay (replay_of (net_of places transitions pre.now post.now caps.now marks.now) initial.now (stretch word.now start end) (inside word.now start end) room.old) result room.new }
 {
-    let answer = replay::replay_stretch(
+    let net = Lent {
         places,
         transitions,
         pre,
         post,
         caps,
         marks,
-        initial,
-        word,
-        start,
-        end,
-        room,
-    );
-    of_replay(answer)
+    };
+    of_replay(replay::replay_stretch(&net, initial, word, start, end, room))
 }

@@ -1,18 +1,17 @@
 -- To be believed: a running replay for C: the numbers of its answer, and the lent state as the entry leaves it.
-use Rattle.std.specs.Prelude.{◌≡◌}
+use Rattle.std.specs.Prelude.{Ok, Err, ◌≡◌}
+use Rattle.refusals.specs.Given.{Answer}
 use Rattle.running.specs.Entry.{numbers}
 use Rattle.running.specs.declared.Running.{Running}
 use Rattle.running.specs.declared.Part.{Part}
-use Rattle.running.specs.declared.Part.TheVariants.{Fired, Blocked, Refused}
 use Rattle.running.specs.declared.Fed.{Fed}
 use Rattle.c_replay.specs.Handed.{handed_replay}
 use Rattle.c_replay.specs.declared.ReplayAnswer.{ReplayAnswer}
 
 -- "A refusal leaves lent memory as found": a start that is refused leaves the state s; another leaves the state that it made
-abbrev pub state_after : Part → Running → Running → Running
-state_after (Refused n at) made s = s
-state_after (Fired n) made s = made
-state_after (Blocked c n p) made s = made
+abbrev pub state_after : Answer Part → Running → Running → Running
+state_after (Err r) made s = s
+state_after (Ok p) made s = made
 
 abbrev pub begun : Fed → Running → Fed
 begun fed s = record { state = state_after fed.answer fed.state s; answer = fed.answer }

@@ -1,8 +1,8 @@
 // Running replay for C, as include/kaunorpi.h declares it: the state is a struct of the caller's, lent by its
-// pointer and changed in place. Each export is a thin wrapper over a function that has the state by value.
+// pointer and changed in place.
 #![tactic(auto)]
 
-ghost use Rattle.std.specs.Prelude.{◌≡◌};
+ghost use Rattle.std.specs.Prelude.{Ok, ◌≡◌};
 ghost use Rattle.net.specs.Net.{net_of};
 ghost use Rattle.running.specs.State.{fed_of};
 ghost use Rattle.running.specs.Entry.{numbers, start_of};
@@ -12,20 +12,15 @@ ghost use Rattle.c_running.specs.Handed.{begun, HandedPart};
 use c_answer::{ANSWERED, REFUSED};
 use c_replay::ReplayAnswer;
 use ground::Weight;
+use net::Lent;
+use refusals::Refusal;
 use running::{Fed, Part, Running};
 
-// A state, and what C is told.
-#[derive(Clone, Copy)]
-struct Told {
-    state: Running,
-    answer: ReplayAnswer,
-}
-
-// The answer to a part, in 01's numbers.
-fn of_part(answer: Part) -> ReplayAnswer
-    ensures { result ≡ handed_replay (numbers answer) }
+// An answer to a part that is no refusal, in 01's numbers.
+fn of_played(part: Part) -> ReplayAnswer
+    ensures { result ≡ handed_replay (numbers (Ok part)) }
 {
-    match answer {
+    match part {
         Part::Fired(letters) => ReplayAnswer {
             kind: ANSWERED,
             number: 0,
@@ -36,85 +31,37 @@ fn of_part(answer: Part) -> ReplayAnswer
             kind: ANSWERED,
             number: cause,
             position: at,
-            place: place,
+            place,
         },
-        Part::Refused(number, at) => ReplayAnswer {
+    }
+}
+
+// The answer to a part, in 01's numbers.
+fn of_part(answer: Result<Part, Refusal>) -> ReplayAnswer
+    ensures { result ≡ handed_replay (numbers answer) }
+{
+    match answer {
+        Ok(part) => of_played(part),
+        Err(why) => ReplayAnswer {
             kind: REFUSED,
-            number: number,
-            position: at,
+            number: why.number,
+            position: why.at,
             place: 0,
         },
     }
 }
 
-// A state and an answer, told.
-fn hand_over(fed: Fed) -> Told
-    ensures { HandedPart fed result.answer result.state }
-{
-    let state = fed.state;
-    let answer = fed.answer;
-    let told = of_part(answer);
-    Told {
-        state: state,
-        answer: told,
-    }
-}
-
-// The state that a start leaves: the one found where it is refused.
+// What a start leaves: the state found where it is refused.
 fn after_start(fed: Fed, state: Running) -> Fed
     ensures { result ≡ begun fed state }
 {
-    let made = fed.state;
-    let answer = fed.answer;
-    match answer {
-        Part::Fired(letters) => Fed {
-            state: made,
-            answer: Part::Fired(letters),
-        },
-        Part::Blocked(cause, at, place) => Fed {
-            state: made,
-            answer: Part::Blocked(cause, at, place),
-        },
-        Part::Refused(number, at) => Fed {
-            state: state,
-            answer: Part::Refused(number, at),
+    match fed.answer {
+        Ok(_) => fed,
+        Err(why) => Fed {
+            state,
+            answer: Err(why),
         },
     }
-}
-
-// The state before the first part, by value: what `kaunorpi_start_replay` does.
-fn start_told(
-    places: usize,
-    transitions: usize,
-    pre: &[Weight],
-    post: &[Weight],
-    caps: &[u16],
-    marks: &[u8],
-    initial: &[u16],
-    state: Running,
-) -> Told
-    ensures { HandedPart (begun (start_of (net_of places transitions pre.now post.now caps.now marks.now) initial.now) state) result.answer result.state }
-{
-    let fed = running::start_replay(places, transitions, pre, post, caps, marks, initial);
-    let left = after_start(fed, state);
-    hand_over(left)
-}
-
-// A part, by value: what `kaunorpi_replay_part` does.
-fn part_told(
-    places: usize,
-    transitions: usize,
-    pre: &[Weight],
-    post: &[Weight],
-    caps: &[u16],
-    marks: &[u8],
-    state: Running,
-    part: &[u8],
-) -> Told
-    ensures { HandedPart (fed_of (net_of places transitions pre.now post.now caps.now marks.now) state part.now) result.answer result.state }
-{
-    let fed = running::run_part(places, transitions, pre, post, caps, marks, state, part);
-    hand_over(fed)
 }
 
 // Sets a state to the net's initial marking, before the first part. A refusal leaves it as found.
@@ -131,9 +78,17 @@ pub extern "C" fn kaunorpi_start_replay(
 ) -> ReplayAnswer
     ensures { HandedPart (begun (start_of (net_of places transitions pre.now post.now caps.now marks.now) initial.now) state.old) result state.new }
 {
-    let out = start_told(places, transitions, pre, post, caps, marks, initial, *state);
+    let net = Lent {
+        places,
+        transitions,
+        pre,
+        post,
+        caps,
+        marks,
+    };
+    let out = after_start(running::start_replay(&net, initial), *state);
     *state = out.state;
-    out.answer
+    of_part(out.answer)
 }
 
 // Plays a part of a log on a state. A refusal, and a part after a block, leave it as found.
@@ -150,7 +105,14 @@ pub extern "C" fn kaunorpi_replay_part(
 ) -> ReplayAnswer
     ensures { HandedPart (fed_of (net_of places transitions pre.now post.now caps.now marks.now) state.old part.now) result state.new }
 {
-    let out = part_told(places, transitions, pre, post, caps, marks, *state, part);
-    *state = out.state;
-    out.answer
+    let net = Lent {
+        places,
+        transitions,
+        pre,
+        post,
+        caps,
+        marks,
+    };
+    let answer = running::replay_part(&net, state, part);
+    of_part(answer)
 }

@@ -12,7 +12,9 @@ ghost use Rattle.c_summary_answer.specs.Summaries.{HandedSummary};
 ghost use Rattle.c_summary.specs.Summaries.{empty_for};
 
 use c_summary_answer::SummaryAnswer;
+use c_summary_lists::Lists;
 use ground::Weight;
+use net::Lent;
 
 // The summary of no letters.
 #[unsafe(no_mangle)]
@@ -24,8 +26,12 @@ pub extern "C" fn kaunorpi_empty_summary(
 ) -> SummaryAnswer
     ensures { HandedSummary (empty_for places (fits (columns_of need.old climb.old change.old))) (columns_of need.old climb.old change.old) result (columns_of need.new climb.new change.new) }
 {
-    let fit = c_summary_lists::is_fitting(need.len(), climb.len(), change.len());
-    if fit {
+    let lists = Lists {
+        need: &*need,
+        climb: &*climb,
+        change: &*change,
+    };
+    if lists.is_fitting() {
         let made = summary::empty_summary(places);
         return c_summary_answer::hand_summed(made, need, climb, change);
     }
@@ -49,12 +55,24 @@ pub extern "C" fn kaunorpi_summary_word(
 ) -> SummaryAnswer
     ensures { HandedSummary (word_answer (net_of places transitions pre.now post.now caps.now marks.now) word.now (fits (columns_of need.old climb.old change.old))) (columns_of need.old climb.old change.old) result (columns_of need.new climb.new change.new) }
 {
-    let fit = c_summary_lists::is_fitting(need.len(), climb.len(), change.len());
-    if fit {
-        let made = summary::summary_word(places, transitions, pre, post, caps, marks, word);
+    let net = Lent {
+        places,
+        transitions,
+        pre,
+        post,
+        caps,
+        marks,
+    };
+    let lists = Lists {
+        need: &*need,
+        climb: &*climb,
+        change: &*change,
+    };
+    if lists.is_fitting() {
+        let made = summary::summary_word(&net, word);
         return c_summary_answer::hand_summed(made, need, climb, change);
     }
-    let none = summary::summary_stretch(places, transitions, pre, post, caps, marks, word, 1, 0);
+    let none = summary::summary_stretch(&net, word, 1, 0);
     c_summary_answer::of_summed(none)
 }
 
@@ -76,21 +94,23 @@ pub extern "C" fn kaunorpi_summary_stretch(
 ) -> SummaryAnswer
     ensures { HandedSummary (word_answer (net_of places transitions pre.now post.now caps.now marks.now) (stretch word.now start end) (inside word.now start end && fits (columns_of need.old climb.old change.old))) (columns_of need.old climb.old change.old) result (columns_of need.new climb.new change.new) }
 {
-    let fit = c_summary_lists::is_fitting(need.len(), climb.len(), change.len());
-    if fit {
-        let made = summary::summary_stretch(
-            places,
-            transitions,
-            pre,
-            post,
-            caps,
-            marks,
-            word,
-            start,
-            end,
-        );
+    let net = Lent {
+        places,
+        transitions,
+        pre,
+        post,
+        caps,
+        marks,
+    };
+    let lists = Lists {
+        need: &*need,
+        climb: &*climb,
+        change: &*change,
+    };
+    if lists.is_fitting() {
+        let made = summary::summary_stretch(&net, word, start, end);
         return c_summary_answer::hand_summed(made, need, climb, change);
     }
-    let none = summary::summary_stretch(places, transitions, pre, post, caps, marks, word, 1, 0);
+    let none = summary::summary_stretch(&net, word, 1, 0);
     c_summary_answer::of_summed(none)
 }

@@ -1,37 +1,44 @@
 -- To be believed: summaries for C. The place count and the letters stand in the answer, the slots in three lists of exactly 64 entries. A list of
 -- another length is 2: "a lent list's or room's length disagrees with the counts", after 1 and before all others.
+use Rattle.refusals.specs.Given.{Answer, Fault}
+use Rattle.std.specs.Prelude.{Ok, Err}
 use Rattle.std.specs.Prelude.{ℕ, ◌≡◌, Bool, not}
 use Rattle.refusals.specs.Given.{refuse, or_else}
-use Rattle.refusals.specs.declared.Fault.{Fault}
 use Rattle.summary_form.specs.Summary.{made_numbers}
 use Rattle.summary_form.specs.declared.Summary.{Summary}
-use Rattle.summary_form.specs.declared.Summed.{Summed}
-use Rattle.summary_form.specs.declared.Made.{Made}
-use Rattle.summary_form.specs.declared.Made.TheVariants.{Done, Refused}
 use Rattle.c_summary_lists.specs.Columns.{Columns, slots_from, columns_from}
 use Rattle.c_answer.specs.Hand.{at}
 use Rattle.c_summary_answer.specs.declared.SummaryAnswer.{SummaryAnswer}
 
--- a summary's answer: its numbers, its place count and its letters; a refusal comes with the empty summary of no places
-unfoldable pub handed_summary : Summed → SummaryAnswer
+-- the place count and the letters that come with an answer: a summary's own, and with a refusal those of the empty summary of no places
+abbrev pub places_with : Answer Summary → ℕ
+places_with (Ok s) = s.places
+places_with (Err r) = 0
+
+abbrev pub letters_with : Answer Summary → ℕ
+letters_with (Ok s) = s.letters
+letters_with (Err r) = 0
+
+-- a summary's answer: its numbers, its place count and its letters
+unfoldable pub handed_summary : Answer Summary → SummaryAnswer
 handed_summary x =
     record {
-      kind = at 0 (made_numbers x.answer);
-      number = at 1 (made_numbers x.answer);
-      position = at 2 (made_numbers x.answer);
-      places = x.summary.places;
-      letters = x.summary.letters;
+      kind = at 0 (made_numbers x);
+      number = at 1 (made_numbers x);
+      position = at 2 (made_numbers x);
+      places = places_with x;
+      letters = letters_with x;
     }
 
 -- the lists hold the slots where a summary was made; "A refusal leaves lent memory as found."
-abbrev pub left_by : Made → Columns → Columns → Columns
-left_by Done new lists = new
-left_by (Refused n at) new lists = lists
+abbrev pub left_by : Answer Summary → Columns → Columns
+left_by (Ok s) lists = columns_from s.slots
+left_by (Err r) lists = lists
 
 -- a summary's answer x, handed to C as r and in the lists
-pub record HandedSummary (x : Summed) (lists : Columns) (r : SummaryAnswer) (lists' : Columns) : Type 0 where
+pub record HandedSummary (x : Answer Summary) (lists : Columns) (r : SummaryAnswer) (lists' : Columns) : Type 0 where
   pub answer : r ≡ handed_summary x
-  pub left : lists' ≡ left_by x.answer (columns_from x.summary.slots) lists
+  pub left : lists' ≡ left_by x lists
 
 -- 1 for the place counts, then 2 for a list's length, then what the entry itself refuses
 unfoldable pub list_fault : Bool → Bool → Fault → Fault

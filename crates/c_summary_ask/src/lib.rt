@@ -3,76 +3,58 @@
 // its name; of_asked puts an answer's numbers into the struct.
 #![tactic(auto)]
 
-ghost use Rattle.std.specs.Prelude.{◌≡◌, false};
+ghost use Rattle.std.specs.Prelude.{Ok, ◌≡◌, false};
+ghost use Rattle.net.specs.Lent.{lent};
 ghost use Rattle.net.specs.Net.{net_of};
 ghost use Rattle.refusals.specs.Given.{refuse, or_else, outside, counts_fault};
-ghost use Rattle.refusals.specs.declared.Fault.TheVariants.{Sound};
 ghost use Rattle.summary_ask.specs.Ask.{asked_numbers};
+ghost use Rattle.summary_ask.specs.declared.Asked.TheVariants.{No};
 ghost use Rattle.c_summary_lists.specs.Columns.{columns_of};
-ghost use Rattle.c_answer.specs.Hand.{handed};
+ghost use Rattle.c_answer.specs.Hand.{at, handed};
 ghost use Rattle.c_summary_ask.specs.Ask.{ask_for, HandedReply};
-ghost use Rattle.c_summary_ask.specs.Walk.{unfit_asked};
 
 use c_answer::{ANSWERED, Answer, REFUSED};
+use c_summary_lists::Lists;
 use ground::Weight;
-use refusals::Fault;
+use net::{Lent, Net};
+use refusals::Refusal;
 use summary_ask::Asked;
 
+// Yes or no, in 01's numbers.
+fn said(asked: Asked) -> u8
+    ensures { result ≡ at 1 (asked_numbers (Ok asked)) }
+{
+    match asked {
+        Asked::Yes => 0,
+        Asked::No => 1,
+    }
+}
+
 // The answer of a summary that was asked, in 01's numbers.
-fn of_asked(answer: Asked) -> Answer
+fn of_asked(answer: Result<Asked, Refusal>) -> Answer
     ensures { result ≡ handed (asked_numbers answer) }
 {
     match answer {
-        Asked::Yes => Answer {
+        Ok(asked) => Answer {
             kind: ANSWERED,
-            number: 0,
+            number: said(asked),
             position: 0,
         },
-        Asked::No => Answer {
-            kind: ANSWERED,
-            number: 1,
-            position: 0,
-        },
-        Asked::Refused(number, at) => Answer {
+        Err(why) => Answer {
             kind: REFUSED,
-            number,
-            position: at,
+            number: why.number,
+            position: why.at,
         },
     }
 }
 
 // Refusals 1 and 2 of a question whose lists have another length than 64; it is always one of them.
-fn refuse_asked(
-    count: usize,
-    places: usize,
-    transitions: usize,
-    pre: &[Weight],
-    post: &[Weight],
-    caps: &[u16],
-    marks: &[u8],
-) -> Answer
-    ensures { result ≡ handed (asked_numbers (unfit_asked (or_else (refuse (outside count) 1 0) (counts_fault (net_of places transitions pre.now post.now caps.now marks.now) false)))) }
+fn refuse_asked(count: usize, net: &Net) -> Result<Asked, Refusal>
+    ensures { result ≡ or_else (refuse (outside count) 1 0) (or_else (counts_fault (lent net.now) false) (Ok No)) }
 {
-    if refusals::is_outside(count) {
-        return Answer {
-            kind: REFUSED,
-            number: 1,
-            position: 0,
-        };
-    }
-    let found = refusals::counts_fault(places, transitions, pre, post, caps, marks, false);
-    match found {
-        Fault::Faulty(number, at) => Answer {
-            kind: REFUSED,
-            number,
-            position: at,
-        },
-        Fault::Sound => Answer {
-            kind: ANSWERED,
-            number: 1,
-            position: 0,
-        },
-    }
+    refusals::refuse(refusals::is_outside(count), 1, 0)?;
+    refusals::counts_fault(net, false)?;
+    Ok(Asked::No)
 }
 
 // Whether the word of a summary fires from a marking.
@@ -94,21 +76,23 @@ pub extern "C" fn kaunorpi_ask_summary(
 ) -> Answer
     ensures { HandedReply (ask_for (net_of places transitions pre.now post.now caps.now marks.now) marking.now count letters (columns_of need.now climb.now change.now) room.old) result room.new }
 {
-    let fit = c_summary_lists::is_fitting(need.len(), climb.len(), change.len());
-    if fit {
-        let summary = c_summary_answer::lent_summary(count, letters, need, climb, change);
-        let answer = summary_ask::ask_summary(
-            places,
-            transitions,
-            pre,
-            post,
-            caps,
-            marks,
-            marking,
-            summary,
-            room,
-        );
+    let net = Lent {
+        places,
+        transitions,
+        pre,
+        post,
+        caps,
+        marks,
+    };
+    let lists = Lists {
+        need,
+        climb,
+        change,
+    };
+    if lists.is_fitting() {
+        let summary = c_summary_answer::lent_summary(count, letters, &lists);
+        let answer = summary_ask::ask_summary(&net, marking, summary, room);
         return of_asked(answer);
     }
-    refuse_asked(count, places, transitions, pre, post, caps, marks)
+    of_asked(refuse_asked(count, &net))
 }

@@ -1,4 +1,7 @@
 -- What C is handed: nothing of an answer is lost on the way (one answer: `unique`, c_answer/proofs/Hand.antt). Assumes nothing.
+use Rattle.std.specs.Prelude.{Result, Ok, Err}
+use Rattle.refusals.specs.Given.{refused}
+use Rattle.refusals.specs.declared.Refusal.{Refusal}
 use mathlib.Core.Path.{◌≡◌, refl}
 use mathlib.Core.Bool.{cond}
 use lib.Dec.{eqb}
@@ -20,48 +23,48 @@ use Rattle.c_weighting.specs.Handed.{handed_bound}
 use Rattle.c_answer.specs.declared.Answer.{Answer}
 use Rattle.c_weighting.specs.declared.BoundAnswer.{BoundAnswer}
 
-abbrev pub place_of : Answer → PlaceWeighting
-place_of r = cond (eqb r.kind 0x82) (place.Refused r.number r.position) (cond (eqb r.number 0) place.Invariant (place.NotInvariant r.position))
+abbrev pub place_of : Answer → Result PlaceWeighting Refusal
+place_of r = cond (eqb r.kind 0x82) (refused r.number r.position) (cond (eqb r.number 0) (Ok place.Invariant) (Ok (place.NotInvariant r.position)))
 
-pub place_whole : (a : PlaceWeighting) → place_of (handed (place_numbers a)) ≡ a
+pub place_whole : (a : Result PlaceWeighting Refusal) → place_of (handed (place_numbers a)) ≡ a
 unfolding handed
-place_whole place.Invariant = refl
-place_whole (place.NotInvariant t) = refl
-place_whole (place.Refused n at) = refl
+place_whole (Ok place.Invariant) = refl
+place_whole (Ok (place.NotInvariant t)) = refl
+place_whole (Err r) = refl
 
-abbrev pub transition_of : Answer → TransitionWeighting
+abbrev pub transition_of : Answer → Result TransitionWeighting Refusal
 transition_of r =
-    cond (eqb r.kind 0x82) (transition.Refused r.number r.position)
-    (cond (eqb r.number 0) transition.Invariant
-    (cond (eqb r.number 1) (transition.NotInvariant r.position) transition.Proper))
+    cond (eqb r.kind 0x82) (refused r.number r.position)
+    (cond (eqb r.number 0) (Ok transition.Invariant)
+    (cond (eqb r.number 1) (Ok (transition.NotInvariant r.position)) (Ok transition.Proper)))
 
-pub transition_whole : (a : TransitionWeighting) → transition_of (handed (transition_numbers a)) ≡ a
+pub transition_whole : (a : Result TransitionWeighting Refusal) → transition_of (handed (transition_numbers a)) ≡ a
 unfolding handed
-transition_whole transition.Invariant = refl
-transition_whole (transition.NotInvariant p) = refl
-transition_whole transition.Proper = refl
-transition_whole (transition.Refused n at) = refl
+transition_whole (Ok transition.Invariant) = refl
+transition_whole (Ok (transition.NotInvariant p)) = refl
+transition_whole (Ok transition.Proper) = refl
+transition_whole (Err r) = refl
 
-abbrev pub bound_of : BoundAnswer → Bound
+abbrev pub bound_of : BoundAnswer → Result Bound Refusal
 bound_of r =
-    cond (eqb r.kind 0x82) (bound.Refused r.number r.position)
-    (cond (eqb r.number 0) (bound.Bounded r.bound)
-    (cond (eqb r.position 1) (bound.NoBound NotInvariant)
-    (cond (eqb r.position 2) (bound.NoBound Negative) (bound.NoBound NotPositive))))
+    cond (eqb r.kind 0x82) (refused r.number r.position)
+    (cond (eqb r.number 0) (Ok (bound.Bounded r.bound))
+    (cond (eqb r.position 1) (Ok (bound.NoBound NotInvariant))
+    (cond (eqb r.position 2) (Ok (bound.NoBound Negative)) (Ok (bound.NoBound NotPositive)))))
 
-pub bound_whole : (a : Bound) → bound_of (handed_bound (bound_numbers a)) ≡ a
+pub bound_whole : (a : Result Bound Refusal) → bound_of (handed_bound (bound_numbers a)) ≡ a
 unfolding handed_bound
-bound_whole (bound.Bounded b) = refl
-bound_whole (bound.NoBound NotInvariant) = refl
-bound_whole (bound.NoBound Negative) = refl
-bound_whole (bound.NoBound NotPositive) = refl
-bound_whole (bound.Refused n at) = refl
+bound_whole (Ok (bound.Bounded b)) = refl
+bound_whole (Ok (bound.NoBound NotInvariant)) = refl
+bound_whole (Ok (bound.NoBound Negative)) = refl
+bound_whole (Ok (bound.NoBound NotPositive)) = refl
+bound_whole (Err r) = refl
 
-abbrev pub set_of : Answer → SetAnswer
-set_of r = cond (eqb r.kind 0x82) (set.Refused r.number r.position) (cond (eqb r.number 0) set.Yes (set.No r.position))
+abbrev pub set_of : Answer → Result SetAnswer Refusal
+set_of r = cond (eqb r.kind 0x82) (refused r.number r.position) (cond (eqb r.number 0) (Ok set.Yes) (Ok (set.No r.position)))
 
-pub set_whole : (a : SetAnswer) → set_of (handed (set_numbers a)) ≡ a
+pub set_whole : (a : Result SetAnswer Refusal) → set_of (handed (set_numbers a)) ≡ a
 unfolding handed
-set_whole set.Yes = refl
-set_whole (set.No t) = refl
-set_whole (set.Refused n at) = refl
+set_whole (Ok set.Yes) = refl
+set_whole (Ok (set.No t)) = refl
+set_whole (Err r) = refl

@@ -14,6 +14,8 @@ ghost use Rattle.c_weighting.specs.Handed.{handed_bound};
 
 use c_answer::{ANSWERED, Answer, REFUSED};
 use ground::Weight;
+use net::Lent;
+use refusals::Refusal;
 use sets::SetAnswer;
 use weighting::{PlaceWeighting, TransitionWeighting};
 use weighting_bound::{Bound, NoBoundCause};
@@ -28,26 +30,39 @@ pub struct BoundAnswer {
     pub bound: u64,
 }
 
+// An answer's numbers: which it is, and its position, 0 where it has none.
+#[tactic(auto, unfolding(c_answer::specs::Hand::handed))]
+fn answered(number: u8, position: usize) -> Answer
+    ensures { result ≡ handed (0x81 ∷ number ∷ position ∷ []) }
+{
+    Answer {
+        kind: ANSWERED,
+        number,
+        position,
+    }
+}
+
+// A refusal's.
+#[tactic(auto, unfolding(c_answer::specs::Hand::handed))]
+fn refused(why: Refusal) -> Answer
+    ensures { result ≡ handed (0x82 ∷ why.number ∷ why.at ∷ []) }
+{
+    Answer {
+        kind: REFUSED,
+        number: why.number,
+        position: why.at,
+    }
+}
+
 // The answer about a place weighting, in 01's numbers.
-fn of_place(answer: PlaceWeighting) -> Answer
+#[tactic(auto, unfolding(c_answer::specs::Hand::handed))]
+fn of_place(answer: Result<PlaceWeighting, Refusal>) -> Answer
     ensures { result ≡ handed (place_numbers answer) }
 {
     match answer {
-        PlaceWeighting::Invariant => Answer {
-            kind: ANSWERED,
-            number: 0,
-            position: 0,
-        },
-        PlaceWeighting::NotInvariant(t) => Answer {
-            kind: ANSWERED,
-            number: 1,
-            position: t,
-        },
-        PlaceWeighting::Refused(number, at) => Answer {
-            kind: REFUSED,
-            number: number,
-            position: at,
-        },
+        Ok(PlaceWeighting::Invariant) => answered(0, 0),
+        Ok(PlaceWeighting::NotInvariant(t)) => answered(1, t),
+        Err(why) => refused(why),
     }
 }
 
@@ -64,35 +79,27 @@ pub extern "C" fn kaunorpi_place_weighting(
 ) -> Answer
     ensures { result ≡ handed (place_numbers (place_of (net_of places transitions pre.now post.now caps.now marks.now) y.now)) }
 {
-    let answer = weighting::place_weighting(places, transitions, pre, post, caps, marks, y);
-    of_place(answer)
+    let net = Lent {
+        places,
+        transitions,
+        pre,
+        post,
+        caps,
+        marks,
+    };
+    of_place(weighting::place_weighting(&net, y))
 }
 
 // The answer about a transition weighting, in 01's numbers.
-fn of_transition(answer: TransitionWeighting) -> Answer
+#[tactic(auto, unfolding(c_answer::specs::Hand::handed))]
+fn of_transition(answer: Result<TransitionWeighting, Refusal>) -> Answer
     ensures { result ≡ handed (transition_numbers answer) }
 {
     match answer {
-        TransitionWeighting::Invariant => Answer {
-            kind: ANSWERED,
-            number: 0,
-            position: 0,
-        },
-        TransitionWeighting::NotInvariant(p) => Answer {
-            kind: ANSWERED,
-            number: 1,
-            position: p,
-        },
-        TransitionWeighting::Proper => Answer {
-            kind: ANSWERED,
-            number: 2,
-            position: 0,
-        },
-        TransitionWeighting::Refused(number, at) => Answer {
-            kind: REFUSED,
-            number: number,
-            position: at,
-        },
+        Ok(TransitionWeighting::Invariant) => answered(0, 0),
+        Ok(TransitionWeighting::NotInvariant(p)) => answered(1, p),
+        Ok(TransitionWeighting::Proper) => answered(2, 0),
+        Err(why) => refused(why),
     }
 }
 
@@ -109,52 +116,50 @@ pub extern "C" fn kaunorpi_transition_weighting(
 ) -> Answer
     ensures { result ≡ handed (transition_numbers (transition_of (net_of places transitions pre.now post.now caps.now marks.now) x.now)) }
 {
-    let answer = weighting::transition_weighting(places, transitions, pre, post, caps, marks, x);
-    of_transition(answer)
+    let net = Lent {
+        places,
+        transitions,
+        pre,
+        post,
+        caps,
+        marks,
+    };
+    of_transition(weighting::transition_weighting(&net, x))
 }
 
-// No bound, with the number of its cause in the order they are tried.
-fn of_no_bound(why: NoBoundCause) -> BoundAnswer
-    ensures { result ≡ handed_bound (0x81 ∷ 1 ∷ cause_number why ∷ []) }
+// The number of a cause, in the order they are tried.
+fn cause_number(why: NoBoundCause) -> usize
+    ensures { result ≡ cause_number why }
 {
     match why {
-        NoBoundCause::NotInvariant => BoundAnswer {
-            kind: ANSWERED,
-            number: 1,
-            position: 1,
-            bound: 0,
-        },
-        NoBoundCause::Negative => BoundAnswer {
-            kind: ANSWERED,
-            number: 1,
-            position: 2,
-            bound: 0,
-        },
-        NoBoundCause::NotPositive => BoundAnswer {
-            kind: ANSWERED,
-            number: 1,
-            position: 3,
-            bound: 0,
-        },
+        NoBoundCause::NotInvariant => 1,
+        NoBoundCause::Negative => 2,
+        NoBoundCause::NotPositive => 3,
     }
 }
 
 // The answer about a bound, in 01's numbers.
-fn of_bound(answer: Bound) -> BoundAnswer
+#[tactic(auto, unfolding(crate::specs::Handed::handed_bound))]
+fn of_bound(answer: Result<Bound, Refusal>) -> BoundAnswer
     ensures { result ≡ handed_bound (bound_numbers answer) }
 {
     match answer {
-        Bound::Bounded(bound) => BoundAnswer {
+        Ok(Bound::Bounded(bound)) => BoundAnswer {
             kind: ANSWERED,
             number: 0,
             position: 0,
-            bound: bound,
+            bound,
         },
-        Bound::NoBound(why) => of_no_bound(why),
-        Bound::Refused(number, at) => BoundAnswer {
+        Ok(Bound::NoBound(why)) => BoundAnswer {
+            kind: ANSWERED,
+            number: 1,
+            position: cause_number(why),
+            bound: 0,
+        },
+        Err(why) => BoundAnswer {
             kind: REFUSED,
-            number: number,
-            position: at,
+            number: why.number,
+            position: why.at,
             bound: 0,
         },
     }
@@ -175,40 +180,26 @@ pub extern "C" fn kaunorpi_place_bound(
 ) -> BoundAnswer
     ensures { result ≡ handed_bound (bound_numbers (bound_of (net_of places transitions pre.now post.now caps.now marks.now) initial.now y.now place)) }
 {
-    let answer = weighting_bound::place_bound(
+    let net = Lent {
         places,
         transitions,
         pre,
         post,
         caps,
         marks,
-        initial,
-        y,
-        place,
-    );
-    of_bound(answer)
+    };
+    of_bound(weighting_bound::place_bound(&net, initial, y, place))
 }
 
 // The answer about a set, in 01's numbers.
-fn of_set(answer: SetAnswer) -> Answer
+#[tactic(auto, unfolding(c_answer::specs::Hand::handed))]
+fn of_set(answer: Result<SetAnswer, Refusal>) -> Answer
     ensures { result ≡ handed (set_numbers answer) }
 {
     match answer {
-        SetAnswer::Yes => Answer {
-            kind: ANSWERED,
-            number: 0,
-            position: 0,
-        },
-        SetAnswer::No(t) => Answer {
-            kind: ANSWERED,
-            number: 1,
-            position: t,
-        },
-        SetAnswer::Refused(number, at) => Answer {
-            kind: REFUSED,
-            number: number,
-            position: at,
-        },
+        Ok(SetAnswer::Yes) => answered(0, 0),
+        Ok(SetAnswer::No(t)) => answered(1, t),
+        Err(why) => refused(why),
     }
 }
 
@@ -225,8 +216,15 @@ pub extern "C" fn kaunorpi_siphon_set(
 ) -> Answer
     ensures { result ≡ handed (set_numbers (siphon_of (net_of places transitions pre.now post.now caps.now marks.now) set.now)) }
 {
-    let answer = sets::siphon_set(places, transitions, pre, post, caps, marks, set);
-    of_set(answer)
+    let net = Lent {
+        places,
+        transitions,
+        pre,
+        post,
+        caps,
+        marks,
+    };
+    of_set(sets::siphon_set(&net, set))
 }
 
 // Whether a set of places is a trap.
@@ -242,6 +240,13 @@ pub extern "C" fn kaunorpi_trap_set(
 ) -> Answer
     ensures { result ≡ handed (set_numbers (trap_of (net_of places transitions pre.now post.now caps.now marks.now) set.now)) }
 {
-    let answer = sets::trap_set(places, transitions, pre, post, caps, marks, set);
-    of_set(answer)
+    let net = Lent {
+        places,
+        transitions,
+        pre,
+        post,
+        caps,
+        marks,
+    };
+    of_set(sets::trap_set(&net, set))
 }

@@ -1,6 +1,7 @@
 -- To be believed: a case file written back, for C: its length, or a refusal with its position.
 use Rattle.std.specs.Prelude.{ℕ, ◌≡◌, cond, List}
-use Rattle.file_write.specs.Entry.{Wrote, numbers}
+use Rattle.file_write.specs.Told.{numbers}
+use Rattle.file_write.specs.Entry.{Wrote}
 use Rattle.c_answer.specs.Hand.{at, asked}
 use Rattle.c_write.specs.declared.LengthAnswer.{LengthAnswer}
 

@@ -5,13 +5,14 @@
 
 ghost use Rattle.std.specs.Prelude.{◌≡◌};
 ghost use Rattle.net.specs.Net.{net_of};
-ghost use Rattle.file_write.specs.Told.{length_numbers, length_of};
-ghost use Rattle.file_write.specs.Entry.{numbers, write_of};
+ghost use Rattle.file_write.specs.Told.{length_of, numbers};
+ghost use Rattle.file_write.specs.Entry.{write_of};
 ghost use Rattle.c_write.specs.Handed.{handed_length, HandedFile};
 
 use c_answer::{ANSWERED, REFUSED};
-use file_write::{CaseLength, WriteCase};
 use ground::Weight;
+use net::Lent;
+use refusals::Refusal;
 
 // What the answer to a case file's length says, and the answer to writing one.
 #[repr(C)]
@@ -23,21 +24,21 @@ pub struct LengthAnswer {
     pub length: usize,
 }
 
-// The answer about the length, in 01's numbers.
-fn of_length(answer: CaseLength) -> LengthAnswer
-    ensures { result ≡ handed_length (length_numbers answer) }
+// The answer about a length, in 01's numbers.
+fn of_length(answer: Result<usize, Refusal>) -> LengthAnswer
+    ensures { result ≡ handed_length (numbers answer) }
 {
     match answer {
-        CaseLength::Told(told) => LengthAnswer {
+        Ok(length) => LengthAnswer {
             kind: ANSWERED,
             number: 0,
             position: 0,
-            length: told,
+            length,
         },
-        CaseLength::Refused(number, at) => LengthAnswer {
+        Err(refusal) => LengthAnswer {
             kind: REFUSED,
-            number,
-            position: at,
+            number: refusal.number,
+            position: refusal.at,
             length: 0,
         },
     }
@@ -55,30 +56,17 @@ pub extern "C" fn kaunorpi_case_length(
     initial: &[u16],
     word: &[u8],
 ) -> LengthAnswer
-    ensures { result ≡ handed_length (length_numbers (length_of (net_of places transitions pre.now post.now caps.now marks.now) initial.now word.now)) }
+    ensures { result ≡ handed_length (numbers (length_of (net_of places transitions pre.now post.now caps.now marks.now) initial.now word.now)) }
 {
-    let told = file_write::case_length(places, transitions, pre, post, caps, marks, initial, word);
-    of_length(told)
-}
-
-// The answer about the file, in 01's numbers.
-fn of_written(answer: WriteCase) -> LengthAnswer
-    ensures { result ≡ handed_length (numbers answer) }
-{
-    match answer {
-        WriteCase::Written(length) => LengthAnswer {
-            kind: ANSWERED,
-            number: 0,
-            position: 0,
-            length,
-        },
-        WriteCase::Refused(number, at) => LengthAnswer {
-            kind: REFUSED,
-            number,
-            position: at,
-            length: 0,
-        },
-    }
+    let net = Lent {
+        places,
+        transitions,
+        pre,
+        post,
+        caps,
+        marks,
+    };
+    of_length(file_write::case_length(&net, initial, word))
 }
 
 // The case file of a net, its initial marking and a word, at the front of a lent room.
@@ -96,16 +84,13 @@ pub extern "C" fn kaunorpi_write_case(
 ) -> LengthAnswer
     ensures { HandedFile (write_of (net_of places transitions pre.now post.now caps.now marks.now) initial.now word.now room.old) result room.new }
 {
-    let answer = file_write::write_case(
+    let net = Lent {
         places,
         transitions,
         pre,
         post,
         caps,
         marks,
-        initial,
-        word,
-        room,
-    );
-    of_written(answer)
+    };
+    of_length(file_write::write_case(&net, initial, word, room))
 }

@@ -1,5 +1,7 @@
 -- What the answers to a closed list say of the published relation, whatever follows the list, and that each promise fixes its answer. From each
 -- entry's promise it is said in Promise.antt. Assumes nothing.
+use Rattle.std.specs.Prelude.{Ok}
+use Rattle.refusals.specs.Given.{Answer, Fault}
 use Prim.Native.Nat.{ℕ, ◌+◌, ◌*◌, ◌<◌}
 use mathlib.Core.Path.{◌≡◌, refl, sym, ap, ◌∙◌}
 use mathlib.Core.Bool.{Bool, true}
@@ -12,8 +14,6 @@ use Rattle.net.specs.Net.{Net, capacity, tokens}
 use Rattle.net.specs.Firing.{Reachable}
 use Rattle.net.proofs.Meaning.{reachable_has}
 use Rattle.net.proofs.Rows.{row_at}
-use Rattle.refusals.specs.declared.Fault.{Fault}
-use Rattle.refusals.specs.declared.Fault.TheVariants.{Sound}
 use Rattle.lists.specs.Whole.{count, marking_at}
 use Rattle.lists.specs.declared.Failure.TheVariants.{InitialMissing, ResultMissing}
 use Rattle.lists.specs.Answers.{numbers, claim_numbers}
@@ -28,20 +28,19 @@ use Rattle.lists.proofs.Answers.{numbers_apart, claim_numbers_apart}
 use Rattle.list_check.specs.Given.{given_fault, list_of, target_of}
 use Rattle.list_check.specs.Allowed.{ListAllowed}
 use Rattle.list_check.proofs.Exactly.{of_allowed}
-use Rattle.list_check.proofs.Refusals.{lent_of, accepted_sound, failed_sound}
+use Rattle.list_check.proofs.Refusals.{lent_of, looked_sound, sound_looked}
 use Rattle.closed.specs.Closed.{Listed, IsClosed, FirstMissing}
 use Rattle.closed.specs.Stall.{stall_of}
 use Rattle.closed.proofs.Listed.{of_listed, listed_of, unlisted_of, of_unlisted, holds_of, missing_of, of_holds, of_missing}
 
--- `Allowed` is what 01 asks of all that is lent: of a list alone (`true`, `Sound`), or of a list with a target (`fits`, `next`)
-module _ (net : Net) (initial l : List ℕ) (fits : Bool) (next : Fault) {Allowed : Type 0} (sound : (given_fault Closed net initial l fits next ≡ Sound) ↔ Allowed) where
-  pub accepted_is : (list_of Closed net initial l fits next ≡ list.Accepted) ↔ (Allowed × IsClosed net initial l)
-  unfolding list_of
+-- `Allowed` is what 01 asks of all that is lent: of a list alone (`true`, `Ok tt`), or of a list with a target (`fits`, `next`)
+module _ (net : Net) (initial l : List ℕ) (fits : Bool) (next : Fault) {Allowed : Type 0} (sound : (given_fault Closed net initial l fits next ≡ Ok tt) ↔ Allowed) where
+  pub accepted_is : (list_of Closed net initial l fits next ≡ Ok list.Accepted) ↔ (Allowed × IsClosed net initial l)
   accepted_is = (there, λ h. back (sound.1 h.0) h.1)
     where
-      there : list_of Closed net initial l fits next ≡ list.Accepted → Allowed × IsClosed net initial l
+      there : list_of Closed net initial l fits next ≡ Ok list.Accepted → Allowed × IsClosed net initial l
       there q =
-          let a = accepted_sound Closed net initial l fits next q in
+          let a = looked_sound Closed net initial l fits next list.Accepted q in
           let g = lent_of Closed net initial l fits next a.0 in
           let k = looked_accepted _ _ _ _ a.1 in (
             sound.0 a.0,
@@ -51,34 +50,32 @@ module _ (net : Net) (initial l : List ℕ) (fits : Bool) (next : Fault) {Allowe
             },
           )
 
-      back : given_fault Closed net initial l fits next ≡ Sound → IsClosed net initial l → list_of Closed net initial l fits next ≡ list.Accepted
+      back : given_fault Closed net initial l fits next ≡ Ok tt → IsClosed net initial l → list_of Closed net initial l fits next ≡ Ok list.Accepted
       back q c =
           let g = lent_of Closed net initial l fits next q in
-          rw q
+          sound_looked Closed net initial l fits next list.Accepted q
           (accepted_looked _ _ _ _ (of_listed net.places l initial c.starts)
           (λ k t hk ht. of_holds net l g.ready k hk t (c.holds k t hk) ht))
 
-  pub initial_missing_is : (list_of Closed net initial l fits next ≡ list.Failed InitialMissing) ↔ (Allowed × (Listed net.places l initial → ⊥))
-  unfolding list_of
+  pub initial_missing_is : (list_of Closed net initial l fits next ≡ Ok (list.Failed InitialMissing)) ↔ (Allowed × (Listed net.places l initial → ⊥))
   initial_missing_is = (there, λ h. back (sound.1 h.0) h.1)
     where
-      there : list_of Closed net initial l fits next ≡ list.Failed InitialMissing → Allowed × (Listed net.places l initial → ⊥)
+      there : list_of Closed net initial l fits next ≡ Ok (list.Failed InitialMissing) → Allowed × (Listed net.places l initial → ⊥)
       there q =
-          let a = failed_sound Closed net initial l fits next InitialMissing q in
+          let a = looked_sound Closed net initial l fits next (list.Failed InitialMissing) q in
           (sound.0 a.0, unlisted_of net.places l initial (looked_initial _ _ _ _ a.1))
 
-      back : given_fault Closed net initial l fits next ≡ Sound → (Listed net.places l initial → ⊥) → list_of Closed net initial l fits next ≡ list.Failed InitialMissing
+      back : given_fault Closed net initial l fits next ≡ Ok tt → (Listed net.places l initial → ⊥) → list_of Closed net initial l fits next ≡ Ok (list.Failed InitialMissing)
       back q h =
           let g = lent_of Closed net initial l fits next q in
-          rw q (initial_looked _ _ _ _ (of_unlisted net.places l initial g.ready.long g.start h))
+          sound_looked Closed net initial l fits next (list.Failed InitialMissing) q (initial_looked _ _ _ _ (of_unlisted net.places l initial g.ready.long g.start h))
 
-  pub result_missing_is : (k t : ℕ) → (list_of Closed net initial l fits next ≡ list.Failed (ResultMissing k t)) ↔ (Allowed × (Listed net.places l initial × FirstMissing net l k t))
-  unfolding list_of
+  pub result_missing_is : (k t : ℕ) → (list_of Closed net initial l fits next ≡ Ok (list.Failed (ResultMissing k t))) ↔ (Allowed × (Listed net.places l initial × FirstMissing net l k t))
   result_missing_is k t = (there, λ h. back (sound.1 h.0) h.1.0 h.1.1)
     where
-      there : list_of Closed net initial l fits next ≡ list.Failed (ResultMissing k t) → Allowed × (Listed net.places l initial × FirstMissing net l k t)
+      there : list_of Closed net initial l fits next ≡ Ok (list.Failed (ResultMissing k t)) → Allowed × (Listed net.places l initial × FirstMissing net l k t)
       there q =
-          let a = failed_sound Closed net initial l fits next (ResultMissing k t) q in
+          let a = looked_sound Closed net initial l fits next (list.Failed (ResultMissing k t)) q in
           let g = lent_of Closed net initial l fits next a.0 in
           let b = looked_result _ _ _ _ k t a.1 in
           let f = b.1 in
@@ -97,10 +94,10 @@ module _ (net : Net) (initial l : List ℕ) (fits : Bool) (next : Fault) {Allowe
             ),
           )
 
-      back : given_fault Closed net initial l fits next ≡ Sound → Listed net.places l initial → FirstMissing net l k t → list_of Closed net initial l fits next ≡ list.Failed (ResultMissing k t)
+      back : given_fault Closed net initial l fits next ≡ Ok tt → Listed net.places l initial → FirstMissing net l k t → list_of Closed net initial l fits next ≡ Ok (list.Failed (ResultMissing k t))
       back q s f =
           let g = lent_of Closed net initial l fits next q in
-          rw q
+          sound_looked Closed net initial l fits next (list.Failed (ResultMissing k t)) q
           (result_looked _ _ _ _ k t (of_listed net.places l initial s)
           (record {
             inside = f.inside;
@@ -118,7 +115,7 @@ closed_reaches {net} {initial} {l} {m} c r =
 -- a marking with more tokens than may be given is in no list that is allowed: results are never cut to 16 bits
 pub large_absent : {net : Net} {initial l : List ℕ} (m : List ℕ) (p : ℕ) → ListAllowed Closed net initial l → token_limit < tokens m p → Listed net.places l m → ⊥
 large_absent {net} {initial} {l} m p a h x =
-    let g = lent_of Closed net initial l true Sound (of_allowed Closed net initial l a) in
+    let g = lent_of Closed net initial l true (Ok tt) (of_allowed Closed net initial l a) in
     let s = marking_small net.places (count net.places l) l x.number g.ready.long x.inside token_limit (entries_few net.places net.caps l (g.entries refl)) in
     let e = ap (λ (y : List ℕ). tokens y p) x.is in
     omega (arith, s.at p)
@@ -126,7 +123,7 @@ large_absent {net} {initial} {l} m p a h x =
 -- nor is one above capacity
 pub above_absent : {net : Net} {initial l : List ℕ} (m : List ℕ) (p : ℕ) → ListAllowed Closed net initial l → p < net.places → capacity net p < tokens m p → Listed net.places l m → ⊥
 above_absent {net} {initial} {l} m p a hp h x =
-    let g = lent_of Closed net initial l true Sound (of_allowed Closed net initial l a) in
+    let g = lent_of Closed net initial l true (Ok tt) (of_allowed Closed net initial l a) in
     let e = ap (λ (y : List ℕ). tokens y p) (sym x.is) ∙ row_at net.places x.number l p hp in
     let i = marking_end net.places (count net.places l) l x.number g.ready.long x.inside in
     let w = rw (mul-add-mod_self_right x.number net.places p, mod-eq_of_lt hp) at ((g.entries refl).at (x.number * net.places + p) (omega arith)).within in
@@ -144,11 +141,11 @@ repeats_harmless {net} {initial} {l} {l'} same c =
 
 -- each promise fixes its answer
 module _ (net : Net) (initial l : List ℕ) where
-  pub unique_list : (r r' : ListAnswer) → numbers r ≡ numbers (list_of Closed net initial l true Sound) → numbers r' ≡ numbers (list_of Closed net initial l true Sound) → r ≡ r'
+  pub unique_list : (r r' : Answer ListAnswer) → numbers r ≡ numbers (list_of Closed net initial l true (Ok tt)) → numbers r' ≡ numbers (list_of Closed net initial l true (Ok tt)) → r ≡ r'
   unique_list r r' p q = numbers_apart r r' (p ∙ sym q)
 
-  pub unique_target : (m : List ℕ) (r r' : ClaimAnswer) → claim_numbers r ≡ claim_numbers (target_of Closed net initial l m) → claim_numbers r' ≡ claim_numbers (target_of Closed net initial l m) → r ≡ r'
+  pub unique_target : (m : List ℕ) (r r' : Answer ClaimAnswer) → claim_numbers r ≡ claim_numbers (target_of Closed net initial l m) → claim_numbers r' ≡ claim_numbers (target_of Closed net initial l m) → r ≡ r'
   unique_target m r r' p q = claim_numbers_apart r r' (p ∙ sym q)
 
-  pub unique_stall : (r r' : ClaimAnswer) → claim_numbers r ≡ claim_numbers (stall_of net initial l) → claim_numbers r' ≡ claim_numbers (stall_of net initial l) → r ≡ r'
+  pub unique_stall : (r r' : Answer ClaimAnswer) → claim_numbers r ≡ claim_numbers (stall_of net initial l) → claim_numbers r' ≡ claim_numbers (stall_of net initial l) → r ≡ r'
   unique_stall r r' p q = claim_numbers_apart r r' (p ∙ sym q)

@@ -2,195 +2,94 @@
 // markings holds every reachable one, so what it lacks is never reached.
 #![tactic(auto)]
 
-ghost use Rattle.std.specs.Prelude.{◌≡◌, true, ◌<◌, length};
-ghost use Rattle.net.specs.Net.{net_of, Sized};
-ghost use Rattle.refusals.specs.declared.Fault.TheVariants.{Sound};
+ghost use Rattle.std.specs.Prelude.{◌≡◌, true, Ok, ◌<◌, length};
+ghost use Rattle.net.specs.Lent.{lent};
+ghost use Rattle.net.specs.Net.{Sized};
 ghost use Rattle.lists.specs.Answers.{numbers, claim_numbers};
 ghost use Rattle.lists.specs.declared.Kind.TheVariants.{Closed};
-ghost use Rattle.list_pairs.specs.Look.{Ready};
+ghost use Rattle.list_pairs.specs.Search.{Suits};
 ghost use Rattle.list_check.specs.Given.{list_of, target_of};
 ghost use Rattle.closed.specs.Stall.{stall_of};
 ghost use Rattle.closed.specs.Dead.{enables_none, dead, some_dead};
 
-use ground::Weight;
-use lists::{ClaimAnswer, Kind, ListAnswer};
-use refusals::Fault;
+use lists::{ClaimAnswer, Kind, ListAnswer, Markings};
+use net::{Net, WideNet};
+use refusals::Refusal;
 
 // Whether a marking enables nothing. It is loaded once, into the room.
-fn enables_none(
-    places: usize,
-    transitions: usize,
-    pre: &[Weight],
-    post: &[Weight],
-    caps: &[u32],
-    marks: &[u32],
-    listed: &[u16],
-    room: &mut [u32],
-) -> bool
-    requires sized { Sized (net_of places transitions pre.now post.now caps.now marks.now) }
-    requires listed_len { (length listed.now ≡ places) × (length room.old ≡ places) }
-    ensures { result ≡ enables_none (net_of places transitions pre.now post.now caps.now marks.now) listed.now }
+fn enables_none(net: &WideNet, listed: &[u16], room: &mut [u32]) -> bool
+    requires sized { Sized (lent net.now) }
+    requires listed_len { (length listed.now ≡ net.now.places) × (length room.old ≡ net.now.places) }
+    ensures { result ≡ enables_none (lent net.now) listed.now }
 {
     net::load(listed, room);
-    let mut t = 0;
-    while t < transitions {
-        if net::may_fire_at(places, transitions, pre, post, caps, marks, t, room) {
+    for t in 0..net.transitions {
+        if net::may_fire_at(net, t, room) {
             return false;
         }
-        t += 1;
     }
     true
 }
 
 // Whether a listed marking, by its number, enables nothing.
-fn is_dead(
-    places: usize,
-    transitions: usize,
-    pre: &[Weight],
-    post: &[Weight],
-    caps: &[u16],
-    marks: &[u8],
-    list: &[u16],
-    count: usize,
-    k: usize,
-) -> bool
-    requires ready { Ready (net_of places transitions pre.now post.now caps.now marks.now) count list.now }
-    requires k_lt_count { k < count }
-    ensures { result ≡ dead (net_of places transitions pre.now post.now caps.now marks.now) list.now k }
+fn is_dead(net: &Net, list: &Markings, k: usize) -> bool
+    requires suits { Suits (lent net.now) list.now }
+    requires k_lt_count { k < list.now.count }
+    ensures { result ≡ dead (lent net.now) list.now.list.now k }
 {
-    let limits = net::wide_caps(caps);
-    let kinds = net::wide_marks(marks);
+    let caps = net::wide_caps(net.caps);
+    let marks = net::wide_marks(net.marks);
+    let wide = net::widened(net, &caps, &marks);
     let mut room = lists::no_tokens();
-    let a = k * places;
-    let e = a + places;
-    enables_none(
-        places,
-        transitions,
-        pre,
-        post,
-        &limits[..places],
-        &kinds[..places],
-        &list[a..e],
-        &mut room[..places],
-    )
+    enables_none(&wide, list.marking(k), &mut room[..net.places])
 }
 
 // Whether some listed marking enables nothing.
-fn some_dead(
-    places: usize,
-    transitions: usize,
-    pre: &[Weight],
-    post: &[Weight],
-    caps: &[u16],
-    marks: &[u8],
-    list: &[u16],
-    count: usize,
-) -> bool
-    requires { Ready (net_of places transitions pre.now post.now caps.now marks.now) count list.now }
-    ensures { result ≡ some_dead (net_of places transitions pre.now post.now caps.now marks.now) count list.now }
+fn some_dead(net: &Net, list: &Markings) -> bool
+    requires { Suits (lent net.now) list.now }
+    ensures { result ≡ some_dead (lent net.now) list.now.count list.now.list.now }
 {
-    let mut k = 0;
-    while k < count {
-        if is_dead(places, transitions, pre, post, caps, marks, list, count, k) {
+    for k in 0..list.count {
+        if is_dead(net, list, k) {
             return true;
         }
-        k += 1;
     }
     false
 }
 
 // Whether a list is closed: it holds the initial marking and, for each listed marking and each
 // transition enabled there, the result.
-pub fn closed_list(
-    places: usize,
-    transitions: usize,
-    pre: &[Weight],
-    post: &[Weight],
-    caps: &[u16],
-    marks: &[u8],
-    initial: &[u16],
-    list: &[u16],
-) -> ListAnswer
-    ensures { numbers result ≡ numbers (list_of Closed (net_of places transitions pre.now post.now caps.now marks.now) initial.now list.now true Sound) }
+pub fn closed_list(net: &Net, initial: &[u16], list: &[u16]) -> Result<ListAnswer, Refusal>
+    ensures { numbers result ≡ numbers (list_of Closed (lent net.now) initial.now list.now true (Ok tt)) }
 {
-    list_check::check_list(
-        Kind::Closed,
-        places,
-        transitions,
-        pre,
-        post,
-        caps,
-        marks,
-        initial,
-        list,
-        true,
-        Fault::Sound,
-    )
+    list_check::check_list(Kind::Closed, net, initial, list, true, Ok(()))
 }
 
 // Whether a closed list shows that a target is never reached.
 pub fn closed_target(
-    places: usize,
-    transitions: usize,
-    pre: &[Weight],
-    post: &[Weight],
-    caps: &[u16],
-    marks: &[u8],
+    net: &Net,
     initial: &[u16],
     list: &[u16],
     target: &[u16],
-) -> ClaimAnswer
-    ensures { claim_numbers result ≡ claim_numbers (target_of Closed (net_of places transitions pre.now post.now caps.now marks.now) initial.now list.now target.now) }
+) -> Result<ClaimAnswer, Refusal>
+    ensures { claim_numbers result ≡ claim_numbers (target_of Closed (lent net.now) initial.now list.now target.now) }
 {
-    list_check::check_target(
-        Kind::Closed,
-        places,
-        transitions,
-        pre,
-        post,
-        caps,
-        marks,
-        initial,
-        list,
-        target,
-    )
+    list_check::check_target(Kind::Closed, net, initial, list, target)
 }
 
 // Whether a closed list shows that the line never stalls.
-pub fn closed_stall(
-    places: usize,
-    transitions: usize,
-    pre: &[Weight],
-    post: &[Weight],
-    caps: &[u16],
-    marks: &[u8],
-    initial: &[u16],
-    list: &[u16],
-) -> ClaimAnswer
-    ensures { claim_numbers result ≡ claim_numbers (stall_of (net_of places transitions pre.now post.now caps.now marks.now) initial.now list.now) }
+pub fn closed_stall(net: &Net, initial: &[u16], list: &[u16]) -> Result<ClaimAnswer, Refusal>
+    ensures { claim_numbers result ≡ claim_numbers (stall_of (lent net.now) initial.now list.now) }
 {
-    let found = list_check::check_list(
-        Kind::Closed,
-        places,
-        transitions,
-        pre,
-        post,
-        caps,
-        marks,
-        initial,
-        list,
-        true,
-        Fault::Sound,
-    );
-    match found {
-        ListAnswer::Refused(number, at) => ClaimAnswer::Refused(number, at),
-        ListAnswer::Failed(why) => ClaimAnswer::Failed(why),
+    let answer = list_check::check_list(Kind::Closed, net, initial, list, true, Ok(()))?;
+    match answer {
+        ListAnswer::Failed(why) => Ok(ClaimAnswer::Failed(why)),
         ListAnswer::Accepted => {
-            let n = list.len() / places;
-            if some_dead(places, transitions, pre, post, caps, marks, list, n) {
-                ClaimAnswer::NotShown
+            let markings = Markings::new(net.places, list);
+            if some_dead(net, &markings) {
+                Ok(ClaimAnswer::NotShown)
             } else {
-                ClaimAnswer::Shown
+                Ok(ClaimAnswer::Shown)
             }
         }
     }

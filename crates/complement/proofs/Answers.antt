@@ -1,17 +1,19 @@
 -- Laws of the answers: the refusal that is given, or what was told or written. Assumes nothing.
-use Prim.Native.Nat.{ℕ, ◌+◌, ◌-◌, ◌*◌, ◌≤◌, ◌<◌}
+use Rattle.std.specs.Prelude.{Ok, Err}
+use Rattle.refusals.specs.Given.{Answer, Fault}
+use Prim.Native.Nat.{ℕ, zero, suc, ◌+◌, ◌-◌, ◌*◌, ◌≤◌, ◌<◌}
 use mathlib.Core.Path.{◌≡◌, refl, sym, ap, ◌∙◌}
 use mathlib.Core.Bool.{Bool, true, false, not}
-use mathlib.Core.List.{List, ◌++◌}
+use mathlib.Core.List.{List, ◌∷◌, ◌++◌}
 use native.Mathlib.Omega.{arith}
 use native.Mathlib.Nat.{mul-le-mul_right}
 use mir.Syntax.{w64}
 use mir.Val.{Fits}
 use native.Mathlib.Decide.{dec_lt}
-use lib.ListN.{length, get_or, take, length-append, get_or-append}
+use lib.ListN.{length, get_or, take, replicate, length-append, get_or-append}
 use lib.Seq.{sets, get_or-append-add}
 use lib.Dec.{eqb}
-use borrow.Author.Tests.{lt-ltb, le-ltb, ltb-false, eqb-true, eq-eqb, not-true, not-false}
+use borrow.Author.Tests.{le-ltb, ltb-false, eqb-true, eq-eqb, not-true, not-false}
 use Rattle.ground.specs.Limits.{count_limit, no_capacity}
 use Rattle.ground.specs.Lists.{table}
 use Rattle.ground.proofs.Tests.{never, and-true}
@@ -20,32 +22,22 @@ use Rattle.net.proofs.Rule.{force_capped}
 use Rattle.net.specs.Letter.{row}
 use Rattle.net.proofs.Rows.{row_at, row_end, row_length_lem}
 use Rattle.refusals.specs.Given.{or_else, sized_net, net_fault, marked_fault}
-use Rattle.refusals.specs.declared.Fault.{Fault}
-use Rattle.refusals.specs.declared.Fault.TheVariants.{Sound, Faulty}
-use Rattle.refusals.proofs.Chains.{or_sound, sound_or, refuse_sound, chain_first}
+use Rattle.refusals.proofs.Chains.{or_sound, sound_or, refuse_sound}
 use Rattle.refusals.proofs.Refusals.{sized_true, net_met, met_net, marked_met, met_marked, marked_unfit, marked_unsized}
 use Rattle.ground.proofs.Fill.{table_length, table_at}
 use Rattle.complement.specs.Complement.{made, made_places, complement_places, fall_of, fall, joined, pre_row, post_row, complement_marking}
-use Rattle.complement.specs.Told.{limit_fault, places_fault, Told, Countable}
+use Rattle.complement.specs.Told.{limit_fault, places_fault, places_numbers, Told, Countable}
 use Rattle.complement.specs.Entry.{Rooms, rooms_of, lengths_fit, net_fits, rooms_fit, complement_fault, written, Complemented, Roomy, Allowed}
 use Rattle.complement.specs.Walk.{Inside, taken_from, put_to, tokens_at, new_pre, new_post, tokens_row}
-use Rattle.complement.specs.declared.ComplementPlaces.TheVariants as places
-use Rattle.complement.specs.declared.ComplementNet.TheVariants.{Made, Refused}
 use Rattle.complement.proofs.Choice.{chosen_few, chosen_is, chosen_map, made_capped}
 use Rattle.complement.proofs.Written.{sources_front, by_sources, joined_same}
 
--- which answer of refusal 10
-pub limit_over : (n : ℕ) → count_limit < n → Faulty 10 0 ≡ limit_fault n
-unfolding limit_fault
-limit_over n h = rw (lt-ltb count_limit n h)
-
-pub limit_none : (n : ℕ) → n ≤ count_limit → Sound ≡ limit_fault n
+-- refusal 10 is not given exactly where there are not too many
+limit_none : (n : ℕ) → n ≤ count_limit → Ok tt ≡ limit_fault n
 unfolding limit_fault
 limit_none n h = rw (le-ltb count_limit n h)
 
-pub ruleset limits = (limit_over, limit_none)
-
-limit_sound : (n : ℕ) → limit_fault n ≡ Sound → n ≤ count_limit
+limit_sound : (n : ℕ) → limit_fault n ≡ Ok tt → n ≤ count_limit
 unfolding limit_fault
 limit_sound n e = ltb-false count_limit n (refuse_sound _ 10 0 e)
 
@@ -60,15 +52,12 @@ module _ (net : Net) (s : Sized net) where
   pub wide_fits : (n : ℕ) → n ≡ length (made_places net) → Fits w64 (net.places + n)
   wide_fits n k = record { fits = omega (arith, s.few_places, made_few) }
 
-  pub wide_cells : (n : ℕ) → n ≡ length (made_places net) → Fits w64 (net.transitions * (net.places + n))
-  wide_cells n k = record { fits = omega (arith, s.few_places, made_few, mul-le-mul_right (net.places + n) s.few_transitions) }
+  pub wide_cells : (n : ℕ) → n ≡ complement_places net → Fits w64 (net.transitions * n)
+  wide_cells n k = record { fits = omega (arith, s.few_places, made_few, mul-le-mul_right n s.few_transitions) }
 
--- as the code comes to it: by the test, or by the net's fault
+-- as the code comes to it by the test
 pub test_sized : (net : Net) (r : Bool) → r ≡ sized_net net → not r ≡ false → Sized net
 test_sized net r e q = sized_true net (sym e ∙ not-false r q)
-
-pub found_sized : (net : Net) (found : Fault) → found ≡ net_fault net true → found ≡ Sound → Sized net
-found_sized net found e q = (net_met net true (sym e ∙ q)).sized
 
 -- which refusal
 module _ (net : Net) (initial : List ℕ) where
@@ -83,31 +72,29 @@ module _ (net : Net) (initial : List ℕ) where
       same = marked_unsized net initial fits unsized ∙ sym (marked_unfit net initial)
 
       go : (f : Fault) → marked_fault net initial false ≡ f → marked_fault net initial false ≡ or_else (marked_fault net initial fits) (limit_fault (complement_places net))
-      go Sound p = never (sym (marked_met net initial false p).fitting)
-      go (Faulty n at) p = p ∙ chain_first (marked_fault net initial fits) (limit_fault (complement_places net)) (marked_fault net initial fits) n at refl (same ∙ p)
+      go (Ok _) p = never (sym (marked_met net initial false p).fitting)
+      go (Err r) p = rw (same ∙ p) p
 
-  pub fault_later : (k a b c d e : ℕ) (fit : Bool) (r : Fault) → k ≡ length (made_places net) → fit ≡ lengths_fit (net.transitions * (net.places + k)) (net.places + k) a b c d e → r ≡ or_else (marked_fault net initial fit) (limit_fault (net.places + k)) → r ≡ complement_fault net initial (net_fits net a b c d e)
+  pub fault_later : (k a b c d e : ℕ) (fit : Bool) (r : Fault) → k ≡ complement_places net → fit ≡ lengths_fit (net.transitions * k) k a b c d e → r ≡ or_else (marked_fault net initial fit) (limit_fault k) → r ≡ complement_fault net initial (net_fits net a b c d e)
   unfolding complement_fault
   fault_later k a b c d e fit r ek ef er = er ∙ rw (ef, ek)
 
 pub ruleset faults = (fault_unsized, fault_later)
 
--- how many places is told
-module _ (net : Net) (found : Fault) (e : found ≡ net_fault net true) where
-  pub told_plain : (n at : ℕ) → found ≡ Faulty n at → Told net (places.Refused n at)
-  unfolding places_fault
-  told_plain n at q = record { answer = rw (sym e ∙ q) }
+-- how many places is told, as the code comes to it: two faults, one after the other, and then the number
+pub told_of : (net : Net) (r : Answer ℕ) → r ≡ or_else (net_fault net true) (or_else (limit_fault (complement_places net)) (Ok (complement_places net))) → Told net r
+unfolding places_fault
+told_of net r e = record { answer = ap places_numbers (e ∙ go (net_fault net true)) }
+  where
+    go : (f : Fault) → or_else f (or_else (limit_fault (complement_places net)) (Ok (complement_places net))) ≡ or_else (or_else f (limit_fault (complement_places net))) (Ok (complement_places net))
+    go (Ok _) = refl
+    go (Err r) = refl
 
-  module _ (k : ℕ) (limit : Fault) (q : found ≡ Sound) (ek : k ≡ length (made_places net)) (el : limit ≡ limit_fault (net.places + k)) where
-    pub told_limit : (n at : ℕ) → limit ≡ Faulty n at → Told net (places.Refused n at)
-    unfolding places_fault
-    told_limit n at l = record { answer = rw (sym e ∙ q, ← ek, sym el ∙ l) }
-
-    pub told_places : limit ≡ Sound → Told net (places.Places (net.places + k))
-    unfolding places_fault
-    told_places l = record { answer = rw (sym e ∙ q, ← ek, sym el ∙ l) }
-
-pub ruleset tolds = (told_plain, told_limit, told_places)
+-- one value everywhere
+all_same : (n v : ℕ) → replicate n v ≡ table (λ p. v) n
+unfolding table
+all_same zero v = refl
+all_same (suc n) v = ap (λ (l : List ℕ). v ∷ l) (all_same n v)
 
 -- the places of the complement net by the old places that they stand for
 abbrev sources_of : Net → List ℕ
@@ -115,7 +102,7 @@ sources_of net = table (λ p. p) net.places ++ made_places net
 
 -- so written, the rows are those of the complement net
 module _ (net : Net) (sized : Sized net) (t : ℕ) (h : t < net.transitions) where
-  same_pre : new_pre net.places net.pre net.post net.marks (sources_of net) t ≡ pre_row net t
+  same_pre : new_pre net (sources_of net) t ≡ pre_row net t
   same_pre =
       let takes = row net.places t net.pre in
       let puts = row net.places t net.post in
@@ -124,7 +111,7 @@ module _ (net : Net) (sized : Sized net) (t : ℕ) (h : t < net.transitions) whe
       (chosen_map (made net) (λ p. rise_of (mark net p) (get_or takes p 0) (get_or puts p 0)) (λ p. rise net p t) 0 net.places
       (λ p b k. let l : p < net.places = omega arith in rw (row_at net.places t net.pre p l, row_at net.places t net.post p l, force_capped (capacity net p) (mark net p) (made_capped net p k))))
 
-  same_post : new_post net.places net.pre net.post net.marks (sources_of net) t ≡ post_row net t
+  same_post : new_post net (sources_of net) t ≡ post_row net t
   same_post =
       let takes = row net.places t net.pre in
       let puts = row net.places t net.post in
@@ -180,13 +167,13 @@ module _ (net : Net) (initial : List ℕ) (rooms : Rooms) (allowed : Allowed net
     pub front_room : length (take (length rooms.caps) r) ≡ length rooms.initial
     front_room = sym front_count ∙ allowed.roomy.capped ∙ sym allowed.roomy.initials
 
-    pub written_of : (a b c k d : List ℕ) → a ≡ joined (new_pre net.places net.pre net.post net.marks (take (length rooms.caps) r)) net.transitions → b ≡ joined (new_post net.places net.pre net.post net.marks (take (length rooms.caps) r)) net.transitions → c ≡ table (λ p. no_capacity) (length rooms.caps) → k ≡ table (λ p. 0) (length rooms.marks) → d ≡ tokens_row (length net.caps) net.caps initial (take (length rooms.caps) r) → rooms_of a b c k d ≡ written net initial
+    pub written_of : (a b c k d : List ℕ) → a ≡ joined (new_pre net (take (length rooms.caps) r)) net.transitions → b ≡ joined (new_post net (take (length rooms.caps) r)) net.transitions → c ≡ replicate (length rooms.caps) no_capacity → k ≡ replicate (length rooms.marks) 0 → d ≡ tokens_row (length net.caps) net.caps initial (take (length rooms.caps) r) → rooms_of a b c k d ≡ written net initial
     written_of a b c k d ea eb ec ek ed =
         rw (
           rw front at ea ∙ joined_same _ (pre_row net) net.transitions (same_pre net allowed.sized),
           rw front at eb ∙ joined_same _ (post_row net) net.transitions (same_post net allowed.sized),
-          ec,
-          ek,
+          ec ∙ all_same (length rooms.caps) no_capacity,
+          ek ∙ all_same (length rooms.marks) 0,
           rw front at ed ∙ same_tokens,
           allowed.roomy.capped,
           allowed.roomy.noted,
@@ -206,39 +193,30 @@ module _ (net : Net) (rooms : Rooms) where
   of_roomy r = rw (eq-eqb _ _ r.pres, eq-eqb _ _ r.posts, eq-eqb _ _ r.capped, eq-eqb _ _ r.noted, eq-eqb _ _ r.initials)
 
 module _ (net : Net) (initial : List ℕ) (rooms : Rooms) where
-  pub allowed_of : complement_fault net initial (rooms_fit net rooms) ≡ Sound → Allowed net initial rooms
+  pub allowed_of : complement_fault net initial (rooms_fit net rooms) ≡ Ok tt → Allowed net initial rooms
   unfolding complement_fault
   allowed_of e =
       let a = or_sound (marked_fault net initial (rooms_fit net rooms)) (limit_fault (complement_places net)) e in
       let m = marked_met net initial (rooms_fit net rooms) a.0 in
       record { sized = m.sized; light = m.light; marked = m.marked; roomy = roomy_of net rooms m.fitting; fine = m.fine; wired = m.wired; few = limit_sound (complement_places net) a.1 }
 
-  pub of_allowed : Allowed net initial rooms → complement_fault net initial (rooms_fit net rooms) ≡ Sound
+  pub of_allowed : Allowed net initial rooms → complement_fault net initial (rooms_fit net rooms) ≡ Ok tt
   unfolding complement_fault
   of_allowed a =
       sound_or _ _
       (met_marked net initial (rooms_fit net rooms) (record { sized = a.sized; light = a.light; marked = a.marked; fitting = of_roomy net rooms a.roomy; fine = a.fine; wired = a.wired }))
       (sym (limit_none (complement_places net) a.few))
 
-  module _ (found : Fault) (e : found ≡ complement_fault net initial (rooms_fit net rooms)) where
-    pub net_refused : (n at : ℕ) → found ≡ Faulty n at → Complemented net initial rooms (Refused n at) rooms
-    net_refused n at q = record { answer = rw (sym e ∙ q); left = rw (sym e ∙ q) }
+  pub net_made : (rooms' : Rooms) → Ok tt ≡ complement_fault net initial (rooms_fit net rooms) → rooms' ≡ written net initial → Complemented net initial rooms (Ok tt) rooms'
+  net_made rooms' q k = record { answer = rw (← q); left = rw (← q) k }
 
-    pub net_made : (rooms' : Rooms) → found ≡ Sound → rooms' ≡ written net initial → Complemented net initial rooms Made rooms'
-    net_made rooms' q k = record { answer = rw (sym e ∙ q); left = rw (sym e ∙ q) k }
-
-    pub net_allowed : found ≡ Sound → Allowed net initial rooms
-    net_allowed q = allowed_of (sym e ∙ q)
-
-pub ruleset complementeds = (net_refused, net_made)
-
-pub countable_of : (net : Net) → places_fault net ≡ Sound → Countable net
+pub countable_of : (net : Net) → places_fault net ≡ Ok tt → Countable net
 unfolding places_fault
 countable_of net e =
     let a = or_sound (net_fault net true) (limit_fault (complement_places net)) e in
     let m = net_met net true a.0 in
     record { sized = m.sized; light = m.light; wired = m.wired; few = limit_sound (complement_places net) a.1 }
 
-pub of_countable : (net : Net) → Countable net → places_fault net ≡ Sound
+pub of_countable : (net : Net) → Countable net → places_fault net ≡ Ok tt
 unfolding places_fault
 of_countable net c = sound_or _ _ (met_net net true (record { sized = c.sized; light = c.light; fitting = refl; wired = c.wired })) (sym (limit_none (complement_places net) c.few))

@@ -15,10 +15,13 @@ use Rattle.net.specs.declared.Cause.TheVariants.{Short, Over}
 use Rattle.net.proofs.Meaning.{deterministic}
 use Rattle.net.proofs.Rule.{force_capped, level_lt}
 use Rattle.weights.specs.Heavy.{LightAt}
+use Rattle.std.specs.Prelude.{Ok, Err}
+use Rattle.refusals.specs.Given.{Answer, refused}
+use Rattle.refusals.proofs.Exactly.{not_refused}
 use Rattle.refusals.specs.First.{First, fails, holds, Counts, Lengths}
 use Rattle.replay.specs.Entry.{Replayed, Allowed as Replayable, Refusal, letters_fired, Longest}
 use Rattle.plays.specs.declared.Replay.{Replay}
-use Rattle.plays.specs.declared.Replay.TheVariants.{Fired, Blocked, Refused}
+use Rattle.plays.specs.declared.Replay.TheVariants.{Fired, Blocked}
 use Rattle.replay.proofs.Meaning.{answered_allowed as replayable, allowed_answered as never_refused, fired_means, fired_longest, blocked_cause, left_within}
 use Rattle.complement.specs.Complement.{made, made_places, complement_places, complement_net, complement_marking, Related}
 use Rattle.complement.specs.Entry.{Rooms, Allowed}
@@ -112,7 +115,7 @@ refusal_same net net' m m' w within room room' e a b n at =
 -- two replays of one word, as `replay_same` has them
 module _ (net : Net) (initial : List ℕ) (rooms : Rooms) (allowed : Allowed net initial rooms) (w room room' : List ℕ)
     (long : length room ≡ net.places) (long' : length room' ≡ complement_places net)
-    (r r' : Replay) (left left' : List ℕ) (p : Replayed net initial w true room r left) (p' : Replayed (complement_net net) (complement_marking net initial) w true room' r' left') where
+    (r r' : Answer Replay) (left left' : List ℕ) (p : Replayed net initial w true room r left) (p' : Replayed (complement_net net) (complement_marking net initial) w true room' r' left') where
   inside : Within net initial
   inside = fine_within net allowed.sized initial allowed.marked allowed.fine
 
@@ -141,7 +144,7 @@ module _ (net : Net) (initial : List ℕ) (rooms : Rooms) (allowed : Allowed net
         rw (deterministic (rw as_many at other.fires) f.1) f.2
 
     -- both blocked: at the same position, for tied causes
-    both_blocked : (i k : ℕ) (why why' : Cause) → r ≡ Blocked i why → r' ≡ Blocked k why' → (k ≡ i) × Tied net why why'
+    both_blocked : (i k : ℕ) (why why' : Cause) → r ≡ Ok (Blocked i why) → r' ≡ Ok (Blocked k why') → (k ≡ i) × Tied net why why'
     both_blocked i k why why' e e' =
         let q : k ≡ i = sym (ap letters_fired e') ∙ as_many ∙ ap letters_fired e in
         let c = blocked_cause net initial w true room r left p a i why e in
@@ -149,42 +152,42 @@ module _ (net : Net) (initial : List ℕ) (rooms : Rooms) (allowed : Allowed net
         (q, causes_tied net allowed.sized left left' (left_within net initial w true room r left p a) left_related (get_or w i 0) (a.letters.at i c.0) why why' c.1 (rw q at d.1))
 
     -- one blocked: so is the other, since neither has fired the whole word
-    blocked_to : (i : ℕ) (why : Cause) → r ≡ Blocked i why → (why' : Cause) × (r' ≡ Blocked i why') × Tied net why why'
+    blocked_to : (i : ℕ) (why : Cause) → r ≡ Ok (Blocked i why) → (why' : Cause) × (r' ≡ Ok (Blocked i why')) × Tied net why why'
     blocked_to i why e = go r' refl
       where
-        go : (x : Replay) → r' ≡ x → (why' : Cause) × (r' ≡ Blocked i why') × Tied net why why'
-        go (Fired n) q =
+        go : (x : Answer Replay) → r' ≡ x → (why' : Cause) × (r' ≡ Ok (Blocked i why')) × Tied net why why'
+        go (Ok (Fired n)) q =
             let l = (fired_means (complement_net net) (complement_marking net initial) w true room' r' left' p' b n q).0 in
             let c = (blocked_cause net initial w true room r left p a i why e).0 in
             let k : n ≡ i = sym (ap letters_fired q) ∙ as_many ∙ ap letters_fired e in
             absurd (omega arith)
-        go (Blocked k why') q = let t = both_blocked i k why why' e q in (why', q ∙ ap (λ (z : ℕ). Blocked z why') t.0, t.1)
-        go (Refused n at) q = absurd (never_refused (complement_net net) (complement_marking net initial) w true room' r' left' p' b n at q)
+        go (Ok (Blocked k why')) q = let t = both_blocked i k why why' e q in (why', q ∙ ap (λ (z : ℕ). Ok (Blocked z why')) t.0, t.1)
+        go (Err y) q = absurd (never_refused (complement_net net) (complement_marking net initial) w true room' r' left' p' b y.number y.at q)
 
-    blocked_from : (i : ℕ) (why' : Cause) → r' ≡ Blocked i why' → (why : Cause) × (r ≡ Blocked i why) × Tied net why why'
+    blocked_from : (i : ℕ) (why' : Cause) → r' ≡ Ok (Blocked i why') → (why : Cause) × (r ≡ Ok (Blocked i why)) × Tied net why why'
     blocked_from i why' e = go r refl
       where
-        go : (x : Replay) → r ≡ x → (why : Cause) × (r ≡ Blocked i why) × Tied net why why'
-        go (Fired n) q =
+        go : (x : Answer Replay) → r ≡ x → (why : Cause) × (r ≡ Ok (Blocked i why)) × Tied net why why'
+        go (Ok (Fired n)) q =
             let l = (fired_means net initial w true room r left p a n q).0 in
             let c = (blocked_cause (complement_net net) (complement_marking net initial) w true room' r' left' p' b i why' e).0 in
             let k : i ≡ n = sym (ap letters_fired e) ∙ as_many ∙ ap letters_fired q in
             absurd (omega arith)
-        go (Blocked k why) q = let t = both_blocked k i why why' q e in (why, q ∙ ap (λ (z : ℕ). Blocked z why) (sym t.0), t.1)
-        go (Refused n at) q = absurd (never_refused net initial w true room r left p a n at q)
+        go (Ok (Blocked k why)) q = let t = both_blocked k i why why' q e in (why, q ∙ ap (λ (z : ℕ). Ok (Blocked z why)) (sym t.0), t.1)
+        go (Err y) q = absurd (never_refused net initial w true room r left p a y.number y.at q)
 
-  pub answered_related : ((n at : ℕ) → r ≡ Refused n at → ⊥) → Related net left left'
+  pub answered_related : ((n at : ℕ) → r ≡ refused n at → ⊥) → Related net left left'
   answered_related h =
       let a = replayable net initial w true room r left p h in
       left_related a (to_other net initial rooms allowed w room room' long long' r r' left left' p p' a)
 
   -- what is blocked is not refused
-  pub blocks_tied : (i : ℕ) (why : Cause) → r ≡ Blocked i why → (why' : Cause) × (r' ≡ Blocked i why') × Tied net why why'
+  pub blocks_tied : (i : ℕ) (why : Cause) → r ≡ Ok (Blocked i why) → (why' : Cause) × (r' ≡ Ok (Blocked i why')) × Tied net why why'
   blocks_tied i why e =
-      let a = replayable net initial w true room r left p (λ k at q. let z : ◌≡◌ {A = ℕ} 0 1 = cc in omega arith) in
+      let a = replayable net initial w true room r left p (λ k at q. not_refused (Blocked i why) k at (sym e ∙ q)) in
       blocked_to a (to_other net initial rooms allowed w room room' long long' r r' left left' p p' a) i why e
 
-  pub blocks_tied_only : (i : ℕ) (why' : Cause) → r' ≡ Blocked i why' → (why : Cause) × (r ≡ Blocked i why) × Tied net why why'
+  pub blocks_tied_only : (i : ℕ) (why' : Cause) → r' ≡ Ok (Blocked i why') → (why : Cause) × (r ≡ Ok (Blocked i why)) × Tied net why why'
   blocks_tied_only i why' e =
-      let b = replayable (complement_net net) (complement_marking net initial) w true room' r' left' p' (λ k at q. let z : ◌≡◌ {A = ℕ} 0 1 = cc in omega arith) in
+      let b = replayable (complement_net net) (complement_marking net initial) w true room' r' left' p' (λ k at q. not_refused (Blocked i why') k at (sym e ∙ q)) in
       blocked_from (from_other net initial rooms allowed w room room' long long' r r' left left' p p' b) b i why' e

@@ -1,47 +1,30 @@
--- Which places some transition changes: the test says what the demand does, and a place that none changes keeps its tokens; which get a new place, by the tests. Assumes nothing.
-use Prim.Native.Nat.{ℕ, ◌≤◌, ◌<◌}
+-- Which places some transition changes: the test says what the demand does, and a place that none changes keeps its tokens. Assumes nothing.
+use Prim.Native.Nat.{ℕ, ◌<◌}
 use mathlib.Core.Path.{◌≡◌, refl, sym, ap, ◌∙◌}
 use mathlib.Core.Bool.{Bool, true, false, not}
 use mathlib.Core.List.{List}
 use mathlib.Core.Logic.{◌↔◌}
 use native.Mathlib.Omega.{arith}
-use lib.Dec.{ltb, eqb}
+use lib.Dec.{eqb}
 use lib.IntN.{pos}
-use borrow.Author.Tests.{ltb-true, ltb-false, lt-ltb, le-ltb, ne_eqb, not-true, not-false}
-use Rattle.ground.specs.Limits.{no_capacity}
+use borrow.Author.Tests.{ltb-true, ltb-false, lt-ltb, ne_eqb}
 use Rattle.ground.specs.Lists.{first}
 use Rattle.ground.specs.Parts.{up, dn}
 use Rattle.ground.proofs.Parts.{minus_is, up_sub, dn_sub, parts_eq}
-use Rattle.ground.proofs.Scan.{first_below, first_passes, first_found, Below, scan_hit, scan_end}
+use Rattle.ground.proofs.Scan.{first_below, first_passes, first_found}
 use Rattle.ground.proofs.Tests.{never, unlike_false, like_false}
-use Rattle.net.specs.Net.{Net, Pre, Post, Change, capacity, mark, tokens}
+use Rattle.net.specs.Net.{Net, Pre, Post, Change, tokens}
 use Rattle.net.specs.Firing.{Fires, nothing, letter}
 use Rattle.net.proofs.Meaning.{gives_plain}
-use Rattle.complement.specs.Complement.{Changed, change_of, changed, pocket_of, made}
+use Rattle.complement.specs.Complement.{Changed, change_of, changed}
 
 pub unlike_true : (a b : ℕ) → not (eqb a b) ≡ true → a ≡ b → ⊥
 unlike_true a b e q = never (sym e ∙ like_false a b q)
-
--- a test is the one asked for if it holds and fails where that does, however it is written
-pub unlike_is : (t : Bool) (a b : ℕ) → (t ≡ true → a ≡ b → ⊥) → (t ≡ false → a ≡ b) → t ≡ not (eqb a b)
-unlike_is true a b f g = sym (ap not (ne_eqb a b (f refl)))
-unlike_is false a b f g = sym (like_false a b (g refl))
 
 module _ (net : Net) (p : ℕ) where
   -- whether transition t changes the place
   abbrev pub changes_at : ℕ → Bool
   changes_at t = change_of (Pre net p t) (Post net p t)
-
-  -- the loop over the transitions, t of them so far: r is the test's answer at t
-  pub change_found : (t : ℕ) (r : Bool) → Below changes_at t → r ≡ changes_at t → r ≡ true → t < net.transitions → true ≡ changed net p
-  unfolding changed
-  change_found t r lo e q h = let x = scan_hit changes_at net.transitions t r lo e q h in sym (lt-ltb _ net.transitions (rw (← x) h))
-
-  pub change_missing : (t : ℕ) → Below changes_at t → t ≤ net.transitions → net.transitions ≤ t → false ≡ changed net p
-  unfolding changed
-  change_missing t lo h l = let x = scan_end changes_at net.transitions t lo h l in sym (le-ltb _ net.transitions (rw (← x) l))
-
-  pub ruleset changes = (change_found, change_missing)
 
   -- Change is 0 exactly where as much is put as is taken
   pub zero_change : (t : ℕ) → Change net p t ≡ pos 0 ↔ Pre net p t ≡ Post net p t
@@ -89,20 +72,3 @@ module _ (net : Net) (p : ℕ) where
       untested : (b : Bool) → changed net p ≡ b → changed net p ≡ false
       untested true q = absurd (u (changed_means q))
       untested false q = q
-
--- which places get a new place, by the three tests' answers
-module _ (net : Net) (p : ℕ) (r : Bool) (e : r ≡ ltb (capacity net p) no_capacity) where
-  pub made_never : not r ≡ true → false ≡ made net p
-  unfolding made
-  made_never q = rw (sym e ∙ not-true r q)
-
-  module _ (s : Bool) (q : not r ≡ false) (k : s ≡ pocket_of (mark net p)) where
-    pub made_always : s ≡ true → true ≡ made net p
-    unfolding made
-    made_always h = rw (sym e ∙ not-false r q, sym k ∙ h)
-
-    pub made_else : (u : Bool) → s ≡ false → u ≡ changed net p → u ≡ made net p
-    unfolding made
-    made_else u h l = rw (sym e ∙ not-false r q, sym k ∙ h) l
-
-pub ruleset mades = (made_never, made_always, made_else)

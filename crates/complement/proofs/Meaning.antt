@@ -20,8 +20,9 @@ use Rattle.net.proofs.Judged.{gives_fired}
 use Rattle.net.proofs.Meaning.{gives_plain, gives_one, firing_within}
 use Rattle.net.proofs.Rule.{leaves_plain, leaves_pocket, force_capped, keeps_rise}
 use Rattle.wiring.specs.Wired.{PlaceWired, TransitionWired, Wired}
-use Rattle.refusals.proofs.Exactly.{Chain, Reads, tells_test, reads_test, reads_both, reads_all, net_reads, marked_reads, Answers, fault_is, exactly_refused, is_answered, is_allowed}
-use Rattle.refusals.specs.Given.{Fine}
+use Rattle.refusals.proofs.Exactly.{Chain, Reads, tells_test, reads_test, reads_both, reads_all, net_reads, marked_reads, Answers, answers_ok, not_refused, same_refusal, fault_is, exactly_refused, is_answered, is_allowed}
+use Rattle.std.specs.Prelude.{Ok, Err}
+use Rattle.refusals.specs.Given.{Answer, Fault, refused, Fine}
 use Rattle.refusals.specs.First.{First, Given}
 use Rattle.replay.specs.Entry.{Replayed, Allowed as Replayable}
 use Rattle.plays.specs.declared.Replay.{Replay}
@@ -30,10 +31,6 @@ use Rattle.replay.proofs.Meaning.{answered_allowed as replayable, fired_means, f
 use Rattle.complement.specs.Complement.{Changed, made, made_places, at_made, complement_places, fall, complement_net, complement_marking, Related}
 use Rattle.complement.specs.Told.{limit_fault, places_fault, places_of, places_numbers, Told, Countable, PlacesRefusal}
 use Rattle.complement.specs.Entry.{Rooms, rooms_fit, complement_fault, written, complement_of, numbers, Complemented, Allowed, Refusal}
-use Rattle.complement.specs.declared.ComplementPlaces.{ComplementPlaces}
-use Rattle.complement.specs.declared.ComplementPlaces.TheVariants.{Places, Refused as NotTold}
-use Rattle.complement.specs.declared.ComplementNet.{ComplementNet}
-use Rattle.complement.specs.declared.ComplementNet.TheVariants.{Made, Refused}
 use Rattle.complement.proofs.Changes.{zero_change}
 use Rattle.complement.proofs.Answers.{roomy_of, of_roomy, allowed_of, of_allowed, countable_of, of_countable}
 use Rattle.complement.proofs.Choice.{chosen_is, chosen_has, map_at_lem, made_capped, made_wanted, unmade_flat}
@@ -252,7 +249,7 @@ module _ (net : Net) (sized : Sized net) where
 -- so the replay of any word on it answers fired exactly when on the original, and the rooms then hold related markings
 module _ (net : Net) (initial : List ℕ) (rooms : Rooms) (allowed : Allowed net initial rooms) (w room room' : List ℕ)
     (long : length room ≡ net.places) (long' : length room' ≡ complement_places net)
-    (r r' : Replay) (left left' : List ℕ) (p : Replayed net initial w true room r left) (p' : Replayed (complement_net net) (complement_marking net initial) w true room' r' left') where
+    (r r' : Answer Replay) (left left' : List ℕ) (p : Replayed net initial w true room r left) (p' : Replayed (complement_net net) (complement_marking net initial) w true room' r' left') where
   inside : Within net initial
   inside = fine_within net allowed.sized initial allowed.marked allowed.fine
 
@@ -277,52 +274,46 @@ module _ (net : Net) (initial : List ℕ) (rooms : Rooms) (allowed : Allowed net
   from_other a =
       record { sized = allowed.sized; light = allowed.light; marked = allowed.marked; roomy = long; inside = refl; fine = allowed.fine; wired = allowed.wired; short = a.short; letters = a.letters }
 
-  fired_to : (n : ℕ) → r ≡ Fired n → (r' ≡ Fired n) × Related net left left'
+  fired_to : (n : ℕ) → r ≡ Ok (Fired n) → (r' ≡ Ok (Fired n)) × Related net left left'
   fired_to n e =
-      let a = replayable net initial w true room r left p (λ k at q. let z : ◌≡◌ {A = ℕ} 0 1 = cc in omega arith) in
+      let a = replayable net initial w true room r left p (λ k at q. not_refused (Fired n) k at (sym e ∙ q)) in
       let f = fired_means net initial w true room r left p a n e in
       let g = word_to net allowed.sized (complement_marking net initial) inside start f.1 in
       let h = fires_fired (complement_net net) (complement_marking net initial) w true room' r' left' p' (to_other a) g.0 g.1 in
-      (h.0 ∙ ap Fired (sym f.0), rw h.1 g.2)
+      (h.0 ∙ ap (λ (k : ℕ). Ok (Fired k)) (sym f.0), rw h.1 g.2)
 
-  fired_from : (n : ℕ) → r' ≡ Fired n → r ≡ Fired n
+  fired_from : (n : ℕ) → r' ≡ Ok (Fired n) → r ≡ Ok (Fired n)
   fired_from n e =
-      let a = replayable (complement_net net) (complement_marking net initial) w true room' r' left' p' (λ k at q. let z : ◌≡◌ {A = ℕ} 0 1 = cc in omega arith) in
+      let a = replayable (complement_net net) (complement_marking net initial) w true room' r' left' p' (λ k at q. not_refused (Fired n) k at (sym e ∙ q)) in
       let f = fired_means (complement_net net) (complement_marking net initial) w true room' r' left' p' a n e in
       let g = word_from net allowed.sized initial inside start f.1 in
       let h = fires_fired net initial w true room r left p (from_other a) g.0 g.1 in
-      h.0 ∙ ap Fired (sym f.0)
+      h.0 ∙ ap (λ (k : ℕ). Ok (Fired k)) (sym f.0)
 
-  pub replay_same : (n : ℕ) → (r ≡ Fired n) ↔ (r' ≡ Fired n)
+  pub replay_same : (n : ℕ) → (r ≡ Ok (Fired n)) ↔ (r' ≡ Ok (Fired n))
   replay_same n = (λ e. (fired_to n e).0, fired_from n)
 
-  pub replay_related : (n : ℕ) → r ≡ Fired n → Related net left left'
+  pub replay_related : (n : ℕ) → r ≡ Ok (Fired n) → Related net left left'
   replay_related n e = (fired_to n e).1
 
 -- ---- the answers: `numbers` tells any two apart, and each promise has one answer
-pub places_apart : (a b : ComplementPlaces) → places_numbers a ≡ places_numbers b → a ≡ b
-places_apart (Places n) (Places k) e = ap Places (cc)
-places_apart (Places n) (NotTold k q) e = let z : ◌≡◌ {A = ℕ} 0x81 0x82 = cc in absurd (omega arith)
-places_apart (NotTold n p) (Places k) e = let z : ◌≡◌ {A = ℕ} 0x82 0x81 = cc in absurd (omega arith)
-places_apart (NotTold n p) (NotTold k q) e = let x : n ≡ k = cc in let y : p ≡ q = cc in cc
+pub places_apart : (a b : Answer ℕ) → places_numbers a ≡ places_numbers b → a ≡ b
+places_apart (Ok n) (Ok k) e = ap Ok (cc)
+places_apart (Ok n) (Err r) e = let z : ◌≡◌ {A = ℕ} 0x81 0x82 = cc in absurd (omega arith)
+places_apart (Err r) (Ok k) e = let z : ◌≡◌ {A = ℕ} 0x82 0x81 = cc in absurd (omega arith)
+places_apart (Err r) (Err s) e = same_refusal r s (cc) (cc)
 
-pub numbers_apart : (a b : ComplementNet) → numbers a ≡ numbers b → a ≡ b
-numbers_apart Made Made e = refl
-numbers_apart Made (Refused k q) e = let z : ◌≡◌ {A = ℕ} 0x81 0x82 = cc in absurd (omega arith)
-numbers_apart (Refused n p) Made e = let z : ◌≡◌ {A = ℕ} 0x82 0x81 = cc in absurd (omega arith)
-numbers_apart (Refused n p) (Refused k q) e = let x : n ≡ k = cc in let y : p ≡ q = cc in cc
+pub numbers_apart : (a b : Fault) → numbers a ≡ numbers b → a ≡ b
+numbers_apart (Ok _) (Ok _) e = refl
+numbers_apart (Ok _) (Err r) e = let z : ◌≡◌ {A = ℕ} 0x81 0x82 = cc in absurd (omega arith)
+numbers_apart (Err r) (Ok _) e = let z : ◌≡◌ {A = ℕ} 0x82 0x81 = cc in absurd (omega arith)
+numbers_apart (Err r) (Err s) e = same_refusal r s (cc) (cc)
 
-pub places_unique : (net : Net) (r r' : ComplementPlaces) → Told net r → Told net r' → r ≡ r'
+pub places_unique : (net : Net) (r r' : Answer ℕ) → Told net r → Told net r' → r ≡ r'
 places_unique net r r' a b = places_apart r r' (a.answer ∙ sym b.answer)
 
-pub unique : (net : Net) (initial : List ℕ) (rooms : Rooms) (r r' : ComplementNet) (a b : Rooms) → Complemented net initial rooms r a → Complemented net initial rooms r' b → (r ≡ r') × (a ≡ b)
+pub unique : (net : Net) (initial : List ℕ) (rooms : Rooms) (r r' : Fault) (a b : Rooms) → Complemented net initial rooms r a → Complemented net initial rooms r' b → (r ≡ r') × (a ≡ b)
 unique net initial rooms r r' a b x y = (numbers_apart r r' (x.answer ∙ sym y.answer), x.left ∙ sym y.left)
-
-not_told_one : (n at k p : ℕ) → NotTold n at ≡ NotTold k p → (n ≡ k) × (at ≡ p)
-not_told_one n at k p e = (cc, cc)
-
-refused_one : (n at k p : ℕ) → Refused n at ≡ Refused k p → (n ≡ k) × (at ≡ p)
-refused_one n at k p e = (cc, cc)
 
 -- the chains of refusals, read demand by demand
 limit_reads : (net : Net) → Reads (limit_fault (complement_places net)) (λ n at Next. First (complement_places net ≤ count_limit) (Given 10 0 n at) Next)
@@ -338,47 +329,47 @@ unfolding complement_fault
 net_chain net initial rooms = reads_all (reads_both (marked_reads net initial (rooms_fit net rooms) (roomy_of net rooms) (of_roomy net rooms)) (limit_reads net))
 
 -- how many places: told exactly where nothing is refused, and then the number of the complement net's
-module _ (net : Net) (r : ComplementPlaces) (promise : Told net r) where
+module _ (net : Net) (r : Answer ℕ) (promise : Told net r) where
   told_is : r ≡ places_of net
   told_is = places_apart r (places_of net) promise.answer
 
-  told_answers : Answers NotTold (places_fault net) r
-  told_answers = record { given = λ n at f. told_is ∙ rw f; never = λ f n at e. let g : r ≡ Places (complement_places net) = rw f at told_is in let z : ◌≡◌ {A = ℕ} 0 1 = cc in omega arith }
+  told_answers : Answers (places_fault net) r
+  told_answers = answers_ok (places_fault net) (complement_places net) r told_is
 
   -- a refusal has the number and position of the first of 01's demands that does not hold, and is given exactly then
-  pub places_refused_exactly : (n at : ℕ) → (r ≡ NotTold n at) ↔ PlacesRefusal net n at
-  places_refused_exactly = exactly_refused told_answers not_told_one (places_chain net)
+  pub places_refused_exactly : (n at : ℕ) → (r ≡ refused n at) ↔ PlacesRefusal net n at
+  places_refused_exactly = exactly_refused told_answers (places_chain net)
 
-  pub places_allowed_answered : Countable net → (n at : ℕ) → r ≡ NotTold n at → ⊥
+  pub places_allowed_answered : Countable net → (n at : ℕ) → r ≡ refused n at → ⊥
   places_allowed_answered = is_answered told_answers (of_countable net)
 
-  pub places_answered_allowed : ((n at : ℕ) → r ≡ NotTold n at → ⊥) → Countable net
+  pub places_answered_allowed : ((n at : ℕ) → r ≡ refused n at → ⊥) → Countable net
   places_answered_allowed = is_allowed told_answers (countable_of net)
 
-  pub places_told : Countable net → r ≡ Places (complement_net net).places
+  pub places_told : Countable net → r ≡ Ok (complement_net net).places
   places_told c = told_is ∙ rw (of_countable net c)
 
 -- the net: written exactly where nothing is refused, and then it is the complement net by its definition
-module _ (net : Net) (initial : List ℕ) (rooms : Rooms) (r : ComplementNet) (rooms' : Rooms) (p : Complemented net initial rooms r rooms') where
+module _ (net : Net) (initial : List ℕ) (rooms : Rooms) (r : Fault) (rooms' : Rooms) (p : Complemented net initial rooms r rooms') where
   answer_is : r ≡ (complement_of net initial rooms).answer
   answer_is = numbers_apart r (complement_of net initial rooms).answer p.answer
 
-  net_answers : Answers Refused (complement_fault net initial (rooms_fit net rooms)) r
-  net_answers = record { given = λ n at f. answer_is ∙ rw f; never = λ f n at e. let g : r ≡ Made = rw f at answer_is in let z : ◌≡◌ {A = ℕ} 0 1 = cc in omega arith }
+  net_answers : Answers (complement_fault net initial (rooms_fit net rooms)) r
+  net_answers = record { given = λ n at f. answer_is ∙ rw f; never = λ f n at e. not_refused tt n at (sym (rw f at answer_is) ∙ e) }
 
   -- a refusal has the number and position of the first of 01's demands that does not hold, and is given exactly then
-  pub refused_exactly : (n at : ℕ) → (r ≡ Refused n at) ↔ Refusal net initial rooms n at
-  refused_exactly = exactly_refused net_answers refused_one (net_chain net initial rooms)
+  pub refused_exactly : (n at : ℕ) → (r ≡ refused n at) ↔ Refusal net initial rooms n at
+  refused_exactly = exactly_refused net_answers (net_chain net initial rooms)
 
   -- "A refusal leaves lent memory as found."
-  pub refused_as_found : (n at : ℕ) → r ≡ Refused n at → rooms' ≡ rooms
-  refused_as_found n at e = let f = fault_is net_answers refused_one n at e in rw f at p.left
+  pub refused_as_found : (n at : ℕ) → r ≡ refused n at → rooms' ≡ rooms
+  refused_as_found n at e = let f = fault_is net_answers n at e in rw f at p.left
 
-  pub allowed_answered : Allowed net initial rooms → (n at : ℕ) → r ≡ Refused n at → ⊥
+  pub allowed_answered : Allowed net initial rooms → (n at : ℕ) → r ≡ refused n at → ⊥
   allowed_answered = is_answered net_answers (of_allowed net initial rooms)
 
-  pub answered_allowed : ((n at : ℕ) → r ≡ Refused n at → ⊥) → Allowed net initial rooms
+  pub answered_allowed : ((n at : ℕ) → r ≡ refused n at → ⊥) → Allowed net initial rooms
   answered_allowed = is_allowed net_answers (allowed_of net initial rooms)
 
-  pub allowed_made : Allowed net initial rooms → (r ≡ Made) × (rooms' ≡ written net initial)
+  pub allowed_made : Allowed net initial rooms → (r ≡ Ok tt) × (rooms' ≡ written net initial)
   allowed_made a = let f = of_allowed net initial rooms a in (rw f at answer_is, rw f at p.left)

@@ -13,20 +13,18 @@ use Rattle.net.specs.Firing.{Fires, Within}
 use Rattle.net.specs.declared.Cause.{Cause}
 use Rattle.net.specs.declared.Cause.TheVariants.{Short, Over}
 use Rattle.net.proofs.Meaning.{deterministic}
-use Rattle.refusals.specs.Given.{Fine}
+use Rattle.std.specs.Prelude.{Ok}
+use Rattle.refusals.specs.Given.{Answer, Fault, refused, Fine}
+use Rattle.refusals.proofs.Exactly.{not_refused}
 use Rattle.complement.proofs.Meaning.{complement_wired}
 use Rattle.replay.specs.Entry.{Replayed, Refusal as ReplayRefusal}
 use Rattle.plays.specs.declared.Replay.{Replay}
-use Rattle.plays.specs.declared.Replay.TheVariants.{Fired, Blocked, Refused as NotReplayed}
+use Rattle.plays.specs.declared.Replay.TheVariants.{Fired, Blocked}
 use Rattle.replay.proofs.Meaning.{answered_allowed as replayable, refused_exactly as replay-refused-exactly, blocked_cause}
 use Rattle.complement.specs.Complement.{Changed, made, made_places, complement_places, complement_net, complement_marking, Related}
 use Rattle.complement.specs.Told.{Told, Countable}
 use Rattle.complement.specs.Entry.{Rooms, written, Complemented, Allowed}
 use Rattle.complement.specs.Held.{held_net, OldPlace, NewPlace, MadeInOrder, NewOf, Tied, TiedBlock, Ready, RoomsFor}
-use Rattle.complement.specs.declared.ComplementPlaces.{ComplementPlaces}
-use Rattle.complement.specs.declared.ComplementPlaces.TheVariants.{Places}
-use Rattle.complement.specs.declared.ComplementNet.{ComplementNet}
-use Rattle.complement.specs.declared.ComplementNet.TheVariants.{Made}
 use Rattle.complement.proofs.Changes.{loop_unchanged, unchanged_stays}
 use Rattle.complement.proofs.Choice.{chosen_has, chosen_order, wanted_made}
 use Rattle.complement.proofs.Entries.{pre_old, post_old, pre_new, post_new, light_stays}
@@ -59,16 +57,16 @@ pocket_place net p h c k =
     (net.places + f.0, record { number = f.0; here = f.1; stands = f.2; after = refl })
 
 -- a replay that fired or is blocked is no refusal
-fired_answered : {s : Replay} (k : ℕ) → s ≡ Fired k → (n at : ℕ) → s ≡ NotReplayed n at → ⊥
-fired_answered k e n at q = let z : ◌≡◌ {A = ℕ} 0 1 = cc in omega arith
+fired_answered : {s : Answer Replay} (k : ℕ) → s ≡ Ok (Fired k) → (n at : ℕ) → s ≡ refused n at → ⊥
+fired_answered k e n at q = not_refused (Fired k) n at (sym e ∙ q)
 
-blocked_answered : {s : Replay} (i : ℕ) (why : Cause) → s ≡ Blocked i why → (n at : ℕ) → s ≡ NotReplayed n at → ⊥
-blocked_answered i why e n at q = let z : ◌≡◌ {A = ℕ} 0 1 = cc in omega arith
+blocked_answered : {s : Answer Replay} (i : ℕ) (why : Cause) → s ≡ Ok (Blocked i why) → (n at : ℕ) → s ≡ refused n at → ⊥
+blocked_answered i why e n at q = not_refused (Blocked i why) n at (sym e ∙ q)
 
-module _ (net : Net) (initial : List ℕ) (rooms : Rooms) (r : ComplementNet) (rooms' : Rooms) (promise : Complemented net initial rooms r rooms') (e : r ≡ Made) where
+module _ (net : Net) (initial : List ℕ) (rooms : Rooms) (r : Fault) (rooms' : Rooms) (promise : Complemented net initial rooms r rooms') (e : r ≡ Ok tt) where
   -- what was lent was allowed
   pub made_allowed : Allowed net initial rooms
-  made_allowed = answered_allowed net initial rooms r rooms' promise (λ n at q. let z : ◌≡◌ {A = ℕ} 0 1 = cc in omega arith)
+  made_allowed = answered_allowed net initial rooms r rooms' promise (λ n at q. not_refused tt n at (sym e ∙ q))
 
   rooms_are : rooms' ≡ written net initial
   rooms_are = (allowed_made net initial rooms r rooms' promise made_allowed).1
@@ -162,12 +160,12 @@ module _ (net : Net) (initial : List ℕ) (rooms : Rooms) (r : ComplementNet) (r
 
   -- two replays of one word, or of one stretch: on the net from its initial marking, and on the made net from the made marking
   module _ (w : List ℕ) (within : Bool) (room room'' : List ℕ) (long : length room ≡ net.places) (long'' : length room'' ≡ (held_net net.transitions rooms').places)
-      (s s'' : Replay) (left left'' : List ℕ) (p : Replayed net initial w within room s left) (p'' : Replayed (held_net net.transitions rooms') rooms'.initial w within room'' s'' left'') where
+      (s s'' : Answer Replay) (left left'' : List ℕ) (p : Replayed net initial w within room s left) (p'' : Replayed (held_net net.transitions rooms') rooms'.initial w within room'' s'' left'') where
     -- where one is not refused, the stretch is inside its word
-    answered_inside : ((n at : ℕ) → s ≡ NotReplayed n at → ⊥) → within ≡ true
+    answered_inside : ((n at : ℕ) → s ≡ refused n at → ⊥) → within ≡ true
     answered_inside h = (replayable net initial w within room s left p h).inside
 
-    answered_inside'' : ((n at : ℕ) → s'' ≡ NotReplayed n at → ⊥) → within ≡ true
+    answered_inside'' : ((n at : ℕ) → s'' ≡ refused n at → ⊥) → within ≡ true
     answered_inside'' h = (replayable (held_net net.transitions rooms') rooms'.initial w within room'' s'' left'' p'' h).inside
 
     on_net : within ≡ true → Replayed net initial w true room s left
@@ -177,13 +175,13 @@ module _ (net : Net) (initial : List ℕ) (rooms : Rooms) (r : ComplementNet) (r
     on_complement q = rw (q, made_net, made_initial) at p''
 
     -- where nothing is refused the two leave related markings, whether fired or blocked
-    pub made_left_related : ((n at : ℕ) → s ≡ NotReplayed n at → ⊥) → Related net left left''
+    pub made_left_related : ((n at : ℕ) → s ≡ refused n at → ⊥) → Related net left left''
     made_left_related h =
         let q = answered_inside h in
         answered_related net initial rooms made_allowed w room room'' long (long'' ∙ made_places_lem) s s'' left left'' (on_net q) (on_complement q) h
 
     -- one is refused exactly if the other is, with the same number and position
-    pub made_refused_same : (n at : ℕ) → (s ≡ NotReplayed n at) ↔ (s'' ≡ NotReplayed n at)
+    pub made_refused_same : (n at : ℕ) → (s ≡ refused n at) ↔ (s'' ≡ refused n at)
     made_refused_same n at = (
       λ f. other.1 (refusal_same net held initial rooms'.initial w within room room'' refl ready (made_ready room'' long'') n at (one.0 f)),
       λ f. one.1 (refusal_same held net rooms'.initial initial w within room'' room refl (made_ready room'' long'') ready n at (other.0 f)),
@@ -195,35 +193,35 @@ module _ (net : Net) (initial : List ℕ) (rooms : Rooms) (r : ComplementNet) (r
         ready : Ready net initial room
         ready = record { sized = made_allowed.sized; light = made_allowed.light; marked = made_allowed.marked; roomy = long; fine = made_allowed.fine; wired = made_allowed.wired }
 
-        one : (s ≡ NotReplayed n at) ↔ ReplayRefusal net initial w within room n at
+        one : (s ≡ refused n at) ↔ ReplayRefusal net initial w within room n at
         one = replay-refused-exactly net initial w within room s left p n at
 
-        other : (s'' ≡ NotReplayed n at) ↔ ReplayRefusal (held_net net.transitions rooms') rooms'.initial w within room'' n at
+        other : (s'' ≡ refused n at) ↔ ReplayRefusal (held_net net.transitions rooms') rooms'.initial w within room'' n at
         other = replay-refused-exactly (held_net net.transitions rooms') rooms'.initial w within room'' s'' left'' p'' n at
 
     -- one has fired the whole word exactly if the other has
-    pub made_fired_same : (n : ℕ) → (s ≡ Fired n) ↔ (s'' ≡ Fired n)
+    pub made_fired_same : (n : ℕ) → (s ≡ Ok (Fired n)) ↔ (s'' ≡ Ok (Fired n))
     made_fired_same n = (λ f. (same (answered_inside (fired_answered n f))).0 f, λ f. (same (answered_inside'' (fired_answered n f))).1 f)
       where
-        same : within ≡ true → (s ≡ Fired n) ↔ (s'' ≡ Fired n)
+        same : within ≡ true → (s ≡ Ok (Fired n)) ↔ (s'' ≡ Ok (Fired n))
         same q = replay_same net initial rooms made_allowed w room room'' long (long'' ∙ made_places_lem) s s'' left left'' (on_net q) (on_complement q) n
 
     -- one is blocked exactly if the other is, at the same position, and their causes are tied
-    pub made_blocked : (i : ℕ) (why : Cause) → s ≡ Blocked i why → (why'' : Cause) × (s'' ≡ Blocked i why'') × Tied net why why''
+    pub made_blocked : (i : ℕ) (why : Cause) → s ≡ Ok (Blocked i why) → (why'' : Cause) × (s'' ≡ Ok (Blocked i why'')) × Tied net why why''
     made_blocked i why f =
         let q = answered_inside (blocked_answered i why f) in
         blocks_tied net initial rooms made_allowed w room room'' long (long'' ∙ made_places_lem) s s'' left left'' (on_net q) (on_complement q) i why f
 
-    pub made_blocked_only : (i : ℕ) (why'' : Cause) → s'' ≡ Blocked i why'' → (why : Cause) × (s ≡ Blocked i why) × Tied net why why''
+    pub made_blocked_only : (i : ℕ) (why'' : Cause) → s'' ≡ Ok (Blocked i why'') → (why : Cause) × (s ≡ Ok (Blocked i why)) × Tied net why why''
     made_blocked_only i why'' f =
         let q = answered_inside'' (blocked_answered i why'' f) in
         blocks_tied_only net initial rooms made_allowed w room room'' long (long'' ∙ made_places_lem) s s'' left left'' (on_net q) (on_complement q) i why'' f
 
-    pub made_blocked_same : (i : ℕ) → ((why : Cause) × (s ≡ Blocked i why)) ↔ ((why'' : Cause) × (s'' ≡ Blocked i why''))
+    pub made_blocked_same : (i : ℕ) → ((why : Cause) × (s ≡ Ok (Blocked i why))) ↔ ((why'' : Cause) × (s'' ≡ Ok (Blocked i why'')))
     made_blocked_same i = (λ f. let a = made_blocked i f.0 f.1 in (a.0, a.1), λ f. let a = made_blocked_only i f.0 f.1 in (a.0, a.1))
 
     -- of both blocks, all that 01 says of one, and what ties them
-    pub made_block_means : (i : ℕ) (why why'' : Cause) → s ≡ Blocked i why → s'' ≡ Blocked i why'' → TiedBlock net (held_net net.transitions rooms') w left left'' i why why''
+    pub made_block_means : (i : ℕ) (why why'' : Cause) → s ≡ Ok (Blocked i why) → s'' ≡ Ok (Blocked i why'') → TiedBlock net (held_net net.transitions rooms') w left left'' i why why''
     made_block_means i why why'' f g =
         let a = replayable net initial w within room s left p (blocked_answered i why f) in
         let b = replayable (held_net net.transitions rooms') rooms'.initial w within room'' s'' left'' p'' (blocked_answered i why'' g) in
@@ -231,68 +229,68 @@ module _ (net : Net) (initial : List ℕ) (rooms : Rooms) (r : ComplementNet) (r
         let d = blocked_cause (held_net net.transitions rooms') rooms'.initial w within room'' s'' left'' p'' b i why'' g in
         record { here = c.0; markings = made_left_related (blocked_answered i why f); named = c.1; named' = d.1; causes = go (made_blocked i why f) }
       where
-        go : (x : Cause) × (s'' ≡ Blocked i x) × Tied net why x → Tied net why why''
+        go : (x : Cause) × (s'' ≡ Ok (Blocked i x)) × Tied net why x → Tied net why why''
         go (x, h, t) = let y : x ≡ why'' = cc in rw y at t
 
     -- short at an old place in the one exactly if in the other: it is the lowest short place of both
-    pub made_blocked_short : (i q : ℕ) → (s ≡ Blocked i (Short q)) ↔ ((q < net.places) × (s'' ≡ Blocked i (Short q)))
+    pub made_blocked_short : (i q : ℕ) → (s ≡ Ok (Blocked i (Short q))) ↔ ((q < net.places) × (s'' ≡ Ok (Blocked i (Short q))))
     made_blocked_short i q = (λ f. to (made_blocked i (Short q) f), λ f. from f.0 (made_blocked_only i (Short q) f.1))
       where
-        to : (why'' : Cause) × (s'' ≡ Blocked i why'') × Tied net (Short q) why'' → (q < net.places) × (s'' ≡ Blocked i (Short q))
-        to (Short k, f, t) = (t.0, f ∙ ap (λ (z : ℕ). Blocked i (Short z)) t.1)
+        to : (why'' : Cause) × (s'' ≡ Ok (Blocked i why'')) × Tied net (Short q) why'' → (q < net.places) × (s'' ≡ Ok (Blocked i (Short q)))
+        to (Short k, f, t) = (t.0, f ∙ ap (λ (z : ℕ). Ok (Blocked i (Short z))) t.1)
         to (Over k, f, t) = absurd t
 
-        from : q < net.places → (why : Cause) × (s ≡ Blocked i why) × Tied net why (Short q) → s ≡ Blocked i (Short q)
-        from h (Short k, f, t) = f ∙ ap (λ (z : ℕ). Blocked i (Short z)) (sym t.1)
+        from : q < net.places → (why : Cause) × (s ≡ Ok (Blocked i why)) × Tied net why (Short q) → s ≡ Ok (Blocked i (Short q))
+        from h (Short k, f, t) = f ∙ ap (λ (z : ℕ). Ok (Blocked i (Short z))) (sym t.1)
         from h (Over k, f, t) = let a = t.after in absurd (omega arith)
 
     -- over at a place of the net exactly if short at its new place: where no old place is short, that is the lowest short place
-    pub made_blocked_over : (i q : ℕ) → (s ≡ Blocked i (Over q)) ↔ ((k : ℕ) × NewOf net q k × (s'' ≡ Blocked i (Short k)))
+    pub made_blocked_over : (i q : ℕ) → (s ≡ Ok (Blocked i (Over q))) ↔ ((k : ℕ) × NewOf net q k × (s'' ≡ Ok (Blocked i (Short k))))
     made_blocked_over i q = (λ f. to (made_blocked i (Over q) f), λ f. from f.0 f.1 (made_blocked_only i (Short f.0) f.2))
       where
-        to : (why'' : Cause) × (s'' ≡ Blocked i why'') × Tied net (Over q) why'' → (k : ℕ) × NewOf net q k × (s'' ≡ Blocked i (Short k))
+        to : (why'' : Cause) × (s'' ≡ Ok (Blocked i why'')) × Tied net (Over q) why'' → (k : ℕ) × NewOf net q k × (s'' ≡ Ok (Blocked i (Short k)))
         to (Short k, f, t) = (k, t, f)
         to (Over k, f, t) = absurd t
 
-        from : (k : ℕ) → NewOf net q k → (why : Cause) × (s ≡ Blocked i why) × Tied net why (Short k) → s ≡ Blocked i (Over q)
+        from : (k : ℕ) → NewOf net q k → (why : Cause) × (s ≡ Ok (Blocked i why)) × Tied net why (Short k) → s ≡ Ok (Blocked i (Over q))
         from k a (Short j, f, t) = let x = t.0 in let y = t.1 in let z = a.after in absurd (omega arith)
         from k a (Over j, f, t) =
             let x = a.after in
             let y = t.after in
             let n : t.number ≡ a.number = omega arith in
-            f ∙ ap (λ (z : ℕ). Blocked i (Over z)) (sym t.stands ∙ ap (λ (z : ℕ). get_or (made_places net) z 0) n ∙ a.stands)
+            f ∙ ap (λ (z : ℕ). Ok (Blocked i (Over z))) (sym t.stands ∙ ap (λ (z : ℕ). get_or (made_places net) z 0) n ∙ a.stands)
 
     -- the complement net is never over
-    pub made_never_over : (i q : ℕ) → s'' ≡ Blocked i (Over q) → ⊥
+    pub made_never_over : (i q : ℕ) → s'' ≡ Ok (Blocked i (Over q)) → ⊥
     made_never_over i q f = go (made_blocked_only i (Over q) f)
       where
-        go : (why : Cause) × (s ≡ Blocked i why) × Tied net why (Over q) → ⊥
+        go : (why : Cause) × (s ≡ Ok (Blocked i why)) × Tied net why (Over q) → ⊥
         go (Short k, f, t) = t
         go (Over k, f, t) = t
 
 -- `complement_places` answers n: the places of the net that `complement_net` makes, and of the rooms that it wants for it
-module _ (net : Net) (r : ComplementPlaces) (promise : Told net r) (n : ℕ) (e : r ≡ Places n) where
+module _ (net : Net) (r : Answer ℕ) (promise : Told net r) (n : ℕ) (e : r ≡ Ok n) where
   told_countable : Countable net
-  told_countable = places_answered_allowed net r promise (λ k at q. let z : ◌≡◌ {A = ℕ} 0 1 = cc in omega arith)
+  told_countable = places_answered_allowed net r promise (λ k at q. not_refused n k at (sym e ∙ q))
 
   told_is : complement_places net ≡ n
   told_is = let q = places_told net r promise told_countable in cc
 
-  module _ (initial : List ℕ) (rooms : Rooms) (a : ComplementNet) (rooms' : Rooms) (answer : Complemented net initial rooms a rooms') where
+  module _ (initial : List ℕ) (rooms : Rooms) (a : Fault) (rooms' : Rooms) (answer : Complemented net initial rooms a rooms') where
     -- n is how many places the made net has
-    pub told_places : a ≡ Made → (held_net net.transitions rooms').places ≡ n
+    pub told_places : a ≡ Ok tt → (held_net net.transitions rooms').places ≡ n
     told_places f = made_places_lem net initial rooms a rooms' answer f ∙ told_is
 
     -- with a marking that may be given, rooms of these lengths are all that is wanted, and no others will do
-    pub told_rooms : length initial ≡ net.places → Fine net.caps initial → (a ≡ Made) ↔ RoomsFor net.transitions n rooms
+    pub told_rooms : length initial ≡ net.places → Fine net.caps initial → (a ≡ Ok tt) ↔ RoomsFor net.transitions n rooms
     told_rooms marked fine = (there, back)
       where
-        there : a ≡ Made → RoomsFor net.transitions n rooms
+        there : a ≡ Ok tt → RoomsFor net.transitions n rooms
         there f =
             let y = (made_allowed net initial rooms a rooms' answer f).roomy in
             rw (← told_is) (record { pres = y.pres; posts = y.posts; caps = y.capped; marks = y.noted; initials = y.initials })
 
-        back : RoomsFor net.transitions n rooms → a ≡ Made
+        back : RoomsFor net.transitions n rooms → a ≡ Ok tt
         back y =
             let z = rw (← told_is) at y in
             (allowed_made net initial rooms a rooms' answer

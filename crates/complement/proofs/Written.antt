@@ -1,7 +1,7 @@
 -- Laws of the loops that choose places and write the rooms. Assumes nothing.
 use Prim.Native.Nat.{ℕ, zero, suc, ◌+◌, ◌-◌, ◌*◌, ◌≤◌, ◌<◌, zero-le}
 use mathlib.Core.Path.{◌≡◌, refl, sym, ap, ◌∙◌}
-use mathlib.Core.Bool.{Bool, true, false, cond}
+use mathlib.Core.Bool.{Bool, true, false}
 use mathlib.Core.List.{List, [], ◌∷◌, ◌++◌, map}
 use native.Mathlib.Omega.{arith}
 use native.Mathlib.Numerals.{add-one}
@@ -14,12 +14,10 @@ use borrow.Author.Tests.{lt-ltb, le-ltb}
 use Rattle.ground.specs.Limits.{count_limit}
 use Rattle.ground.specs.Lists.{map_at, table}
 use Rattle.ground.proofs.Stores.{sets_both, sets_whole}
-use Rattle.ground.proofs.Fill.{map_at_length, map_at_at, table_length, table_at, Made, make_next, make_end}
+use Rattle.ground.proofs.Fill.{map_at_length, map_at_at, table_length, table_at, Made, make_end}
 use Rattle.net.specs.Letter.{row}
 use Rattle.net.proofs.Rows.{row_length_lem}
-use Rattle.refusals.specs.Given.{Fine}
 use Rattle.complement.specs.Complement.{chosen_from, joined}
-use Rattle.complement.specs.Walk.{Inside}
 use Rattle.complement.proofs.Choice.{map_at_lem}
 
 -- the chosen numbers from p on, of n: one more, none more, no number left. r is the test's answer at p
@@ -60,15 +58,10 @@ pub ruleset counts = (count_start, count_yes, count_no, count_end)
 
 -- every number in order, p so far
 module _ (p : ℕ) (l : List ℕ) (m : Made 0 (λ k. k) (replicate count_limit 0) p l) where
-  pub own_next : p < count_limit → Made 0 (λ k. k) (replicate count_limit 0) (p + 1) (set l p p)
-  own_next h = make_next 0 (λ k. k) (replicate count_limit 0) p l p m (omega (arith, m.filled.long, length-replicate {A = ℕ} count_limit 0)) refl
-
   pub own_end : count_limit ≤ p → l ≡ table (λ k. k) count_limit
   own_end h =
       make_end 0 (λ k. k) (replicate count_limit 0) p l m (omega (arith, m.filled.long, length-replicate {A = ℕ} count_limit 0))
       ∙ ap (table (λ k. k)) (length-replicate {A = ℕ} count_limit 0)
-
-pub ruleset owns = (own_next, own_end)
 
 -- the chosen numbers written into a list from `to` on: p numbers were passed, and the next is written at `at`
 pub record Choosing (f : ℕ → Bool) (n : ℕ) (l₀ : List ℕ) (to at p : ℕ) (l : List ℕ) : Type 0 where
@@ -121,9 +114,6 @@ pub record Copying (vs l₀ : List ℕ) (to p : ℕ) (l : List ℕ) : Type 0 whe
   pub same : sets l (to + p) (drop p vs) ≡ sets l₀ to vs
 
 module _ (vs l₀ : List ℕ) (to : ℕ) where
-  pub copy_start : Copying vs l₀ to 0 l₀
-  copy_start = let q : to + 0 ≡ to = omega arith in record { passed = zero-le; long = refl; same = rw q }
-
   module _ (p : ℕ) (l : List ℕ) (f : Copying vs l₀ to p l) where
     pub copy_next : (i v : ℕ) → p < length vs → i ≡ to + p → v ≡ get_or vs p 0 → Copying vs l₀ to (p + 1) (set l i v)
     copy_next i v h ei ev =
@@ -132,13 +122,6 @@ module _ (vs l₀ : List ℕ) (to : ℕ) where
 
     pub copy_end : length vs ≤ p → l ≡ sets l₀ to vs
     copy_end h = rw (drop_of_length-le vs {i = p} h) at f.same
-
--- an old place's value, or a new one's: b is the test's answer
-pub old_is : (b : Bool) (x y r : ℕ) → b ≡ true → r ≡ x → r ≡ cond b x y
-old_is b x y r e q = rw e q
-
-pub new_is : (b : Bool) (x y r : ℕ) → b ≡ false → r ≡ y → r ≡ cond b x y
-new_is b x y r e q = rw e q
 
 -- what each place has by its source, written so
 module _ (g : ℕ → ℕ → ℕ) (sources l₀ : List ℕ) (to q : ℕ) (l : List ℕ) (f : Copying (map_at g sources) l₀ to q l) where
@@ -150,10 +133,6 @@ module _ (g : ℕ → ℕ → ℕ) (sources l₀ : List ℕ) (to q : ℕ) (l : L
 
 pub map_whole : (g : ℕ → ℕ → ℕ) (sources l₀ : List ℕ) (q : ℕ) (l : List ℕ) → Copying (map_at g sources) l₀ 0 q l → length sources ≡ length l₀ → length sources ≤ q → l ≡ map_at g sources
 map_whole g sources l₀ q l f e h = map_end g sources l₀ 0 q l f h ∙ sets_whole (map_at g sources) l₀ (map_at_length g sources ∙ e)
-
--- no subtraction of tokens goes below 0
-pub fine_at : (caps m sources : List ℕ) (q : ℕ) → Fine caps m → length m ≡ length caps → Inside (length caps) sources → q < length sources → get_or m (get_or sources q 0) 0 ≤ get_or caps (get_or sources q 0) 0
-fine_at caps m sources q f e i h = f.within (get_or sources q 0) (omega (arith, i.at q h))
 
 -- by the sources of all places: the old places' own, then those of the new ones
 by_own : (h : Bool → ℕ → ℕ) (kept chosen : List ℕ) → ((p : ℕ) → p < length kept → h true p ≡ get_or kept p 0) → map_at (λ q p. h (ltb q (length kept)) p) (table (λ p. p) (length kept) ++ chosen) ≡ kept ++ map (h false) chosen

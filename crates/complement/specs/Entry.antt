@@ -1,16 +1,14 @@
 -- To be believed: the complement net into lent rooms; refusals 1, 2, 18, 3, 17 and 10 in order, else the net and its initial marking.
+use Rattle.std.specs.Prelude.{Ok, Err}
+use Rattle.refusals.specs.Given.{Fault}
 use Rattle.std.specs.Prelude.{ℕ, ◌*◌, ◌≤◌, ◌≡◌, Bool, ◌&&◌, List, [], ◌∷◌, length, eqb}
 use Rattle.ground.specs.Limits.{count_limit}
 use Rattle.net.specs.Net.{Net, Sized, Light}
 use Rattle.wiring.specs.Wired.{Wired}
 use Rattle.refusals.specs.Given.{or_else, marked_fault, Fine}
 use Rattle.refusals.specs.First.{MarkedFirst}
-use Rattle.refusals.specs.declared.Fault.{Fault}
-use Rattle.refusals.specs.declared.Fault.TheVariants.{Sound, Faulty}
 use Rattle.complement.specs.Complement.{complement_places, complement_net, complement_marking}
 use Rattle.complement.specs.Told.{limit_fault, LimitFirst}
-use Rattle.complement.specs.declared.ComplementNet.{ComplementNet}
-use Rattle.complement.specs.declared.ComplementNet.TheVariants.{Made, Refused}
 
 -- the lent rooms: for Pre, Post, the capacities, the marks and the initial marking
 pub record Rooms : Type 0 where
@@ -39,7 +37,7 @@ complement_fault net initial fits = or_else (marked_fault net initial fits) (lim
 
 -- an answer, and the rooms left
 pub record Wrote : Type 0 where
-  pub answer : ComplementNet
+  pub answer : Fault
   pub left : Rooms
 
 -- the complement net and its initial marking
@@ -48,19 +46,19 @@ written net initial = rooms_of (complement_net net).pre (complement_net net).pos
 
 -- "A refusal leaves lent memory as found."
 abbrev pub answered : Fault → Rooms → Rooms → Wrote
-answered Sound new rooms = record { answer = Made; left = new }
-answered (Faulty n at) new rooms = record { answer = Refused n at; left = rooms }
+answered (Ok _) new rooms = record { answer = Ok tt; left = new }
+answered (Err r) new rooms = record { answer = Err r; left = rooms }
 
 abbrev pub complement_of : Net → List ℕ → Rooms → Wrote
 complement_of net initial rooms = answered (complement_fault net initial (rooms_fit net rooms)) (written net initial) rooms
 
 -- numbers for each case: 81 00; 82, a refusal's number and position
-abbrev pub numbers : ComplementNet → List ℕ
-numbers Made = 0x81 ∷ 0 ∷ []
-numbers (Refused n at) = 0x82 ∷ n ∷ at ∷ []
+abbrev pub numbers : Fault → List ℕ
+numbers (Ok _) = 0x81 ∷ 0 ∷ []
+numbers (Err r) = 0x82 ∷ r.number ∷ r.at ∷ []
 
 -- what is promised of the answer r and of the rooms at the end
-pub record Complemented (net : Net) (initial : List ℕ) (rooms : Rooms) (r : ComplementNet) (rooms' : Rooms) : Type 0 where
+pub record Complemented (net : Net) (initial : List ℕ) (rooms : Rooms) (r : Fault) (rooms' : Rooms) : Type 0 where
   pub answer : numbers r ≡ numbers (complement_of net initial rooms).answer
   pub left : rooms' ≡ (complement_of net initial rooms).left
 

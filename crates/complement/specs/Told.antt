@@ -1,15 +1,13 @@
 -- To be believed: the public question beside the complement net, how many places it has.
+use Rattle.std.specs.Prelude.{Ok, Err}
+use Rattle.refusals.specs.Given.{Answer, Fault}
 use Rattle.std.specs.Prelude.{ℕ, ◌≤◌, ◌≡◌, true, List, [], ◌∷◌, ltb}
 use Rattle.ground.specs.Limits.{count_limit}
 use Rattle.net.specs.Net.{Net, Sized, Light}
 use Rattle.wiring.specs.Wired.{Wired}
 use Rattle.refusals.specs.Given.{refuse, or_else, net_fault}
 use Rattle.refusals.specs.First.{First, Given, NetFirst}
-use Rattle.refusals.specs.declared.Fault.{Fault}
-use Rattle.refusals.specs.declared.Fault.TheVariants.{Sound, Faulty}
 use Rattle.complement.specs.Complement.{complement_places}
-use Rattle.complement.specs.declared.ComplementPlaces.{ComplementPlaces}
-use Rattle.complement.specs.declared.ComplementPlaces.TheVariants.{Places, Refused}
 
 -- 10: "old plus complement places over 64"; 02, E4: "the room in refusal 10 counts only those made"
 unfoldable pub limit_fault : ℕ → Fault
@@ -20,20 +18,16 @@ unfoldable pub places_fault : Net → Fault
 places_fault net = or_else (net_fault net true) (limit_fault (complement_places net))
 
 -- the places, where nothing is refused
-abbrev pub told : Fault → ℕ → ComplementPlaces
-told Sound n = Places n
-told (Faulty n at) k = Refused n at
-
-abbrev pub places_of : Net → ComplementPlaces
-places_of net = told (places_fault net) (complement_places net)
+abbrev pub places_of : Net → Answer ℕ
+places_of net = or_else (places_fault net) (Ok (complement_places net))
 
 -- numbers for each case: 81 00 and the places; 82, a refusal's number and position
-abbrev pub places_numbers : ComplementPlaces → List ℕ
-places_numbers (Places n) = 0x81 ∷ 0 ∷ n ∷ []
-places_numbers (Refused n at) = 0x82 ∷ n ∷ at ∷ []
+abbrev pub places_numbers : Answer ℕ → List ℕ
+places_numbers (Ok n) = 0x81 ∷ 0 ∷ n ∷ []
+places_numbers (Err r) = 0x82 ∷ r.number ∷ r.at ∷ []
 
 -- what the question promises of its answer r
-pub record Told (net : Net) (r : ComplementPlaces) : Type 0 where
+pub record Told (net : Net) (r : Answer ℕ) : Type 0 where
   pub answer : places_numbers r ≡ places_numbers (places_of net)
 
 -- all that document 01 asks: nothing is refused exactly where this holds

@@ -1,7 +1,7 @@
 -- Only for the code's walk, nothing to believe: rows and tokens by the lists that the inner functions are lent. proofs/Answers.antt says that they are the complement net's.
 use Rattle.std.specs.Prelude.{ℕ, ◌-◌, ◌<◌, Bool, cond, List, length, get_or, ltb}
 use Rattle.ground.specs.Lists.{map_at}
-use Rattle.net.specs.Net.{rise_of}
+use Rattle.net.specs.Net.{Net, rise_of}
 use Rattle.net.specs.Letter.{row}
 use Rattle.complement.specs.Complement.{fall_of}
 
@@ -30,8 +30,8 @@ abbrev pub tokens_row : ℕ → List ℕ → List ℕ → List ℕ → List ℕ
 tokens_row places caps m sources = map_at (λ q p. tokens_at (ltb q places) (get_or caps p 0) (get_or m p 0)) sources
 
 -- transition t's rows
-abbrev pub new_pre : ℕ → List ℕ → List ℕ → List ℕ → List ℕ → ℕ → List ℕ
-new_pre places pre post marks sources t = taken_row places (row places t pre) (row places t post) marks sources
+abbrev pub new_pre : Net → List ℕ → ℕ → List ℕ
+new_pre net sources t = taken_row net.places (row net.places t net.pre) (row net.places t net.post) net.marks sources
 
-abbrev pub new_post : ℕ → List ℕ → List ℕ → List ℕ → List ℕ → ℕ → List ℕ
-new_post places pre post marks sources t = put_row places (row places t pre) (row places t post) marks sources
+abbrev pub new_post : Net → List ℕ → ℕ → List ℕ
+new_post net sources t = put_row net.places (row net.places t net.pre) (row net.places t net.post) net.marks sources

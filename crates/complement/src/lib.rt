@@ -6,7 +6,8 @@ ghost use Rattle.std.specs.Prelude.{◌≡◌, ◌+◌, ◌-◌, ◌*◌, ◌≤
 ghost use Rattle.std.proofs.lemmas.List.Edits.{sets};
 ghost use Rattle.ground.specs.Limits.{count_limit, no_capacity};
 ghost use Rattle.ground.specs.Lists.{table};
-ghost use Rattle.net.specs.Net.{net_of, Sized};
+ghost use Rattle.net.specs.Lent.{lent};
+ghost use Rattle.net.specs.Net.{Sized};
 ghost use Rattle.refusals.specs.Given.{or_else, marked_fault, Fine};
 ghost use Rattle.complement.specs.Complement.{change_of, changed, pocket_of, made, made_places, complement_places, joined};
 ghost use Rattle.complement.specs.Told.{limit_fault, Told};
@@ -14,21 +15,8 @@ ghost use Rattle.complement.specs.Entry.{rooms_of, lengths_fit, net_fits, comple
 ghost use Rattle.complement.specs.Walk.{Inside, taken_from, put_to, tokens_at, taken_row, put_row, new_pre, new_post, tokens_row};
 
 use ground::{COUNT_LIMIT, NO_CAPACITY, Weight};
-use refusals::Fault;
-
-// How many places the complement net has; or refused, with document 01's number and position.
-#[derive(Clone, Copy)]
-pub enum ComplementPlaces {
-    Places(usize),
-    Refused(u8, usize),
-}
-
-// The complement net was written; or refused, with document 01's number and position.
-#[derive(Clone, Copy)]
-pub enum ComplementNet {
-    Made,
-    Refused(u8, usize),
-}
+use net::{Net, SizedNet};
+use refusals::{Refusal, refuse};
 
 // Whether a transition changes a place: it puts there another number than it takes.
 fn is_change(takes: Weight, puts: Weight) -> bool
@@ -38,28 +26,15 @@ fn is_change(takes: Weight, puts: Weight) -> bool
 }
 
 // Whether some transition changes this place: a loop that puts back what it takes does not.
-fn is_changed(
-    places: usize,
-    transitions: usize,
-    pre: &[Weight],
-    post: &[Weight],
-    caps: &[u16],
-    marks: &[u8],
-    p: usize,
-) -> bool
-    requires sized { Sized (net_of places transitions pre.now post.now caps.now marks.now) }
-    requires p_lt_places { p < places }
-    ensures { result ≡ changed (net_of places transitions pre.now post.now caps.now marks.now) p }
+#[tactic(auto, using(ground::proofs::Scan::scans), unfolding(crate::specs::Complement::changed))]
+fn is_changed(sized: &SizedNet, p: usize) -> bool
+    requires { p < sized.now.net.places }
+    ensures { result ≡ changed (lent sized.now.net) p }
 {
-    let mut t = 0;
-    while t < transitions {
-        let at = t * places + p;
-        let takes = pre[at];
-        let puts = post[at];
-        if is_change(takes, puts) {
+    for t in 0..sized.net.transitions {
+        if is_change(sized.pre_at(p, t), sized.post_at(p, t)) {
             return true;
         }
-        t += 1;
     }
     false
 }
@@ -81,51 +56,32 @@ fn is_pocket(mark: u8) -> bool
 // Whether a place gets a complement place: it has a capacity, and is a pocket, or some transition
 // changes it; that of another would hang loose. Here and in `made` alone stands which places do, so it
 // is lent the whole net.
-fn is_made(
-    places: usize,
-    transitions: usize,
-    pre: &[Weight],
-    post: &[Weight],
-    caps: &[u16],
-    marks: &[u8],
-    p: usize,
-) -> bool
-    requires sized { Sized (net_of places transitions pre.now post.now caps.now marks.now) }
-    requires p_lt_places { p < places }
-    ensures { result ≡ made (net_of places transitions pre.now post.now caps.now marks.now) p }
+#[tactic(auto, unfolding(crate::specs::Complement::made))]
+fn is_made(sized: &SizedNet, p: usize) -> bool
+    requires { p < sized.now.net.places }
+    ensures { result ≡ made (lent sized.now.net) p }
 {
-    let cap = caps[p];
-    let mark = marks[p];
-    if !is_capped(cap) {
-        return false;
-    }
-    if is_pocket(mark) {
-        return true;
-    }
-    is_changed(places, transitions, pre, post, caps, marks, p)
+    is_capped(sized.net.caps[p]) && (is_pocket(sized.net.marks[p]) || is_changed(sized, p))
 }
 
 // How many places get one.
-fn count_made(
-    places: usize,
-    transitions: usize,
-    pre: &[Weight],
-    post: &[Weight],
-    caps: &[u16],
-    marks: &[u8],
-) -> usize
-    requires { Sized (net_of places transitions pre.now post.now caps.now marks.now) }
-    ensures { result ≡ length (made_places (net_of places transitions pre.now post.now caps.now marks.now)) }
+fn count_made(sized: &SizedNet) -> usize
+    ensures { result ≡ length (made_places (lent sized.now.net)) }
 {
     let mut count: usize = 0;
-    let mut p = 0;
-    while p < places {
-        if is_made(places, transitions, pre, post, caps, marks, p) {
+    for p in 0..sized.net.places {
+        if is_made(sized, p) {
             count += 1;
         }
-        p += 1;
     }
     count
+}
+
+// How many places the complement net has: the old ones, and those that get a new one.
+fn count_places(sized: &SizedNet) -> usize
+    ensures { result ≡ complement_places (lent sized.now.net) }
+{
+    sized.net.places + count_made(sized)
 }
 
 // Every place number, in order.
@@ -133,37 +89,25 @@ fn own_places() -> [usize; COUNT_LIMIT]
     ensures { result ≡ table (λ p. p) count_limit }
 {
     let mut own = [0; COUNT_LIMIT];
-    let mut p = 0;
-    while p < COUNT_LIMIT {
+    for p in 0..COUNT_LIMIT {
         own[p] = p;
-        p += 1;
     }
     own
 }
 
 // For each place of the complement net the old place that it stands for: the old ones stand for
 // themselves, then come those that get a new place, in order of number.
-fn find_sources(
-    places: usize,
-    transitions: usize,
-    pre: &[Weight],
-    post: &[Weight],
-    caps: &[u16],
-    marks: &[u8],
-) -> [usize; COUNT_LIMIT]
-    requires sized { Sized (net_of places transitions pre.now post.now caps.now marks.now) }
-    requires marks_bound { complement_places (net_of places transitions pre.now post.now caps.now marks.now) ≤ count_limit }
-    ensures { result ≡ sets (table (λ p. p) count_limit) places (made_places (net_of places transitions pre.now post.now caps.now marks.now)) }
+fn find_sources(sized: &SizedNet) -> [usize; COUNT_LIMIT]
+    requires { complement_places (lent sized.now.net) ≤ count_limit }
+    ensures { result ≡ sets (table (λ p. p) count_limit) sized.now.net.places (made_places (lent sized.now.net)) }
 {
     let mut sources = own_places();
-    let mut at = places;
-    let mut p = 0;
-    while p < places {
-        if is_made(places, transitions, pre, post, caps, marks, p) {
+    let mut at = sized.net.places;
+    for p in 0..sized.net.places {
+        if is_made(sized, p) {
             sources[at] = p;
             at += 1;
         }
-        p += 1;
     }
     sources
 }
@@ -209,75 +153,34 @@ fn write_row(
     ensures pre2_after { pre2.new ≡ sets pre2.old to (taken_row (length puts.now) takes.now puts.now marks.now sources.now) }
     ensures post2_after { post2.new ≡ sets post2.old to (put_row (length puts.now) takes.now puts.now marks.now sources.now) }
 {
-    let mut q = 0;
-    while q < sources.len() {
+    for q in 0..sources.len() {
         let p = sources[q];
         let taken = takes[p];
         let put = puts[p];
         let mark = marks[p];
         pre2[to + q] = taken_from(q, puts.len(), mark, taken, put);
         post2[to + q] = put_to(q, puts.len(), mark, taken, put);
-        q += 1;
     }
 }
 
 // All transitions' weights, row by row.
-fn write_rows(
-    places: usize,
-    transitions: usize,
-    pre: &[Weight],
-    post: &[Weight],
-    marks: &[u8],
-    sources: &[usize],
-    pre2: &mut [Weight],
-    post2: &mut [Weight],
-)
-    requires pre_len { length pre.now ≡ transitions * places }
-    requires post_len { length post.now ≡ transitions * places }
-    requires marks_len { length marks.now ≡ places }
-    requires inside { Inside places sources.now }
-    requires pre2_len { length pre2.old ≡ transitions * length sources.now }
-    requires post2_len { length post2.old ≡ transitions * length sources.now }
-    ensures pre2_after { pre2.new ≡ joined (new_pre places pre.now post.now marks.now sources.now) transitions }
-    ensures post2_after { post2.new ≡ joined (new_post places pre.now post.now marks.now sources.now) transitions }
+fn write_rows(sized: &SizedNet, sources: &[usize], pre2: &mut [Weight], post2: &mut [Weight])
+    requires inside { Inside sized.now.net.places sources.now }
+    requires pre2_len { length pre2.old ≡ sized.now.net.transitions * length sources.now }
+    requires post2_len { length post2.old ≡ sized.now.net.transitions * length sources.now }
+    ensures pre2_after { pre2.new ≡ joined (new_pre (lent sized.now.net) sources.now) sized.now.net.transitions }
+    ensures post2_after { post2.new ≡ joined (new_post (lent sized.now.net) sources.now) sized.now.net.transitions }
 {
-    let wide = sources.len();
-    let mut t = 0;
-    while t < transitions {
-        let a = t * places;
-        let e = a + places;
+    for t in 0..sized.net.transitions {
         write_row(
-            &pre[a..e],
-            &post[a..e],
-            marks,
+            sized.takes(t),
+            sized.puts(t),
+            sized.net.marks,
             sources,
-            t * wide,
+            t * sources.len(),
             pre2,
             post2,
         );
-        t += 1;
-    }
-}
-
-// No capacity, everywhere.
-fn write_caps(room: &mut [u16])
-    ensures { room.new ≡ table (λ p. no_capacity) (length room.old) }
-{
-    let mut p = 0;
-    while p < room.len() {
-        room[p] = NO_CAPACITY;
-        p += 1;
-    }
-}
-
-// Every place plain.
-fn write_marks(room: &mut [u8])
-    ensures { room.new ≡ table (λ p. 0) (length room.old) }
-{
-    let mut q = 0;
-    while q < room.len() {
-        room[q] = 0;
-        q += 1;
     }
 }
 
@@ -300,191 +203,105 @@ fn write_tokens(caps: &[u16], initial: &[u16], sources: &[usize], room: &mut [u1
     requires sources_len { length sources.now ≡ length room.old }
     ensures { room.new ≡ tokens_row (length caps.now) caps.now initial.now sources.now }
 {
-    let mut q = 0;
-    while q < sources.len() {
+    for q in 0..sources.len() {
         let p = sources[q];
         let cap = caps[p];
         let tokens = initial[p];
         room[q] = tokens_at(q, caps.len(), cap, tokens);
-        q += 1;
     }
 }
 
-// Whether the rooms have the new net's lengths.
-fn is_fitting(
-    cells: usize,
-    wide: usize,
+// The lengths of the rooms: for Pre, Post, the capacities, the marks and the initial marking.
+#[derive(Clone, Copy)]
+struct Lengths {
     pre: usize,
     post: usize,
     caps: usize,
     marks: usize,
     initial: usize,
-) -> bool
-    ensures { result ≡ lengths_fit cells wide pre post caps marks initial }
+}
+
+// Whether the rooms have the new net's lengths.
+fn is_fitting(rooms: &Lengths, cells: usize, wide: usize) -> bool
+    ensures { result ≡ lengths_fit cells wide rooms.now.pre rooms.now.post rooms.now.caps rooms.now.marks rooms.now.initial }
 {
-    if pre != cells {
-        return false;
-    }
-    if post != cells {
-        return false;
-    }
-    if caps != wide {
-        return false;
-    }
-    if marks != wide {
-        return false;
-    }
-    initial == wide
+    rooms.pre == cells
+        && rooms.post == cells
+        && rooms.caps == wide
+        && rooms.marks == wide
+        && rooms.initial == wide
 }
 
 // Refusal 10.
-fn limit_fault(wide: usize) -> Fault
+#[tactic(auto, unfolding(crate::specs::Told::limit_fault))]
+fn limit_fault(wide: usize) -> Result<(), Refusal>
     ensures { result ≡ limit_fault wide }
 {
-    if COUNT_LIMIT < wide {
-        Fault::Faulty(10, 0)
-    } else {
-        Fault::Sound
-    }
+    refuse(COUNT_LIMIT < wide, 10, 0)
 }
 
 // Refusals 1, 2, 18, 3 and 17, then 10, once the number of places is known.
-fn later_fault(
-    places: usize,
-    transitions: usize,
-    pre: &[Weight],
-    post: &[Weight],
-    caps: &[u16],
-    marks: &[u8],
-    initial: &[u16],
-    wide: usize,
-    fits: bool,
-) -> Fault
-    ensures { result ≡ or_else (marked_fault (net_of places transitions pre.now post.now caps.now marks.now) initial.now fits) (limit_fault wide) }
+fn later_fault(net: &Net, initial: &[u16], wide: usize, fits: bool) -> Result<(), Refusal>
+    ensures { result ≡ or_else (marked_fault (lent net.now) initial.now fits) (limit_fault wide) }
 {
-    let found = refusals::marked_fault(places, transitions, pre, post, caps, marks, initial, fits);
-    match found {
-        Fault::Faulty(number, at) => Fault::Faulty(number, at),
-        Fault::Sound => limit_fault(wide),
-    }
+    refusals::marked_fault(net, initial, fits)?;
+    limit_fault(wide)
 }
 
 // Refusals 1, 2, 18, 3, 17 and 10, from the rooms' lengths. It is not lent the rooms, so a refusal cannot
 // touch them. Places are counted only where counts and lengths agree, so nothing overflows; where
 // they do not, 1 or 2 is given whatever the rooms are.
-fn find_fault(
-    places: usize,
-    transitions: usize,
-    pre: &[Weight],
-    post: &[Weight],
-    caps: &[u16],
-    marks: &[u8],
-    initial: &[u16],
-    pres: usize,
-    posts: usize,
-    capacities: usize,
-    noted: usize,
-    initials: usize,
-) -> Fault
-    ensures { result ≡ complement_fault (net_of places transitions pre.now post.now caps.now marks.now) initial.now (net_fits (net_of places transitions pre.now post.now caps.now marks.now) pres posts capacities noted initials) }
+fn find_fault(net: &Net, initial: &[u16], rooms: &Lengths) -> Result<(), Refusal>
+    ensures { result ≡ complement_fault (lent net.now) initial.now (net_fits (lent net.now) rooms.now.pre rooms.now.post rooms.now.caps rooms.now.marks rooms.now.initial) }
 {
-    if !refusals::is_sized(places, transitions, pre, post, caps, marks) {
-        return refusals::marked_fault(places, transitions, pre, post, caps, marks, initial, false);
+    if !refusals::is_sized(net) {
+        return refusals::marked_fault(net, initial, false);
     }
-    let count = count_made(places, transitions, pre, post, caps, marks);
-    let wide = places + count;
-    let cells = transitions * wide;
-    let fits = is_fitting(cells, wide, pres, posts, capacities, noted, initials);
-    later_fault(
-        places,
-        transitions,
-        pre,
-        post,
-        caps,
-        marks,
-        initial,
-        wide,
-        fits,
-    )
+    let sized = SizedNet { net: *net };
+    let wide = count_places(&sized);
+    let cells = net.transitions * wide;
+    later_fault(net, initial, wide, is_fitting(rooms, cells, wide))
 }
 
 // How many places the complement net of a net has.
-pub fn complement_places(
-    places: usize,
-    transitions: usize,
-    pre: &[Weight],
-    post: &[Weight],
-    caps: &[u16],
-    marks: &[u8],
-) -> ComplementPlaces
-    ensures { Told (net_of places transitions pre.now post.now caps.now marks.now) result }
+pub fn complement_places(net: &Net) -> Result<usize, Refusal>
+    ensures { Told (lent net.now) result }
 {
-    let found = refusals::net_fault(places, transitions, pre, post, caps, marks, true);
-    match found {
-        Fault::Faulty(number, at) => ComplementPlaces::Refused(number, at),
-        Fault::Sound => {
-            let count = count_made(places, transitions, pre, post, caps, marks);
-            let wide = places + count;
-            let limit = limit_fault(wide);
-            match limit {
-                Fault::Faulty(number, at) => ComplementPlaces::Refused(number, at),
-                Fault::Sound => ComplementPlaces::Places(wide),
-            }
-        }
-    }
+    refusals::net_fault(net, true)?;
+    let sized = SizedNet { net: *net };
+    let wide = count_places(&sized);
+    limit_fault(wide)?;
+    Ok(wide)
 }
 
 // The complement net of a net and its initial marking, written into rooms of exactly its lengths:
-// Pre and Post, the capacities, the marks, the initial marking. A refusal leaves every room as found.
+// Pre and Post, the capacities, the marks, the initial marking. No capacity remains, and every place is
+// plain. A refusal leaves every room as found.
 pub fn complement_net(
-    places: usize,
-    transitions: usize,
-    pre: &[Weight],
-    post: &[Weight],
-    caps: &[u16],
-    marks: &[u8],
+    net: &Net,
     initial: &[u16],
     pre2: &mut [Weight],
     post2: &mut [Weight],
     caps2: &mut [u16],
     marks2: &mut [u8],
     initial2: &mut [u16],
-) -> ComplementNet
-    ensures { Complemented (net_of places transitions pre.now post.now caps.now marks.now) initial.now (rooms_of pre2.old post2.old caps2.old marks2.old initial2.old) result (rooms_of pre2.new post2.new caps2.new marks2.new initial2.new) }
+) -> Result<(), Refusal>
+    ensures { Complemented (lent net.now) initial.now (rooms_of pre2.old post2.old caps2.old marks2.old initial2.old) result (rooms_of pre2.new post2.new caps2.new marks2.new initial2.new) }
 {
-    let found = find_fault(
-        places,
-        transitions,
-        pre,
-        post,
-        caps,
-        marks,
-        initial,
-        pre2.len(),
-        post2.len(),
-        caps2.len(),
-        marks2.len(),
-        initial2.len(),
-    );
-    match found {
-        Fault::Faulty(number, at) => ComplementNet::Refused(number, at),
-        Fault::Sound => {
-            let wide = caps2.len();
-            let sources = find_sources(places, transitions, pre, post, caps, marks);
-            write_rows(
-                places,
-                transitions,
-                pre,
-                post,
-                marks,
-                &sources[..wide],
-                pre2,
-                post2,
-            );
-            write_caps(caps2);
-            write_marks(marks2);
-            write_tokens(caps, initial, &sources[..wide], initial2);
-            ComplementNet::Made
-        }
-    }
+    let rooms = Lengths {
+        pre: pre2.len(),
+        post: post2.len(),
+        caps: caps2.len(),
+        marks: marks2.len(),
+        initial: initial2.len(),
+    };
+    find_fault(net, initial, &rooms)?;
+    let sized = SizedNet { net: *net };
+    let found = find_sources(&sized);
+    let sources = &found[..rooms.caps];
+    write_rows(&sized, sources, pre2, post2);
+    caps2.fill(NO_CAPACITY);
+    marks2.fill(0);
+    write_tokens(net.caps, initial, sources, initial2);
+    Ok(())
 }

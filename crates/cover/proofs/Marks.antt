@@ -1,4 +1,5 @@
 -- "Cover lists ... don't change" (document 02, E5): no answer about a cover list depends on the marks, whatever they are. Assumes nothing.
+use Rattle.std.specs.Prelude.{Ok}
 use Prim.Native.Nat.{ℕ}
 use mathlib.Core.Path.{◌≡◌, refl, sym, ap, ◌∙◌}
 use mathlib.Core.Bool.{true}
@@ -6,8 +7,8 @@ use mathlib.Core.List.{List}
 use lib.ListN.{length}
 use lib.Dec.{eqb}
 use Rattle.net.specs.Net.{Net}
+use Rattle.refusals.specs.Given.{Answer}
 use Rattle.net.specs.Marks.{remarked}
-use Rattle.refusals.specs.declared.Fault.TheVariants.{Sound}
 use Rattle.lists.specs.Whole.{count}
 use Rattle.lists.specs.Match.{held}
 use Rattle.lists.specs.Answers.{numbers, claim_numbers, claim_of}
@@ -25,13 +26,13 @@ module _ (net : Net) (marks : List ℕ) (long : length marks ≡ length net.mark
   unfolding absent
   same_looked = refl
 
-  pub cover_list_unmarked : (r r' : ListAnswer) → numbers r ≡ numbers (list_of Cover net initial list true Sound) → numbers r' ≡ numbers (list_of Cover (remarked net marks) initial list true Sound) → r ≡ r'
+  pub cover_list_unmarked : (r r' : Answer ListAnswer) → numbers r ≡ numbers (list_of Cover net initial list true (Ok tt)) → numbers r' ≡ numbers (list_of Cover (remarked net marks) initial list true (Ok tt)) → r ≡ r'
   cover_list_unmarked r r' p q =
-      unique_list net initial list r r' p (q ∙ ap numbers (sym (remarked_list Cover net marks long initial list same_looked true Sound)))
+      unique_list net initial list r r' p (q ∙ ap numbers (sym (remarked_list Cover net marks long initial list same_looked true (Ok tt))))
 
-  pub cover_target_unmarked : (m : List ℕ) (r r' : ClaimAnswer) → claim_numbers r ≡ claim_numbers (target_of Cover net initial list m) → claim_numbers r' ≡ claim_numbers (target_of Cover (remarked net marks) initial list m) → r ≡ r'
+  pub cover_target_unmarked : (m : List ℕ) (r r' : Answer ClaimAnswer) → claim_numbers r ≡ claim_numbers (target_of Cover net initial list m) → claim_numbers r' ≡ claim_numbers (target_of Cover (remarked net marks) initial list m) → r ≡ r'
   cover_target_unmarked m r r' p q =
       unique_target net initial list m r r' p
       (q
-      ∙ ap (λ (a : ListAnswer). claim_numbers (claim_of a (held Cover net.places (count net.places list) list m)))
+      ∙ ap (λ (a : Answer ListAnswer). claim_numbers (claim_of a (held Cover net.places (count net.places list) list m)))
       (sym (remarked_list Cover net marks long initial list same_looked (eqb (length m) net.places) (target_fault m))))

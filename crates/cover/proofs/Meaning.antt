@@ -1,5 +1,7 @@
 -- What the answers to a cover list say of the published relation, whatever follows the list, and that each promise fixes its answer. From each
 -- entry's promise it is said in Promise.antt. Assumes nothing.
+use Rattle.std.specs.Prelude.{Ok}
+use Rattle.refusals.specs.Given.{Answer, Fault}
 use Prim.Native.Nat.{ℕ, ◌+◌, ◌-◌, ◌≤◌, ◌<◌}
 use mathlib.Core.Path.{◌≡◌, sym, ap, ◌∙◌}
 use mathlib.Core.Bool.{Bool, true}
@@ -10,8 +12,6 @@ use Rattle.net.specs.Net.{Net, Pre, Post, tokens}
 use Rattle.net.specs.Firing as firing
 use Rattle.net.specs.Firing.{Gives, Firing, Reachable}
 use Rattle.net.proofs.Meaning.{gives_plain, reachable_has}
-use Rattle.refusals.specs.declared.Fault.{Fault}
-use Rattle.refusals.specs.declared.Fault.TheVariants.{Sound}
 use Rattle.lists.specs.Whole.{marking_at}
 use Rattle.lists.specs.Answers.{numbers, claim_numbers}
 use Rattle.lists.specs.declared.Failure.TheVariants.{InitialMissing, ResultMissing}
@@ -22,20 +22,19 @@ use Rattle.lists.specs.declared.ClaimAnswer.{ClaimAnswer}
 use Rattle.lists.proofs.Pairs.{accepted_looked, looked_accepted, looked_initial, looked_result, initial_looked, result_looked}
 use Rattle.lists.proofs.Answers.{numbers_apart, claim_numbers_apart}
 use Rattle.list_check.specs.Given.{given_fault, list_of, target_of}
-use Rattle.list_check.proofs.Refusals.{lent_of, accepted_sound, failed_sound}
+use Rattle.list_check.proofs.Refusals.{lent_of, looked_sound, sound_looked}
 use Rattle.cover.specs.Number.{Number, nat, any, listed, marking, CoversAt, CoversMarking, after}
 use Rattle.cover.specs.Cover.{CoverEnabled, result_at, ListCovers, EnabledAt, IsCover, FirstMissing}
 use Rattle.cover.proofs.Covered.{of_covered, covered_of, uncovered_of, of_uncovered, holds_of, missing_of, of_holds, of_missing}
 
--- `Allowed` is what 01 asks of all that is lent: of a list alone (`true`, `Sound`), or of a list with a target (`fits`, `next`)
-module _ (net : Net) (initial l : List ℕ) (fits : Bool) (next : Fault) {Allowed : Type 0} (sound : (given_fault Cover net initial l fits next ≡ Sound) ↔ Allowed) where
-  pub accepted_is : (list_of Cover net initial l fits next ≡ list.Accepted) ↔ (Allowed × IsCover net initial l)
-  unfolding list_of
+-- `Allowed` is what 01 asks of all that is lent: of a list alone (`true`, `Ok tt`), or of a list with a target (`fits`, `next`)
+module _ (net : Net) (initial l : List ℕ) (fits : Bool) (next : Fault) {Allowed : Type 0} (sound : (given_fault Cover net initial l fits next ≡ Ok tt) ↔ Allowed) where
+  pub accepted_is : (list_of Cover net initial l fits next ≡ Ok list.Accepted) ↔ (Allowed × IsCover net initial l)
   accepted_is = (there, λ h. back (sound.1 h.0) h.1)
     where
-      there : list_of Cover net initial l fits next ≡ list.Accepted → Allowed × IsCover net initial l
+      there : list_of Cover net initial l fits next ≡ Ok list.Accepted → Allowed × IsCover net initial l
       there q =
-          let a = accepted_sound Cover net initial l fits next q in
+          let a = looked_sound Cover net initial l fits next list.Accepted q in
           let g = lent_of Cover net initial l fits next a.0 in
           let k = looked_accepted _ _ _ _ a.1 in (
             sound.0 a.0,
@@ -45,32 +44,30 @@ module _ (net : Net) (initial l : List ℕ) (fits : Bool) (next : Fault) {Allowe
             },
           )
 
-      back : given_fault Cover net initial l fits next ≡ Sound → IsCover net initial l → list_of Cover net initial l fits next ≡ list.Accepted
+      back : given_fault Cover net initial l fits next ≡ Ok tt → IsCover net initial l → list_of Cover net initial l fits next ≡ Ok list.Accepted
       back q c =
           let g = lent_of Cover net initial l fits next q in
-          rw q
+          sound_looked Cover net initial l fits next list.Accepted q
           (accepted_looked _ _ _ _ (of_covered net.places l initial g.start c.starts)
           (λ k t hk ht. of_holds net l g.ready k hk t (c.holds k t hk) ht))
 
-  pub initial_missing_is : (list_of Cover net initial l fits next ≡ list.Failed InitialMissing) ↔ (Allowed × (ListCovers net.places l (marking initial) → ⊥))
-  unfolding list_of
+  pub initial_missing_is : (list_of Cover net initial l fits next ≡ Ok (list.Failed InitialMissing)) ↔ (Allowed × (ListCovers net.places l (marking initial) → ⊥))
   initial_missing_is = (there, λ h. back (sound.1 h.0) h.1)
     where
-      there : list_of Cover net initial l fits next ≡ list.Failed InitialMissing → Allowed × (ListCovers net.places l (marking initial) → ⊥)
+      there : list_of Cover net initial l fits next ≡ Ok (list.Failed InitialMissing) → Allowed × (ListCovers net.places l (marking initial) → ⊥)
       there q =
-          let a = failed_sound Cover net initial l fits next InitialMissing q in
+          let a = looked_sound Cover net initial l fits next (list.Failed InitialMissing) q in
           (sound.0 a.0, uncovered_of net.places l initial (lent_of Cover net initial l fits next a.0).start (looked_initial _ _ _ _ a.1))
 
-      back : given_fault Cover net initial l fits next ≡ Sound → (ListCovers net.places l (marking initial) → ⊥) → list_of Cover net initial l fits next ≡ list.Failed InitialMissing
-      back q h = rw q (initial_looked _ _ _ _ (of_uncovered net.places l initial (lent_of Cover net initial l fits next q).start h))
+      back : given_fault Cover net initial l fits next ≡ Ok tt → (ListCovers net.places l (marking initial) → ⊥) → list_of Cover net initial l fits next ≡ Ok (list.Failed InitialMissing)
+      back q h = sound_looked Cover net initial l fits next (list.Failed InitialMissing) q (initial_looked _ _ _ _ (of_uncovered net.places l initial (lent_of Cover net initial l fits next q).start h))
 
-  pub result_missing_is : (k t : ℕ) → (list_of Cover net initial l fits next ≡ list.Failed (ResultMissing k t)) ↔ (Allowed × (ListCovers net.places l (marking initial) × FirstMissing net l k t))
-  unfolding list_of
+  pub result_missing_is : (k t : ℕ) → (list_of Cover net initial l fits next ≡ Ok (list.Failed (ResultMissing k t))) ↔ (Allowed × (ListCovers net.places l (marking initial) × FirstMissing net l k t))
   result_missing_is k t = (there, λ h. back (sound.1 h.0) h.1.0 h.1.1)
     where
-      there : list_of Cover net initial l fits next ≡ list.Failed (ResultMissing k t) → Allowed × (ListCovers net.places l (marking initial) × FirstMissing net l k t)
+      there : list_of Cover net initial l fits next ≡ Ok (list.Failed (ResultMissing k t)) → Allowed × (ListCovers net.places l (marking initial) × FirstMissing net l k t)
       there q =
-          let a = failed_sound Cover net initial l fits next (ResultMissing k t) q in
+          let a = looked_sound Cover net initial l fits next (list.Failed (ResultMissing k t)) q in
           let g = lent_of Cover net initial l fits next a.0 in
           let b = looked_result _ _ _ _ k t a.1 in
           let f = b.1 in
@@ -88,10 +85,10 @@ module _ (net : Net) (initial l : List ℕ) (fits : Bool) (next : Fault) {Allowe
             ),
           )
 
-      back : given_fault Cover net initial l fits next ≡ Sound → ListCovers net.places l (marking initial) → FirstMissing net l k t → list_of Cover net initial l fits next ≡ list.Failed (ResultMissing k t)
+      back : given_fault Cover net initial l fits next ≡ Ok tt → ListCovers net.places l (marking initial) → FirstMissing net l k t → list_of Cover net initial l fits next ≡ Ok (list.Failed (ResultMissing k t))
       back q s f =
           let g = lent_of Cover net initial l fits next q in
-          rw q
+          sound_looked Cover net initial l fits next (list.Failed (ResultMissing k t)) q
           (result_looked _ _ _ _ k t (of_covered net.places l initial g.start s)
           (record {
             inside = f.inside;
@@ -145,8 +142,8 @@ cover_covers {net} {initial} {l} {m} c r = reachable_has net (λ (x : List ℕ).
 
 -- each promise fixes its answer
 module _ (net : Net) (initial l : List ℕ) where
-  pub unique_list : (r r' : ListAnswer) → numbers r ≡ numbers (list_of Cover net initial l true Sound) → numbers r' ≡ numbers (list_of Cover net initial l true Sound) → r ≡ r'
+  pub unique_list : (r r' : Answer ListAnswer) → numbers r ≡ numbers (list_of Cover net initial l true (Ok tt)) → numbers r' ≡ numbers (list_of Cover net initial l true (Ok tt)) → r ≡ r'
   unique_list r r' p q = numbers_apart r r' (p ∙ sym q)
 
-  pub unique_target : (m : List ℕ) (r r' : ClaimAnswer) → claim_numbers r ≡ claim_numbers (target_of Cover net initial l m) → claim_numbers r' ≡ claim_numbers (target_of Cover net initial l m) → r ≡ r'
+  pub unique_target : (m : List ℕ) (r r' : Answer ClaimAnswer) → claim_numbers r ≡ claim_numbers (target_of Cover net initial l m) → claim_numbers r' ≡ claim_numbers (target_of Cover net initial l m) → r ≡ r'
   unique_target m r r' p q = claim_numbers_apart r r' (p ∙ sym q)

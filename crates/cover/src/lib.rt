@@ -2,70 +2,32 @@
 // every result of its own markings covers every reachable one, so what it does not cover never is.
 #![tactic(auto)]
 
-ghost use Rattle.std.specs.Prelude.{◌≡◌, true};
-ghost use Rattle.net.specs.Net.{net_of};
-ghost use Rattle.refusals.specs.declared.Fault.TheVariants.{Sound};
+ghost use Rattle.std.specs.Prelude.{◌≡◌, true, Ok};
 ghost use Rattle.lists.specs.Answers.{numbers, claim_numbers};
 ghost use Rattle.lists.specs.declared.Kind.TheVariants.{Cover};
 ghost use Rattle.list_check.specs.Given.{list_of, target_of};
+ghost use Rattle.net.specs.Lent.{lent};
 
-use ground::Weight;
 use lists::{ClaimAnswer, Kind, ListAnswer};
-use refusals::Fault;
+use net::Net;
+use refusals::Refusal;
 
 // Whether a list is a cover list: one of its markings covers the initial marking, and each enabled
 // result is covered by a listed marking.
-pub fn cover_list(
-    places: usize,
-    transitions: usize,
-    pre: &[Weight],
-    post: &[Weight],
-    caps: &[u16],
-    marks: &[u8],
-    initial: &[u16],
-    list: &[u16],
-) -> ListAnswer
-    ensures { numbers result ≡ numbers (list_of Cover (net_of places transitions pre.now post.now caps.now marks.now) initial.now list.now true Sound) }
+pub fn cover_list(net: &Net, initial: &[u16], list: &[u16]) -> Result<ListAnswer, Refusal>
+    ensures { numbers result ≡ numbers (list_of Cover (lent net.now) initial.now list.now true (Ok tt)) }
 {
-    list_check::check_list(
-        Kind::Cover,
-        places,
-        transitions,
-        pre,
-        post,
-        caps,
-        marks,
-        initial,
-        list,
-        true,
-        Fault::Sound,
-    )
+    list_check::check_list(Kind::Cover, net, initial, list, true, Ok(()))
 }
 
 // Whether a cover list shows that a target is never covered by a reachable marking.
 pub fn cover_target(
-    places: usize,
-    transitions: usize,
-    pre: &[Weight],
-    post: &[Weight],
-    caps: &[u16],
-    marks: &[u8],
+    net: &Net,
     initial: &[u16],
     list: &[u16],
     target: &[u16],
-) -> ClaimAnswer
-    ensures { claim_numbers result ≡ claim_numbers (target_of Cover (net_of places transitions pre.now post.now caps.now marks.now) initial.now list.now target.now) }
+) -> Result<ClaimAnswer, Refusal>
+    ensures { claim_numbers result ≡ claim_numbers (target_of Cover (lent net.now) initial.now list.now target.now) }
 {
-    list_check::check_target(
-        Kind::Cover,
-        places,
-        transitions,
-        pre,
-        post,
-        caps,
-        marks,
-        initial,
-        list,
-        target,
-    )
+    list_check::check_target(Kind::Cover, net, initial, list, target)
 }

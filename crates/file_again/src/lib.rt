@@ -2,65 +2,30 @@
 // what was read; or the refusal, as the line of the verdict has it.
 #![tactic(auto)]
 
-ghost use Rattle.file_line.specs.Read.{rooms};
-ghost use Rattle.file_line.specs.Walk.{Good, Large};
+ghost use Rattle.std.specs.Prelude.{Ok};
+ghost use Rattle.file_line.specs.Walk.{Good};
 ghost use Rattle.file_parts.specs.File.{case_of};
 ghost use Rattle.file_parts.specs.Held.{abs, Sound};
 ghost use Rattle.file_again.specs.Again.{WrittenAgain};
 
-use file_line::Reading;
-use file_parts::{Case, Held};
-use file_write::WriteCase;
-use ground::Weight;
+use file_line::{Reading, Rooms};
+use file_parts::Held;
+use refusals::Refusal;
 
 // A whole case: what the rooms hold at their fronts is written.
-fn write_whole(
-    s: Reading,
-    caps: &[u16],
-    marks: &[u8],
-    initial: &[u16],
-    pre: &[Weight],
-    post: &[Weight],
-    word: &[u8],
-    out: &mut [u8],
-) -> WriteCase
-    requires { (Good s) × (Large (rooms caps.now marks.now initial.now pre.now post.now word.now)) }
-    ensures { WrittenAgain (Case.Whole s) (rooms caps.now marks.now initial.now pre.now post.now word.now) out.old result out.new }
+fn write_whole(s: Reading, rooms: &Rooms, out: &mut [u8]) -> Result<usize, Refusal>
+    requires { Good s }
+    ensures { WrittenAgain (Ok s) rooms.now out.old result out.new }
 {
-    let p = s.places;
-    let t = s.transitions;
-    let n = s.letters;
-    let cells = t * p;
-    file_write::write_case(
-        p,
-        t,
-        &pre[..cells],
-        &post[..cells],
-        &caps[..p],
-        &marks[..p],
-        &initial[..p],
-        &word[..n],
-        out,
-    )
+    let net = rooms.net(s);
+    file_write::write_case(&net, rooms.marking(s), rooms.letters(s), out)
 }
 
 // A file at its end, written back at the front of the room out; a refused file leaves the room as found.
-pub fn rewrite_held(
-    h: Held,
-    caps: &[u16],
-    marks: &[u8],
-    initial: &[u16],
-    pre: &[Weight],
-    post: &[Weight],
-    word: &[u8],
-    out: &mut [u8],
-) -> WriteCase
-    requires { (Sound h) × (Large (rooms caps.now marks.now initial.now pre.now post.now word.now)) }
-    ensures { WrittenAgain (case_of (abs h)) (rooms caps.now marks.now initial.now pre.now post.now word.now) out.old result out.new }
+pub fn rewrite_held(h: Held, rooms: &Rooms, out: &mut [u8]) -> Result<usize, Refusal>
+    requires { Sound h }
+    ensures { WrittenAgain (case_of (abs h)) rooms.now out.old result out.new }
 {
-    let case = file_parts::finish_held(h);
-    match case {
-        Case::Whole(s) => write_whole(s, caps, marks, initial, pre, post, word, out),
-        Case::Refused(number, line) => WriteCase::Refused(number, line),
-    }
+    let s = file_parts::finish_held(h)?;
+    write_whole(s, rooms, out)
 }

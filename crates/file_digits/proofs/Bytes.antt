@@ -8,8 +8,10 @@ use native.Mathlib.Numerals.{add-one}
 use native.Mathlib.Nat.{not-suc-le-zero, zero-add, suc-add}
 use native.Mathlib.Decide.{dec_lt}
 use lib.Dec.{leb}
-use lib.ListN.{length, take, drop, get_or, get_or-eq_default}
+use lib.ListN.{length, set, take, drop, get_or, get_or-eq_default}
+use lib.Seq.{sets}
 use borrow.Author.Tests.{leb-true, leb-false}
+use Rattle.ground.proofs.Stores.{sets_both}
 use Rattle.file_digits.specs.Frame.{value_of, byte_at, word_at, bytes_from, words_from}
 use Rattle.file_digits.proofs.Frames.{low, num, mid, letter, high}
 
@@ -71,6 +73,27 @@ pub words_long : (d : List ℕ) (i n : ℕ) → length (words_from d i n) ≡ n
 unfolding words_from
 words_long d i zero = refl
 words_long d i (suc n) = ap suc (words_long d (i + 2) n)
+
+pub words_more : (d : List ℕ) (i n : ℕ) → words_from d i (suc n) ≡ words_from d i n ++ (word_at d (i + 2 * n) ∷ [])
+unfolding words_from
+words_more d i zero = let e : i + 2 * 0 ≡ i = omega arith in rw e
+words_more d i (suc n) =
+    let e : i + 2 * suc n ≡ i + 2 + 2 * n = omega arith in
+    rw e (ap (λ (l : List ℕ). word_at d i ∷ l) (words_more d (i + 2) n))
+
+-- a list stored so far, and one entry more
+pub stored_next : (room xs ys l : List ℕ) (at k x : ℕ) → l ≡ sets room at xs → length xs ≡ k → ys ≡ xs ++ (x ∷ []) → set l (at + k) x ≡ sets room at ys
+stored_next room xs ys l at k x e h f = rw (e, f, ← h) (sets_both xs (x ∷ []) room at)
+
+-- a turn of a store of bytes, and of numbers
+pub bytes_next : (room d l : List ℕ) (at i k x : ℕ) → l ≡ sets room at (bytes_from d i k) → x ≡ byte_at d (i + k) → set l (at + k) x ≡ sets room at (bytes_from d i (k + 1))
+unfolding bytes_from
+bytes_next room d l at i k x e h = stored_next room (bytes_from d i k) (bytes_from d i (k + 1)) l at k x e (bytes_long d i k) (rw h (bytes_split d i k 1))
+
+pub words_next : (room d l : List ℕ) (i k x : ℕ) → l ≡ sets room 0 (words_from d i k) → x ≡ word_at d (i + 2 * k) → set l k x ≡ sets room 0 (words_from d i (k + 1))
+words_next room d l i k x e h =
+    let s = stored_next room (words_from d i k) (words_from d i (k + 1)) l 0 k x e (words_long d i k) (rw (add-one k, h) (words_more d i k)) in
+    rw (zero-add k) at s
 
 -- entry k of them
 pub bytes_at : (d : List ℕ) (i n k : ℕ) → k < n → get_or (bytes_from d i n) k 0 ≡ byte_at d (i + k)

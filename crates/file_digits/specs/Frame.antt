@@ -1,5 +1,6 @@
 -- To be believed: a line's digits and the bytes and numbers that they spell ("Case file lines").
 use Rattle.std.specs.Prelude.{ℕ, zero, suc, ◌+◌, ◌-◌, ◌*◌, Bool, true, false, cond, List, [], ◌∷◌, get_or, leb}
+use Rattle.std.specs.List.{list_all}
 
 -- document 02, E6: "Lines may have 516 digits" (01 had 260)
 abbrev pub line_limit : ℕ
@@ -21,8 +22,7 @@ unfoldable pub is_digit : ℕ → Bool
 is_digit b = cond (leb 48 b) (cond (leb b 57) true (cond (leb 65 b) (leb b 70) false)) false
 
 unfoldable pub all_digits : List ℕ → Bool
-all_digits [] = true
-all_digits (x ∷ xs) = cond (is_digit x) (all_digits xs) false
+all_digits d = list_all is_digit d
 
 -- byte i of the frame that the digits d spell
 unfoldable pub byte_at : List ℕ → ℕ → ℕ

@@ -13,6 +13,7 @@ pub const LINE_LIMIT: usize = 516;
 pub const BLOCK: usize = 64;
 
 // The value of a digit, and 0 for any other byte.
+#[tactic(auto, unfolding(crate::specs::Frame::value_of))]
 pub fn value(b: u8) -> u8
     ensures value { result ≡ value_of b }
     ensures most { result ≤ 15 }
@@ -25,31 +26,23 @@ pub fn value(b: u8) -> u8
 }
 
 // Whether a byte is one of 0-9 and A-F.
+#[tactic(auto, unfolding(crate::specs::Frame::is_digit))]
 pub fn is_digit(b: u8) -> bool
     ensures { result ≡ is_digit b }
 {
-    match b {
-        b'0'..=b'9' => true,
-        b'A'..=b'F' => true,
-        _ => false,
-    }
+    matches!(b, b'0'..=b'9' | b'A'..=b'F')
 }
 
 // Whether every byte is a digit.
+#[tactic(auto, unfolding(crate::specs::Frame::all_digits))]
 pub fn all_digits(d: &[u8]) -> bool
     ensures { result ≡ all_digits d.now }
 {
-    let mut i: usize = 0;
-    while i < d.len() {
-        if !is_digit(d[i]) {
-            return false;
-        }
-        i = i + 1;
-    }
-    true
+    d.iter().all(|b| is_digit(*b))
 }
 
 // Byte i of the frame that the digits d spell.
+#[tactic(auto, unfolding(crate::specs::Frame::byte_at))]
 pub fn byte_at(d: &[u8], i: usize) -> u8
     requires { 2 * i + 1 < length d.now }
     ensures { result ≡ byte_at d.now i }
@@ -59,50 +52,32 @@ pub fn byte_at(d: &[u8], i: usize) -> u8
     high * 16 + low
 }
 
-// The number of two bytes; a leaf of its own, so that a must-fail edit can exchange the two and
-// change nothing else.
-fn word_of(high: u8, low: u8) -> u16
-    ensures { result ≡ high * 256 + low }
-{
-    high as u16 * 256 + low as u16
-}
-
 // The number of two bytes from byte i on, the high byte first.
 pub fn word_at(d: &[u8], i: usize) -> u16
     requires { 2 * i + 3 < length d.now }
     ensures { result ≡ word_at d.now i }
 {
-    word_of(byte_at(d, i), byte_at(d, i + 1))
+    u16::from_be_bytes([byte_at(d, i), byte_at(d, i + 1)])
 }
 
 // Bytes of the frame, count of them from number from on, into the room at number at.
+#[tactic(auto, using(crate::proofs::Bytes::bytes_next), unfolding(crate::specs::Frame::bytes_from))]
 pub fn store_bytes(d: &[u8], from: usize, room: &mut [u8], at: usize, count: usize)
     requires { (2 * (from + count) ≤ length d.now) × (at + count ≤ length room.old) }
     ensures { room.new ≡ sets room.old at (bytes_from d.now from count) }
 {
-    let mut j = from;
-    let mut i = at;
-    let mut left = count;
-    while 0 < left {
-        room[i] = byte_at(d, j);
-        i = i + 1;
-        j = j + 1;
-        left = left - 1;
+    for k in 0..count {
+        room[at + k] = byte_at(d, from + k);
     }
 }
 
 // Numbers of two bytes, count of them from byte from on, to the front of the room.
+#[tactic(auto, using(crate::proofs::Bytes::words_next), unfolding(crate::specs::Frame::words_from))]
 pub fn store_words(d: &[u8], from: usize, room: &mut [u16], count: usize)
     requires { (2 * (from + 2 * count) ≤ length d.now) × (count ≤ length room.old) }
     ensures { room.new ≡ sets room.old 0 (words_from d.now from count) }
 {
-    let mut j = from;
-    let mut i: usize = 0;
-    let mut words = count;
-    while 0 < words {
-        room[i] = word_at(d, j);
-        i = i + 1;
-        j = j + 2;
-        words = words - 1;
+    for k in 0..count {
+        room[k] = word_at(d, from + 2 * k);
     }
 }

@@ -11,7 +11,8 @@ use Rattle.refusals.specs.Given.{loose_fault}
 use Rattle.file_digits.specs.Frame.{value_of, is_digit, all_digits, byte_at, bytes_from, words_from}
 use Rattle.file_mask.specs.Mask.{bits_of, mask_fits, above_bits, number_from}
 use Rattle.file_row.specs.Row.{weights_from}
-use Rattle.file_line.specs.Read.{Rooms, rule_of, formed_kind, formed_of, hangs_loose, judge_of, advanced_kind, stored_kind, line_of, rooms_of}
+use Rattle.file_line.specs.declared.Rooms.{Rooms}
+use Rattle.file_line.specs.Read.{rule_of, formed_kind, formed_of, hangs_loose, judge_of, advanced_kind, stored_kind, line_of, rooms_of}
 use Rattle.file_parts.specs.File.{fed_to, feed_all, finish_of, case_of}
 use Rattle.file_entry.specs.Entry.{read_all, filled_of, numbers}
 use Rattle.file_entry.specs.Cut.{case1, case2, case3, case4, case5, case6, case7}

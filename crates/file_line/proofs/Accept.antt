@@ -1,5 +1,6 @@
 -- What the walk needs of a line that is taken, from document 01's demands, and that a good state stays good. Assumes nothing.
-use mathlib.Core.Path.{◌≡◌, refl, sym, subst}
+use Rattle.std.specs.Prelude.{Ok}
+use mathlib.Core.Path.{◌≡◌, refl}
 use mathlib.Core.Bool.{Bool, true, false, cond}
 use mathlib.Core.Logic.{◌⊎◌, inl, inr}
 use mathlib.Core.List.{List}
@@ -8,14 +9,13 @@ use native.Mathlib.Omega.{arith}
 use native.Mathlib.Nat.{not-suc-le-zero, suc-mul, mul-le-mul}
 use lib.Dec.{eqb}
 use lib.ListN.{length}
-use lib.Seq.{sets}
-use borrow.Author.Tests.{ne_eqb, eqb-false}
+use borrow.Author.Tests.{eqb-false}
 use Rattle.ground.specs.Limits.{count_limit}
-use Rattle.refusals.specs.declared.Fault.TheVariants.{Sound}
 use Rattle.file_digits.specs.Frame.{byte_at}
-use Rattle.file_row.specs.Row.{narrow_row, wide_row, weight_bytes, takes_in, puts_in}
+use Rattle.file_row.specs.Row.{narrow_row, wide_row, weight_bytes}
 use Rattle.file_line.specs.declared.Reading.{Reading}
-use Rattle.file_line.specs.Read.{cell_limit, Rooms, rooms, kind_of, phase_after, letters_in, judge_of, advanced, advanced_kind, stored, stored_kind}
+use Rattle.file_line.specs.declared.Rooms.{Rooms}
+use Rattle.file_line.specs.Read.{cell_limit, kind_of, judge_of, advanced, advanced_kind}
 use Rattle.file_line.specs.Line.{Ruled, Formed, CountsInRange, WordNotOver}
 use Rattle.file_line.specs.Walk.{Good, asked_of, Accepted}
 use Rattle.file_line.proofs.Weights.{row_kinds, kinds_row}
@@ -46,11 +46,11 @@ module _ (s : Reading) (d : List ℕ) where
         kind_least = k.0;
       }
 
-  pub accepted : (x : Rooms) → judge_of s d x ≡ Sound → Accepted s d
+  pub accepted : (x : Rooms) → judge_of s d x ≡ Ok tt → Accepted s d
   accepted x e = let t = taken_of s d x e in accepted_by t.ruled t.formed t.counts t.word
 
   -- a line has it before it is stored
-  pub asked_accepted : (x : Rooms) → asked_of s d x ≡ Sound → Accepted s d
+  pub asked_accepted : (x : Rooms) → asked_of s d x ≡ Ok tt → Accepted s d
   asked_accepted x e = let t = asked_of_line s d x e in accepted_by t.0 t.1 t.2 t.3
 
   -- a transition's weights are in the line, and have room
@@ -195,46 +195,3 @@ module _ (s : Reading) (d : List ℕ) where
         early 3 (omega arith) q.0 q.1 (omega arith) (omega arith) (omega (arith, q.2)) (λ z. omega arith)
     go (suc (suc (suc (suc (suc (suc (suc zero))))))) e l m = row _ refl (a.row (kinds_row (kind_of d) (inr e))).0
     go (suc (suc (suc (suc (suc (suc (suc (suc k)))))))) e l m = absurd (omega arith)
-
-  pub both : (r : Reading) → Good s → Accepted s d → r ≡ advanced s d → (r ≡ advanced s d) × Good r
-  both r g a e = (e, subst Good (sym e) (good_advanced g a))
-
-  -- the state after a line, as the code makes it: k is its kind, f the kind that must come next
-  module _ (k f : ℕ) (e : k ≡ kind_of d) (p : f ≡ phase_after k s) where
-    pub advanced_01 : (P u T v : ℕ) → k ≡ 1 → u ≡ byte_at d 1 → P ≡ u → v ≡ byte_at d 2 → T ≡ v
-        → record { phase = f; places = P; transitions = T; next = 0; letters = 0; line = s.line + 1 } ≡ advanced s d
-    unfolding advanced_kind
-    advanced_01 P u T v q a b g h = rw (← e, p, q, b, a, h, g)
-
-    pub advanced_row : (k ≡ narrow_row) ⊎ (k ≡ wide_row)
-        → record { phase = f; places = s.places; transitions = s.transitions; next = s.next + 1; letters = 0; line = s.line + 1 } ≡ advanced s d
-    unfolding advanced_kind
-    advanced_row (inl q) = rw (← e, p, q)
-    advanced_row (inr q) = rw (← e, p, q)
-
-    pub advanced_05 : k ≡ 5
-        → record { phase = f; places = s.places; transitions = s.transitions; next = s.next; letters = s.letters + letters_in d; line = s.line + 1 } ≡ advanced s d
-    unfolding advanced_kind
-    advanced_05 q = rw (← e, p, q)
-
-    pub advanced_rest : (k ≡ 1 → ⊥) → ((k ≡ narrow_row) ⊎ (k ≡ wide_row) → ⊥) → (k ≡ 5 → ⊥)
-        → record { phase = f; places = s.places; transitions = s.transitions; next = 0; letters = 0; line = s.line + 1 } ≡ advanced s d
-    unfolding advanced_kind
-    advanced_rest a b g = rw (← e, p, ne_eqb k 1 a, ne_eqb k narrow_row (λ q. b (inl q)), ne_eqb k wide_row (λ q. b (inr q)), ne_eqb k 5 g)
-
--- the kind that comes next behind a transition's weights, as the code makes it
-pub phase_row : (k : ℕ) (s : Reading) (f : ℕ) → (k ≡ narrow_row) ⊎ (k ≡ wide_row) → f ≡ cond (eqb (s.next + 1) s.transitions) 5 4 → f ≡ phase_after k s
-phase_row k s f (inl q) e = rw q e
-phase_row k s f (inr q) e = rw q e
-
--- the rooms after a line of kind k, as the code makes them
-module _ (s : Reading) (d : List ℕ) (x : Rooms) (k : ℕ) where
-  pub stored_row : (a b : List ℕ) → k ≡ kind_of d → (k ≡ narrow_row) ⊎ (k ≡ wide_row) → a ≡ sets x.pre (s.next * s.places) (takes_in k d s.places) → b ≡ sets x.post (s.next * s.places) (puts_in k d s.places)
-      → rooms x.caps x.marks x.initial a b x.word ≡ stored s d x
-  unfolding stored_kind
-  stored_row a b e (inl q) f g = rw (f, g, ← e, q)
-  stored_row a b e (inr q) f g = rw (f, g, ← e, q)
-
-  pub stored_rest : (k ≡ 2 → ⊥) → (k ≡ 3 → ⊥) → ((k ≡ narrow_row) ⊎ (k ≡ wide_row) → ⊥) → (k ≡ 5 → ⊥) → (k ≡ 6 → ⊥) → stored_kind k s d x ≡ x
-  unfolding stored_kind
-  stored_rest a b g h i = simp (ne_eqb k 2 a, ne_eqb k 3 b, ne_eqb k narrow_row (λ q. g (inl q)), ne_eqb k wide_row (λ q. g (inr q)), ne_eqb k 5 h, ne_eqb k 6 i)

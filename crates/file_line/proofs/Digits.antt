@@ -1,14 +1,14 @@
 -- The digit rule, as the code tests it, is document 01's. Assumes nothing.
 use mathlib.Core.Path.{◌≡◌, refl, sym, ◌∙◌}
-use mathlib.Core.Bool.{Bool, true, false, cond, false≢true}
+use mathlib.Core.Bool.{Bool, true, false, ◌&&◌, false≢true}
 use mathlib.Core.Logic.{inl, inr, ◌↔◌}
 use mathlib.Core.List.{List, [], ◌∷◌}
 use Prim.Native.Nat.{ℕ, zero, suc, ◌<◌, ◌%◌}
 use native.Mathlib.Omega.{arith}
 use native.Mathlib.Nat.{not-suc-le-zero}
-use lib.Dec.{leb, ltb, eqb}
+use lib.Dec.{leb}
 use lib.ListN.{length, get_or}
-use borrow.Author.Tests.{ne_eqb, le-ltb, leb-true, leb-false}
+use borrow.Author.Tests.{eq-eqb, le-leb, leb-true, leb-false}
 use Rattle.file_digits.specs.Frame.{line_limit, is_digit, all_digits}
 use Rattle.file_digits.proofs.Frames.{low, num, mid, letter, high}
 use Rattle.file_line.specs.Read.{rule_of}
@@ -38,7 +38,7 @@ unfolding all_digits
 digits_are [] k t h = absurd (not-suc-le-zero h)
 digits_are (b ∷ d) k t h = go (is_digit b) refl t k h (λ k u l. digits_are d k u l)
   where
-    go : (a : Bool) → is_digit b ≡ a → cond a (all_digits d) false ≡ true → (k : ℕ) → k < suc (length d) → ((k : ℕ) → all_digits d ≡ true → k < length d → Digit (get_or d k 0)) → Digit (get_or (b ∷ d) k 0)
+    go : (a : Bool) → is_digit b ≡ a → (a && all_digits d) ≡ true → (k : ℕ) → k < suc (length d) → ((k : ℕ) → all_digits d ≡ true → k < length d → Digit (get_or d k 0)) → Digit (get_or (b ∷ d) k 0)
     go false p u k l r = absurd (false≢true u)
     go true p u zero l r = digit_is b p
     go true p u (suc k) l r = r k u (omega arith)
@@ -49,14 +49,7 @@ are_digits [] h = refl
 are_digits (b ∷ d) h = simp (is_digit_lem b (h 0 (omega arith))) (are_digits d (λ k l. h (suc k) (omega arith)))
 
 pub rule_all : (d : List ℕ) → rule_of d ≡ true → all_digits d ≡ true
-unfolding rule_of
-rule_all d h = go (ltb (length d) 2) (ltb line_limit (length d)) (eqb (length d % 2) 1) (all_digits d) h
-  where
-    go : (a b c t : Bool) → cond a false (cond b false (cond c false t)) ≡ true → t ≡ true
-    go true b c t e = absurd (false≢true e)
-    go false true c t e = absurd (false≢true e)
-    go false false true t e = absurd (false≢true e)
-    go false false false t e = e
+rule_all d h = (rule_says d h).3
 
 -- the digit rule, as the code tests it, is document 01's
 pub rule_exactly : (d : List ℕ) → (rule_of d ≡ true) ↔ Ruled d
@@ -64,9 +57,7 @@ unfolding rule_of
 rule_exactly d = (
   λ h.
       let z = rule_says d h in
-      let odd : length d % 2 ≡ 1 → ⊥ = z.2 in
-      record { least = z.0; most = z.1; even = omega arith; digits = λ k l. digits_are d k (rule_all d h) l },
+      record { least = z.0; most = z.1; even = z.2; digits = λ k l. digits_are d k z.3 l },
   λ r.
-      simp (le-ltb (length d) 2 r.least, le-ltb line_limit (length d) r.most, ne_eqb (length d % 2) 1 (λ q. omega (arith, r.even)))
-      (are_digits d r.digits),
+      simp (le-leb 2 (length d) r.least, le-leb (length d) line_limit r.most, eq-eqb (length d % 2) 0 r.even) (are_digits d r.digits),
 )

@@ -1,4 +1,6 @@
 -- The tests of a line are document 01's demands, in the order of the numbers. Assumes nothing.
+use Rattle.std.specs.Prelude.{Ok, Err}
+use Rattle.refusals.specs.Given.{Fault}
 use mathlib.Core.Path.{◌≡◌, refl, sym, ap, ◌∙◌}
 use mathlib.Core.Bool.{Bool, true, false, not, ◌&&◌, ◌||◌}
 use mathlib.Core.Logic.{◌⊎◌, inl, inr}
@@ -15,8 +17,6 @@ use Rattle.net.specs.Net.{Net}
 use Rattle.wiring.specs.Wired.{Wired}
 use Rattle.weights.specs.Heavy.{row_over}
 use Rattle.refusals.specs.Given.{refuse, outside, loose_fault, marking_fault, bad_letter, Letters}
-use Rattle.refusals.specs.declared.Fault.{Fault}
-use Rattle.refusals.specs.declared.Fault.TheVariants.{Sound, Faulty}
 use Rattle.refusals.proofs.Chains.{refuse_sound, sound_refuse, or_sound, sound_or}
 use Rattle.refusals.proofs.Refusals.{inside_of, inside_is, loose_met, met_loose, fine_of, fine_is}
 use Rattle.refusals.proofs.Exactly.{Chain, tells_test, reads_test, reads_both, reads_all}
@@ -24,7 +24,8 @@ use Rattle.file_digits.specs.Frame.{block, byte_at}
 use Rattle.file_mask.specs.Mask.{mask_bytes, above_bits, mask_fits, mask_in}
 use Rattle.file_row.specs.Row.{narrow_row, wide_row, is_row, weight_bytes, takes_in, puts_in}
 use Rattle.file_line.specs.declared.Reading.{Reading}
-use Rattle.file_line.specs.Read.{Rooms, kind_of, stands_as, expected, tokens_in, word_part, line_here, rule_of, formed_kind, formed_of, counts_bad, weights_bad, tokens_bad, is_faulty, hangs_loose, loose_bad, word_over, letters_bad, stored, judge_of}
+use Rattle.file_line.specs.declared.Rooms.{Rooms}
+use Rattle.file_line.specs.Read.{kind_of, stands_as, expected, tokens_in, word_part, line_here, rule_of, formed_kind, formed_of, counts_bad, weights_bad, tokens_bad, is_faulty, hangs_loose, loose_bad, word_over, letters_bad, stored, judge_of}
 use Rattle.file_line.specs.Line.{Ruled, SomeBit, NoBitPast, SomeWide, Formed, frame01, frame02, frame06, frame03, frame04, frame07, frame05, CountsInRange, WeightsAllowed, TokensAllowed, NetWired, WordNotOver, LettersNamed, Taken, Judged}
 use Rattle.file_line.specs.Walk.{asked_of}
 use Rattle.file_line.proofs.Digits.{rule_exactly}
@@ -219,9 +220,9 @@ pub loose_none : (net : Net) → hangs_loose net ≡ false → Wired net
 unfolding hangs_loose
 loose_none net e = loose_met net (quiet (loose_fault net) e)
   where
-    quiet : (f : Fault) → is_faulty f ≡ false → f ≡ Sound
-    quiet Sound q = refl
-    quiet (Faulty n at) q = never q
+    quiet : (f : Fault) → is_faulty f ≡ false → f ≡ Ok tt
+    quiet (Ok _) q = refl
+    quiet (Err r) q = never q
 
 pub none_loose : (net : Net) → Wired net → hangs_loose net ≡ false
 unfolding hangs_loose
@@ -309,7 +310,7 @@ module _ (s : Reading) (d : List ℕ) (x : Rooms) where
       (reads_test (tells_test (letters_bad s d) 5 (line_here s) letters_of of_letters)))))))))
 
   -- nothing is refused exactly where all of it holds
-  pub taken_of : judge_of s d x ≡ Sound → Taken s d x
+  pub taken_of : judge_of s d x ≡ Ok tt → Taken s d x
   unfolding judge_of
   taken_of e =
       let a = or_sound (refuse (not (rule_of d)) 11 (line_here s)) _ e in
@@ -330,7 +331,7 @@ module _ (s : Reading) (d : List ℕ) (x : Rooms) where
         letters = letters_of (refuse_sound _ 5 (line_here s) g.1);
       }
 
-  pub of_taken : Taken s d x → judge_of s d x ≡ Sound
+  pub of_taken : Taken s d x → judge_of s d x ≡ Ok tt
   unfolding judge_of
   of_taken t =
       sound_or _ _ (sound_refuse _ 11 (line_here s) (of_ruled t.ruled))
@@ -342,7 +343,7 @@ module _ (s : Reading) (d : List ℕ) (x : Rooms) where
       (sound_or _ _ (sound_refuse _ 4 (line_here s) (of_word t.word)) (sound_refuse _ 5 (line_here s) (of_letters t.letters))))))))
 
   -- what the walk needs of a line is told before it is stored
-  pub asked_of_line : asked_of s d x ≡ Sound → Ruled d × Formed s d × CountsInRange d × WordNotOver s d
+  pub asked_of_line : asked_of s d x ≡ Ok tt → Ruled d × Formed s d × CountsInRange d × WordNotOver s d
   unfolding asked_of
   asked_of_line e =
       let a = or_sound (refuse (not (rule_of d)) 11 (line_here s)) _ e in

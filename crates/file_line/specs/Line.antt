@@ -8,7 +8,8 @@ use Rattle.file_digits.specs.Frame.{line_limit, block, byte_at}
 use Rattle.file_mask.specs.Mask.{mask_bytes, above_bits, mask_in}
 use Rattle.file_row.specs.Row.{byte_limit, narrow_row, wide_row, takes_in, puts_in}
 use Rattle.file_line.specs.declared.Reading.{Reading}
-use Rattle.file_line.specs.Read.{Rooms, kind_of, tokens_in, letters_in, word_part, stored, net_in, line_here}
+use Rattle.file_line.specs.declared.Rooms.{Rooms}
+use Rattle.file_line.specs.Read.{kind_of, tokens_in, letters_in, word_part, stored, net_in, line_here}
 
 -- "digits 0-9 and A-F"
 abbrev pub Digit : ℕ → Type 0

@@ -1,34 +1,29 @@
 -- To be believed: what a line of a case file comes to, at a state of the reading, over the rooms read so far ("Case file lines"; "Refusal numbers").
-use Rattle.std.specs.Prelude.{ℕ, ◌+◌, ◌-◌, ◌*◌, ◌/◌, ◌%◌, Bool, true, false, cond, not, ◌&&◌, ◌||◌, List, length, take, ltb, leb, eqb}
+use Rattle.std.specs.Prelude.{Ok, Err}
+use Rattle.refusals.specs.Given.{Answer, Fault}
+use Rattle.std.specs.Prelude.{ℕ, ◌+◌, ◌-◌, ◌*◌, ◌/◌, ◌%◌, Bool, true, false, cond, not, ◌&&◌, ◌||◌, List, length, take, replicate, ltb, leb, eqb}
 use Rattle.std.proofs.lemmas.List.Edits.{sets}
 use Rattle.ground.specs.Limits.{count_limit, weight_limit, word_limit}
 use Rattle.net.specs.Net.{Net, net_of}
 use Rattle.refusals.specs.Given.{refuse, or_else, outside, loose_fault, bad_token, bad_letter}
-use Rattle.refusals.specs.declared.Fault.{Fault}
-use Rattle.refusals.specs.declared.Fault.TheVariants.{Sound, Faulty}
 use Rattle.file_digits.specs.Frame.{line_limit, block, all_digits, byte_at, bytes_from, words_from}
 use Rattle.file_mask.specs.Mask.{mask_bytes, bits_of, mask_fits, mask_in}
 use Rattle.weights.specs.Heavy.{row_over}
 use Rattle.file_row.specs.Row.{narrow_row, wide_row, is_row, is_wide, takes_in, puts_in}
 use Rattle.file_line.specs.declared.Reading.{Reading}
-use Rattle.file_line.specs.declared.Took.{Took}
-use Rattle.file_line.specs.declared.Took.TheVariants.{Next, Refused}
+use Rattle.file_line.specs.declared.Rooms.{Rooms}
 
 -- the most entries of Pre, and of Post
 abbrev pub cell_limit : ℕ
 cell_limit = count_limit * count_limit
 
 -- the rooms that are filled: capacities, marks, tokens, Pre, Post and letters
-pub record Rooms : Type 0 where
-  pub caps : List ℕ
-  pub marks : List ℕ
-  pub initial : List ℕ
-  pub pre : List ℕ
-  pub post : List ℕ
-  pub word : List ℕ
-
 abbrev pub rooms : List ℕ → List ℕ → List ℕ → List ℕ → List ℕ → List ℕ → Rooms
 rooms a k b c d e = record { caps = a; marks = k; initial = b; pre = c; post = d; word = e }
+
+-- rooms of the largest sizes with nothing in them
+abbrev pub blank : Rooms
+blank = rooms (replicate count_limit 0) (replicate count_limit 0) (replicate count_limit 0) (replicate cell_limit 0) (replicate cell_limit 0) (replicate word_limit 0)
 
 -- the state before the first line
 abbrev pub fresh : Reading
@@ -84,7 +79,7 @@ net_in s y =
 
 -- 11 unless: "One frame a line: an even number .. of digits 0-9 and A-F", 2 to 516 (document 02, E6)
 unfoldable pub rule_of : List ℕ → Bool
-rule_of d = cond (ltb (length d) 2) false (cond (ltb line_limit (length d)) false (cond (eqb (length d % 2) 1) false (all_digits d)))
+rule_of d = leb 2 (length d) && (leb (length d) line_limit && (eqb (length d % 2) 0 && all_digits d))
 
 -- a frame of kind k has its length, and its index: "01 P T", "02 with P capacities of two bytes", "03 with P tokens of two bytes",
 -- "04 t, P Pre bytes, P Post bytes; one for each t in order from 0", "05 with 1 to 64 letters of a byte; .. all but the last hold 64, else the next 05 is faulty";
@@ -119,8 +114,8 @@ tokens_bad s d x = eqb (kind_of d) 3 && ltb (bad_token x.caps (tokens_in s d)) (
 
 -- 17: "a net in which some place or transition has no arc is refused", by the test that a net is asked; its position does not matter here
 abbrev pub is_faulty : Fault → Bool
-is_faulty Sound = false
-is_faulty (Faulty n at) = true
+is_faulty (Ok _) = false
+is_faulty (Err r) = true
 
 unfoldable pub hangs_loose : Net → Bool
 hangs_loose net = is_faulty (loose_fault net)
@@ -176,16 +171,12 @@ advanced s d = advanced_kind (kind_of d) s d
 
 -- what a line comes to, by its fault: the next state and the rooms after it, or the refusal with its line, which leaves the rooms as found;
 -- but 17 is found in the rooms when they hold the last row
-abbrev pub took_by : Fault → Reading → Took
-took_by Sound t = Next t
-took_by (Faulty n at) t = Refused n at
-
 abbrev pub kept_by : Fault → Rooms → Rooms → Rooms
-kept_by Sound y x = y
-kept_by (Faulty n at) y x = cond (eqb n 17) y x
+kept_by (Ok _) y x = y
+kept_by (Err r) y x = cond (eqb r.number 17) y x
 
-unfoldable pub line_of : Reading → List ℕ → Rooms → Took
-line_of s d x = took_by (judge_of s d x) (advanced s d)
+unfoldable pub line_of : Reading → List ℕ → Rooms → Answer Reading
+line_of s d x = or_else (judge_of s d x) (Ok (advanced s d))
 
 unfoldable pub rooms_of : Reading → List ℕ → Rooms → Rooms
 rooms_of s d x = kept_by (judge_of s d x) (stored s d x) x

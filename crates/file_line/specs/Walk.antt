@@ -1,15 +1,15 @@
 -- Only for the code's walk, no answer is made of it: what holds of every state and room on the way, and of a line before it is stored.
+use Rattle.std.specs.Prelude.{Ok, Err}
+use Rattle.refusals.specs.Given.{Answer, Fault}
 use Rattle.std.specs.Prelude.{ℕ, zero, suc, ◌+◌, ◌*◌, ◌≤◌, ◌<◌, ◌≡◌, Bool, true, false, cond, not, ◌⊎◌, List, length, leb}
 use Rattle.ground.specs.Limits.{count_limit, word_limit}
 use Rattle.refusals.specs.Given.{refuse, or_else}
-use Rattle.refusals.specs.declared.Fault.{Fault}
 use Rattle.file_digits.specs.Frame.{block, byte_at}
 use Rattle.file_mask.specs.Mask.{mask_bytes}
 use Rattle.file_row.specs.Row.{is_row, weight_bytes}
 use Rattle.file_line.specs.declared.Reading.{Reading}
-use Rattle.file_line.specs.declared.Took.{Took}
-use Rattle.file_line.specs.declared.Took.TheVariants.{Next, Refused}
-use Rattle.file_line.specs.Read.{cell_limit, Rooms, kind_of, letters_in, rule_of, formed_of, counts_bad, weights_bad, tokens_bad, word_over, letters_bad, line_here}
+use Rattle.file_line.specs.declared.Rooms.{Rooms}
+use Rattle.file_line.specs.Read.{cell_limit, kind_of, letters_in, rule_of, formed_of, counts_bad, weights_bad, tokens_bad, word_over, letters_bad, line_here}
 
 -- what holds of every state of a reading
 pub record Good (s : Reading) : Type 0 where
@@ -36,13 +36,6 @@ pub record Large (x : Rooms) : Type 0 where
   pub pre : cell_limit ≤ length x.pre
   pub post : cell_limit ≤ length x.post
   pub word : word_limit ≤ length x.word
-
--- those of them that hold a net are
-pub record Tables (c k a b : List ℕ) : Type 0 where
-  pub caps : count_limit ≤ length c
-  pub marks : count_limit ≤ length k
-  pub pre : cell_limit ≤ length a
-  pub post : cell_limit ≤ length b
 
 -- n letters from byte j on name transitions: the pass over a line's digits; `letters_pass` says that it is `bad_letter` of refusals
 unfoldable pub fit_letters : List ℕ → ℕ → ℕ → ℕ → Bool
@@ -73,6 +66,6 @@ pub record Accepted (s : Reading) (d : List ℕ) : Type 0 where
   pub kind_least : 1 ≤ kind_of d
 
 -- a state that goes on is good, and a refusal has a number
-abbrev pub GoodTook : Took → Type 0
-GoodTook (Next s) = Good s
-GoodTook (Refused n l) = 1 ≤ n
+abbrev pub GoodTook : Answer Reading → Type 0
+GoodTook (Ok s) = Good s
+GoodTook (Err r) = 1 ≤ r.number

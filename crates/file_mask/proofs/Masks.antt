@@ -242,7 +242,7 @@ pub digits_mask : (d : List ℕ) → bytes_from d 1 mask_bytes ≡ eight (mask_i
 digits_mask d = sym (eight_number (bytes_from d 1 mask_bytes) (bytes_long d 1 mask_bytes) (bytes_small d 1 mask_bytes))
 
 -- ---- "place 0 the lowest bit of the last byte": bit p of a mask is bit p % 8 of byte 7 - p / 8 of its eight
-above_both : (m a b : ℕ) → above_bits m (a + b) ≡ above_bits (above_bits m a) b
+pub above_both : (m a b : ℕ) → above_bits m (a + b) ≡ above_bits (above_bits m a) b
 unfolding above_bits
 above_both m zero b = ap (above_bits m) (zero-add b)
 above_both m (suc a) b = ap (above_bits m) (suc-add a b) ∙ above_both (m / 2) a b

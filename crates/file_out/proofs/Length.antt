@@ -126,10 +126,7 @@ letters_full w k h = omega (arith, letters_so_far w k)
 pub letters_all : (w : List ℕ) (k : ℕ) → length w ≤ k * block → length (joined (letters_line w) k) ≡ 2 * length w + line_length 1 * k
 letters_all w k h = omega (arith, letters_so_far w k)
 
--- how many 05 there are: a further one only while letters are left, and none is left over
-pub lines_left : (n k : ℕ) → k < letters_lines n → k * block < n
-lines_left n k h = omega arith
-
+-- how many 05 there are: no letter is left over
 pub lines_end : (n : ℕ) → n ≤ letters_lines n * block
 lines_end n = omega arith
 

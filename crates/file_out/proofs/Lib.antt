@@ -1,5 +1,4 @@
 pub mod Length
-pub mod Reckoned
 pub mod Joined
 pub mod Pockets
 pub mod Widths

@@ -8,8 +8,10 @@ use native.Mathlib.Omega.{arith}
 use lib.ListN.{length, get_or}
 use lib.Dec.{eqb}
 use borrow.Author.Tests.{eq-eqb, ne_eqb, eqb-true, eqb-false}
-use Rattle.file_put.specs.Append.{Appended}
-use Rattle.file_put.specs.Put.{PutLine}
+use Rattle.file_put.specs.declared.Sheet.{Sheet}
+use Rattle.file_put.specs.Sheet.{Written}
+use Rattle.file_put.specs.Put.{line_text}
+use Rattle.file_put.proofs.Sheets.{written_none}
 use Rattle.file_mask.specs.Mask.{mask_bytes, mask_of, eight}
 use Rattle.file_mask.proofs.Masks.{mask_none}
 use Rattle.file_text.specs.Text.{pockets_line, pockets_lines}
@@ -27,14 +29,14 @@ some_pockets marks h = rw (ne_eqb (mask_of marks) 0 h)
 
 -- `mask` is what was made of the marks
 module _ (marks : List ℕ) (mask : ℕ) (e : mask ≡ mask_of marks) where
-  pub pockets_none : (l : List ℕ) (at : ℕ) → mask ≡ 0 → Appended l at (pockets_lines marks) at l
-  pockets_none l at z = rw (no_pockets marks (sym e ∙ z)) (record { made = refl; next = omega arith })
+  pub pockets_none : (s : Sheet) → mask ≡ 0 → Written s (pockets_lines marks) s
+  pockets_none s z = rw (no_pockets marks (sym e ∙ z)) (written_none s)
 
   pub pockets_room : (at n : ℕ) → (mask ≡ 0 → ⊥) → at + mask_length (mask_of marks) ≤ n → at + line_length (1 + mask_bytes) ≤ n
   pockets_room at n z h = omega (arith, h, mask_some (mask_of marks) (λ q. z (e ∙ q)))
 
-  pub pockets_put : (l : List ℕ) (at r : ℕ) (m : List ℕ) → (mask ≡ 0 → ⊥) → PutLine l at (6 ∷ eight mask) r m → Appended l at (pockets_lines marks) r m
-  pockets_put l at r m z p = rw (some_pockets marks (λ q. z (e ∙ q)), ← e) p
+  pub pockets_written : {s t : Sheet} → (mask ≡ 0 → ⊥) → Written s (line_text (6 ∷ eight mask)) t → Written s (pockets_lines marks) t
+  pockets_written z p = rw (some_pockets marks (λ q. z (e ∙ q)), ← e) p
 
 -- "it is written only if some place is a pocket", and then it is
 pub pockets_exactly : (marks : List ℕ) → (pockets_lines marks ≡ []) ↔ ((p : ℕ) → get_or marks p 0 ≡ 0)

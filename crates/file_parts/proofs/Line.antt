@@ -1,6 +1,8 @@
 -- Lines of a part, and the same bytes fed one by one. Assumes nothing.
+use Rattle.std.specs.Prelude.{Ok, Err}
+use Rattle.refusals.specs.Given.{Answer, Fault, refusal, refused, refuse, or_else}
 use mathlib.Core.Path.{◌≡◌, refl, sym, ◌∙◌, ap}
-use mathlib.Core.Bool.{Bool, true, false, cond}
+use mathlib.Core.Bool.{Bool, true, false, cond, not}
 use mathlib.Core.List.{List, [], ◌∷◌, ◌++◌, append_assoc, append-nil}
 use Prim.Native.Nat.{ℕ, zero, suc, ◌+◌, ◌-◌, ◌≤◌, ◌<◌}
 use native.Mathlib.Omega.{arith}
@@ -12,17 +14,13 @@ use lib.Seq.{drop-cons, drop-drop, take_all}
 use borrow.Author.Tests.{leb-true, leb-false, eq-eqb, ne_eqb, lt-ltb, le-ltb, eqb-true, eqb-false, ltb-true, ltb-false}
 use Rattle.file_digits.specs.Frame.{line_limit, line_feed}
 use Rattle.file_line.specs.declared.Reading.{Reading}
-use Rattle.file_line.specs.declared.Took.{Took}
-use Rattle.file_line.specs.Read.{Rooms, line_here, line_of, rooms_of, judge_of, advanced, stored}
+use Rattle.file_line.specs.declared.Rooms.{Rooms}
+use Rattle.file_line.specs.Read.{line_here, line_of, rooms_of, judge_of, advanced, stored}
 use Rattle.file_line.specs.Walk.{Large}
-use Rattle.refusals.specs.declared.Fault.{Fault}
-use Rattle.refusals.specs.declared.Fault.TheVariants.{Sound, Faulty}
-use Rattle.refusals.proofs.Chains.{fault_one}
+use Rattle.refusals.proofs.Chains.{refused_one}
 use Rattle.file_line.proofs.Meaning as meaning
-use Rattle.file_parts.specs.declared.Case.TheVariants.{Whole, Refused}
 use Rattle.file_parts.specs.File.{finish_of, going, stopped, Both, both, ended, fed_to, feed_of, feed_all, together, feed_parts, line_len, NoFeed}
 use Rattle.file_parts.specs.Held.{hold_of}
-use Rattle.file_line.specs.declared.Took.TheVariants as took
 
 -- a turn of the search for the line feed
 pub len_more : (f : List ℕ) (e : ℕ) → e < length f → (get_or f e 0 ≡ line_feed → ⊥) → line_len (drop e f) ≡ suc (line_len (drop (e + 1) f))
@@ -96,7 +94,7 @@ stays n l x (b ∷ bs) = stays n l x bs
 
 -- a line fed to its end, by what it is judged
 module _ (s : Reading) (d : List ℕ) (x : Rooms) where
-  pub line_taken : judge_of s d x ≡ Sound → feed_of (both (going s d) x) line_feed ≡ both (going (advanced s d) []) (stored s d x)
+  pub line_taken : judge_of s d x ≡ Ok tt → feed_of (both (going s d) x) line_feed ≡ both (going (advanced s d) []) (stored s d x)
   line_taken j = let l = meaning.taken_line s d x j in feed_line s d x ∙ rw (l.0, l.1)
 
 -- a file in two parts
@@ -148,36 +146,34 @@ holds s x d l rest h t = go (leb (length l + length d) line_limit) refl where
   go false e = rw e (long s x d l rest h (leb-false _ _ e) t ∙ sym (stays 11 (s.line + 1) x rest))
 
 -- what a line's answer says
-line_next : (s t : Reading) (d : List ℕ) (x : Rooms) → took.Next t ≡ line_of s d x → length d ≤ line_limit
+line_next : (s t : Reading) (d : List ℕ) (x : Rooms) → Ok t ≡ line_of s d x → length d ≤ line_limit
 line_next s t d x e = go (judge_of s d x) refl
   where
     go : (f : Fault) → judge_of s d x ≡ f → length d ≤ line_limit
-    go Sound j = ((meaning.taken_exactly s d x).0 j).ruled.most
-    go (Faulty n at) j = let l = (meaning.refused_line s d x n at j).0 in let q : ◌≡◌ {A = ℕ} 0 1 = cc in absurd (omega arith)
+    go (Ok _) j = ((meaning.taken_exactly s d x).0 j).ruled.most
+    go (Err r) j = let l = (meaning.refused_line s d x r.number r.at j).0 in let q : ◌≡◌ {A = ℕ} 0 1 = cc in absurd (omega arith)
 
-line_refused : (s : Reading) (d : List ℕ) (x : Rooms) (n l : ℕ) → took.Refused n l ≡ line_of s d x → (judge_of s d x ≡ Faulty n l) × (rooms_of s d x ≡ cond (eqb n 17) (stored s d x) x)
+line_refused : (s : Reading) (d : List ℕ) (x : Rooms) (n l : ℕ) → refused n l ≡ line_of s d x → (judge_of s d x ≡ Err (refusal n l)) × (rooms_of s d x ≡ cond (eqb n 17) (stored s d x) x)
 line_refused s d x n l e = go (judge_of s d x) refl
   where
-    go : (f : Fault) → judge_of s d x ≡ f → (judge_of s d x ≡ Faulty n l) × (rooms_of s d x ≡ cond (eqb n 17) (stored s d x) x)
-    go Sound j = let l = (meaning.taken_line s d x j).0 in let q : ◌≡◌ {A = ℕ} 0 1 = cc in absurd (omega arith)
-    go (Faulty k at) j =
-        let i = meaning.refused_line s d x k at j in
-        let z = i.0 in
-        let p : k ≡ n = cc in
-        let q : at ≡ l = cc in
-        (j ∙ rw (p, q), rw p at i.1)
+    go : (f : Fault) → judge_of s d x ≡ f → (judge_of s d x ≡ Err (refusal n l)) × (rooms_of s d x ≡ cond (eqb n 17) (stored s d x) x)
+    go (Ok _) j = let l = (meaning.taken_line s d x j).0 in let q : ◌≡◌ {A = ℕ} 0 1 = cc in absurd (omega arith)
+    go (Err r) j =
+        let i = meaning.refused_line s d x r.number r.at j in
+        let z = refused_one {A = Reading} r.number r.at n l (sym i.0 ∙ sym e) in
+        (j ∙ rw (z.0, z.1), rw z.0 at i.1)
 
 -- a whole line, read at once, comes to what its bytes and its line feed come to
 module _ (s : Reading) (x : Rooms) (d rest : List ℕ) (t : NoFeed d) where
-  pub next_line : (u : Reading) → took.Next u ≡ line_of s d x
+  pub next_line : (u : Reading) → Ok u ≡ line_of s d x
       → feed_all (both (going s []) x) (d ++ line_feed ∷ rest) ≡ feed_all (both (going u []) (rooms_of s d x)) rest
   unfolding feed_all
   next_line u e =
       let h : length d ≤ line_limit = line_next s u d x e in
       held s x d [] (line_feed ∷ rest) (omega arith) t
-      ∙ ap (λ (q : Both). feed_all q rest) (feed_line s d x ∙ ap (λ (q : Took). both (ended q) (rooms_of s d x)) (sym e))
+      ∙ ap (λ (q : Both). feed_all q rest) (feed_line s d x ∙ ap (λ (q : Answer Reading). both (ended q) (rooms_of s d x)) (sym e))
 
-  pub refused_line : (n l : ℕ) → took.Refused n l ≡ line_of s d x
+  pub refused_line : (n l : ℕ) → refused n l ≡ line_of s d x
       → feed_all (both (going s []) x) (d ++ line_feed ∷ rest) ≡ both (stopped n l) (rooms_of s d x)
   unfolding feed_all
   refused_line n l e = go (leb (length d) line_limit) refl where
@@ -185,12 +181,12 @@ module _ (s : Reading) (x : Rooms) (d rest : List ℕ) (t : NoFeed d) where
     go true z =
         let h : length d ≤ line_limit = leb-true _ _ z in
         held s x d [] (line_feed ∷ rest) (omega arith) t
-        ∙ ap (λ (q : Both). feed_all q rest) (feed_line s d x ∙ ap (λ (q : Took). both (ended q) (rooms_of s d x)) (sym e))
+        ∙ ap (λ (q : Both). feed_all q rest) (feed_line s d x ∙ ap (λ (q : Answer Reading). both (ended q) (rooms_of s d x)) (sym e))
         ∙ stays n l (rooms_of s d x) rest
     go false z =
         let h : line_limit < length d = leb-false _ _ z in
         let says = line_refused s d x n l e in
-        let j = fault_one 11 (line_here s) n l (sym (meaning.digits_most s d x h) ∙ says.0) in
+        let j = refused_one {A = Unit} 11 (line_here s) n l (sym (meaning.digits_most s d x h) ∙ says.0) in
         rw (says.1, ← j.0, ← j.1) (long s x d [] (line_feed ∷ rest) (omega arith) (omega arith) t)
 
 -- the line that starts at `at` and ends at e
@@ -229,13 +225,11 @@ pub record Same (x y : Rooms) : Type 0 where
 pub large : (x y : Rooms) → Same x y → Large y → Large x
 large x y s l = record { caps = omega arith; marks = omega arith; initial = omega arith; pre = omega arith; post = omega arith; word = omega arith }
 
--- the end of a file, by its state
-pub finish_missing : (s : Reading) → (s.phase ≡ 5 → ⊥) → Refused 12 (s.line + 1) ≡ finish_of s
+-- the end of a file, as a chain
+pub finish_chain : (s : Reading) → or_else (refuse (not (eqb s.phase 5)) 12 (s.line + 1)) (Ok s) ≡ finish_of s
 unfolding finish_of
-finish_missing s h = simp (ne_eqb _ _ h)
-
-pub finish_whole : (s : Reading) → s.phase ≡ 5 → Whole s ≡ finish_of s
-unfolding finish_of
-finish_whole s h = simp (eq-eqb _ _ h)
-
-pub ruleset finishes = (finish_missing, finish_whole)
+finish_chain s = go (eqb s.phase 5)
+  where
+    go : (b : Bool) → or_else (refuse (not b) 12 (s.line + 1)) (Ok s) ≡ cond b (Ok s) (refused 12 (s.line + 1))
+    go true = refl
+    go false = refl

@@ -1,12 +1,10 @@
 -- To be believed: a case file as a run of bytes: a fold, so that any cutting into parts comes to the same.
-use Rattle.std.specs.Prelude.{ℕ, suc, ◌+◌, ◌≡◌, cond, List, [], ◌∷◌, ◌++◌, length, ltb, eqb}
+use Rattle.std.specs.Prelude.{Ok, Err, ℕ, suc, ◌+◌, ◌≡◌, cond, List, [], ◌∷◌, ◌++◌, length, ltb, eqb}
 use Rattle.file_digits.specs.Frame.{line_limit, line_feed}
 use Rattle.file_line.specs.declared.Reading.{Reading}
-use Rattle.file_line.specs.declared.Took.{Took}
-use Rattle.file_line.specs.declared.Took.TheVariants as took
-use Rattle.file_line.specs.Read.{Rooms, fresh, line_of, rooms_of}
-use Rattle.file_parts.specs.declared.Case.{Case}
-use Rattle.file_parts.specs.declared.Case.TheVariants.{Whole, Refused}
+use Rattle.refusals.specs.Given.{Answer, refused}
+use Rattle.file_line.specs.declared.Rooms.{Rooms}
+use Rattle.file_line.specs.Read.{fresh, line_of, rooms_of}
 
 -- a reading goes on, with the bytes of the line so far; or it stopped, with a refusal's number and line
 pub data Run : Type 0 where
@@ -21,9 +19,9 @@ abbrev pub both : Run → Rooms → Both
 both r x = record { run = r; rooms = x }
 
 -- after a line
-abbrev pub ended : Took → Run
-ended (took.Next t) = going t []
-ended (took.Refused n l) = stopped n l
+abbrev pub ended : Answer Reading → Run
+ended (Ok t) = going t []
+ended (Err r) = stopped r.number r.at
 
 -- one byte: a line feed ends the line, at most as many digits as a line may have are held, and "the earliest faulty line decides"
 unfoldable pub fed_to : Run → Rooms → ℕ → Both
@@ -53,15 +51,19 @@ unfoldable pub feed_parts : Both → List (List ℕ) → Both
 feed_parts z [] = z
 feed_parts z (part ∷ parts) = feed_parts (feed_all z part) parts
 
+-- what a whole file comes to: its last state, or its refusal, with the line
+abbrev pub Case : Type 0
+Case = Answer Reading
+
 -- "frames missing at the end" are 12; "Missing frames count as the line after the last"
 unfoldable pub finish_of : Reading → Case
-finish_of s = cond (eqb s.phase 5) (Whole s) (Refused 12 (s.line + 1))
+finish_of s = cond (eqb s.phase 5) (Ok s) (refused 12 (s.line + 1))
 
 -- the end of the file: a line that "lacks its line feed" is 11
 unfoldable pub case_of : Run → Case
 case_of (going s []) = finish_of s
-case_of (going s (b ∷ d)) = Refused 11 (s.line + 1)
-case_of (stopped n l) = Refused n l
+case_of (going s (b ∷ d)) = refused 11 (s.line + 1)
+case_of (stopped n l) = refused n l
 
 -- how many bytes stand before the first line feed
 unfoldable pub line_len : List ℕ → ℕ

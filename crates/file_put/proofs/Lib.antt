@@ -2,4 +2,4 @@ pub mod Appends
 pub mod Round
 pub mod Twos
 pub mod Puts
-pub mod Listed
+pub mod Sheets

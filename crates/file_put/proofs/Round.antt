@@ -1,6 +1,6 @@
 -- Digits there and back. Assumes nothing.
 use mathlib.Core.Path.{◌≡◌, refl, sym, ◌∙◌, ap}
-use mathlib.Core.Bool.{Bool, true, false, cond, false≢true}
+use mathlib.Core.Bool.{Bool, true, false, ◌&&◌, false≢true}
 use mathlib.Core.List.{List, [], ◌∷◌, ◌++◌}
 use Prim.Native.Nat.{ℕ, zero, suc, ◌+◌, ◌-◌, ◌*◌, ◌/◌, ◌%◌, ◌≤◌, ◌<◌}
 use native.Mathlib.Omega.{arith}
@@ -102,7 +102,7 @@ canon zero (x ∷ d) e t = absurd (omega arith)
 canon (suc n) [] e t = absurd (omega arith)
 canon (suc n) (x ∷ []) e t = absurd (omega arith)
 canon (suc n) (x ∷ y ∷ d) e t = go (is_digit x) refl (is_digit y) refl t (λ u. canon n d (omega arith) u) where
-  go : (a : Bool) → is_digit x ≡ a → (b : Bool) → is_digit y ≡ b → cond a (cond b (all_digits d) false) false ≡ true
+  go : (a : Bool) → is_digit x ≡ a → (b : Bool) → is_digit y ≡ b → (a && (b && all_digits d)) ≡ true
       → (all_digits d ≡ true → digits_of (bytes_from d 0 n) ≡ d) → digits_of (bytes_from (x ∷ y ∷ d) 0 (suc n)) ≡ x ∷ y ∷ d
   go false p b q u r = absurd (false≢true u)
   go true p false q u r = absurd (false≢true u)

@@ -6,8 +6,18 @@ use native.Mathlib.Omega.{arith}
 use lib.ListN.{length}
 use Rattle.file_digits.specs.Frame.{byte_at, bytes_from, words_from}
 use Rattle.file_digits.proofs.Bytes.{Below, none, more, below_append, byte_small, words_long}
-use Rattle.file_put.specs.Put.{digits_of, twos}
+use Rattle.file_put.specs.Put.{digits_of, two, twos}
 use Rattle.file_put.proofs.Round.{piece}
+
+-- numbers one after another are their bytes one after another
+pub twos_then : (a b : List ℕ) → twos (a ++ b) ≡ twos a ++ twos b
+unfolding twos
+twos_then [] b = refl
+twos_then (n ∷ a) b = ap (λ (z : List ℕ). n / 256 ∷ n % 256 ∷ z) (twos_then a b)
+
+pub twos_one : (n : ℕ) → twos (n ∷ []) ≡ two n
+unfolding twos two
+twos_one n = refl
 
 pub twos_long : (l : List ℕ) → length (twos l) ≡ 2 * length l
 unfolding twos

@@ -1,10 +1,17 @@
-// Inner: bytes and numbers as digits, and the line feed, put into a room at a position.
+// Inner: bytes and numbers as digits, and the line feed, written on a sheet one after another.
 #![tactic(auto)]
 
-ghost use Rattle.std.specs.Prelude.{◌≡◌, [], ◌∷◌, ◌+◌, ◌<◌, ◌≤◌, length};
+ghost use Rattle.std.specs.Prelude.{◌≡◌, [], ◌∷◌, ◌+◌, ◌*◌, ◌<◌, ◌≤◌, length};
 ghost use Rattle.file_digits.specs.Frame.{line_feed};
-ghost use Rattle.file_put.specs.Append.{Appended};
-ghost use Rattle.file_put.specs.Put.{digit_of, two, four, Put};
+ghost use Rattle.file_put.specs.Put.{digit_of, two, twos, four};
+ghost use Rattle.file_put.specs.Sheet.{Spelled, Written};
+
+// A room that is written on from its front to its end, and the position of the next byte.
+#[derive(Drop)]
+pub struct Sheet<'a> {
+    pub room: &'a mut [u8],
+    pub at: usize,
+}
 
 // The digit of a value.
 pub fn digit(n: u8) -> u8
@@ -17,39 +24,61 @@ pub fn digit(n: u8) -> u8
     }
 }
 
-// A byte, as its two digits; answers the number after them.
-pub fn put_byte(out: &mut [u8], at: usize, b: u8) -> usize
-    requires { at + 2 ≤ length out.old }
-    ensures { Put out.old at (b ∷ []) result out.new }
-{
-    out[at] = digit(b / 16);
-    out[at + 1] = digit(b % 16);
-    at + 2
-}
+impl<'a> Sheet<'a> {
+    // A byte, as its two digits.
+    pub fn put_byte(&mut self, b: u8)
+        requires { self.old.at + 2 ≤ length self.old.room.now }
+        ensures { Spelled self.old (b ∷ []) self.new }
+    {
+        self.room[self.at] = digit(b / 16);
+        self.room[self.at + 1] = digit(b % 16);
+        self.at += 2;
+    }
 
-// A number of two bytes, the high byte first.
-pub fn put_two(out: &mut [u8], at: usize, n: u16) -> usize
-    requires { at + 4 ≤ length out.old }
-    ensures { Put out.old at (two n) result out.new }
-{
-    let a = put_byte(out, at, (n / 256) as u8);
-    put_byte(out, a, (n % 256) as u8)
-}
+    // Bytes one after another.
+    pub fn put_bytes(&mut self, bytes: &[u8])
+        requires { self.old.at + 2 * length bytes.now ≤ length self.old.room.now }
+        ensures { Spelled self.old bytes.now self.new }
+    {
+        for b in bytes {
+            self.put_byte(*b);
+        }
+    }
 
-// A number of four bytes, the high byte first.
-pub fn put_four(out: &mut [u8], at: usize, n: usize) -> usize
-    requires { at + 8 ≤ length out.old }
-    ensures { Put out.old at (four n) result out.new }
-{
-    let a = put_two(out, at, (n / 65536 % 65536) as u16);
-    put_two(out, a, (n % 65536) as u16)
-}
+    // A number of two bytes, the high byte first.
+    #[tactic(auto, using(crate::proofs::Puts::high_byte), unfolding(crate::specs::Put::two))]
+    pub fn put_two(&mut self, n: u16)
+        requires { self.old.at + 4 ≤ length self.old.room.now }
+        ensures { Spelled self.old (two n) self.new }
+    {
+        self.put_bytes(&n.to_be_bytes());
+    }
 
-// The line feed after the bytes.
-pub fn put_feed(out: &mut [u8], at: usize) -> usize
-    requires { at + 1 ≤ length out.old }
-    ensures { Appended out.old at (line_feed ∷ []) result out.new }
-{
-    out[at] = b'\n';
-    at + 1
+    // Such numbers one after another.
+    pub fn put_twos(&mut self, numbers: &[u16])
+        requires { self.old.at + 4 * length numbers.now ≤ length self.old.room.now }
+        ensures { Spelled self.old (twos numbers.now) self.new }
+    {
+        for n in numbers {
+            self.put_two(*n);
+        }
+    }
+
+    // A number of four bytes, the high byte first.
+    #[tactic(auto, unfolding(crate::specs::Put::four))]
+    pub fn put_four(&mut self, n: usize)
+        requires { self.old.at + 8 ≤ length self.old.room.now }
+        ensures { Spelled self.old (four n) self.new }
+    {
+        self.put_bytes(&n.to_be_bytes()[4..]);
+    }
+
+    // The line feed after the bytes.
+    pub fn put_feed(&mut self)
+        requires { self.old.at + 1 ≤ length self.old.room.now }
+        ensures { Written self.old (line_feed ∷ []) self.new }
+    {
+        self.room[self.at] = b'\n';
+        self.at += 1;
+    }
 }

@@ -5,7 +5,7 @@ use mathlib.Core.Bool.{Bool, true, false}
 use mathlib.Core.List.{List, [], ◌∷◌, ◌++◌}
 use lib.ListN.{length}
 use lib.IntN.{ℤ, pos, negsuc}
-use Rattle.file_line.specs.Read.{Rooms}
+use Rattle.file_line.specs.declared.Rooms.{Rooms}
 use Rattle.file_parts.specs.File.{Run, going, stopped}
 use Rattle.file_reads.specs.declared.Input.TheVariants.{More, Over, Failed}
 use Rattle.file_reads.specs.Reads.{Read, State, unread, failure_of, part_of, step_of, step_all, AllMore, read_limit, InputEnds, by_last, used_up}

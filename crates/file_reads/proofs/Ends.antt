@@ -5,7 +5,7 @@ use mathlib.Core.Bool.{Bool, false}
 use mathlib.Core.List.{List, [], ◌∷◌, ◌++◌}
 use native.Mathlib.Omega.{arith}
 use lib.IntN.{ℤ, pos, negsuc}
-use Rattle.file_line.specs.Read.{Rooms}
+use Rattle.file_line.specs.declared.Rooms.{Rooms}
 use Rattle.file_parts.specs.File.{Both, read_of}
 use Rattle.file_reads.specs.declared.Input.TheVariants.{More, Over, Failed}
 use Rattle.file_reads.specs.Reads.{Read, State, unread, failure_of, part_of, step_by, step_of, step_all, AllMore, bytes_in, InputEnds, by_last, used_up, InputRead}

@@ -8,7 +8,8 @@ use lib.ListN.{length, length-append}
 use lib.IntN.{ℤ, pos, negsuc}
 use Rattle.ground.specs.Parts.{up}
 use Rattle.file_line.specs.declared.Reading.{Reading}
-use Rattle.file_line.specs.Read.{Rooms, fresh}
+use Rattle.file_line.specs.declared.Rooms.{Rooms}
+use Rattle.file_line.specs.Read.{fresh}
 use Rattle.file_parts.specs.declared.Held.{Held}
 use Rattle.file_parts.specs.File.{Run, going, Both, both, feed_all}
 use Rattle.file_parts.specs.Held.{abs}
@@ -39,11 +40,11 @@ pub from_first : (s : Reading) (h : Held) (x : Rooms) (e : State) → s ≡ fres
 from_first s h x e es a r = subst (λ (z : Run). InputRead (state (both z x) More) e) (a ∙ ap (λ (t : Reading). going t []) es) r
 
 -- no read yet
-pub reads_none : (s : State) (left : ℕ) → left ≡ read_limit → MoreReads s left s
+pub reads_none : (s : State) → MoreReads s 0 s
 unfolding step_all AllMore AllBring
-reads_none s left e = record { reads = []; spare = omega (arith, e); brought = tt; more = tt; stepped = refl }
+reads_none s = record { reads = []; count = refl; brought = tt; more = tt; stepped = refl }
 
-module _ (s w : State) (left : ℕ) (m : MoreReads s left w) (z : Both) (i : Input) (o : OneRead w (state z i)) where
+module _ (s w : State) (made : ℕ) (m : MoreReads s made w) (z : Both) (i : Input) (o : OneRead w (state z i)) where
   came : state z i ≡ step_all s (m.reads ++ (o.read ∷ []))
   came = o.stepped ∙ ap (λ (v : State). step_of v o.read) m.stepped ∙ sym (step_last s m.reads o.read)
 
@@ -51,11 +52,11 @@ module _ (s w : State) (left : ℕ) (m : MoreReads s left w) (z : Both) (i : Inp
   leaves = ap (λ (v : State). step_of v o.read) (sym m.stepped) ∙ sym o.stepped
 
   -- one more that leaves more
-  pub reads_next : (left' : ℕ) → left' + 1 ≡ left → i ≡ More → MoreReads s left' (state z More)
-  reads_next left' h e =
+  pub reads_next : i ≡ More → MoreReads s (made + 1) (state z More)
+  reads_next e =
       record {
         reads = m.reads ++ (o.read ∷ []);
-        spare = omega (arith, h, m.spare, length-append m.reads (o.read ∷ []));
+        count = omega (arith, m.count, length-append m.reads (o.read ∷ []));
         brought = bring_last m.reads o.read m.brought o.brought;
         more = more_last s m.reads o.read m.more (ap (λ (v : State). v.input) leaves ∙ e);
         stepped = ap (state z) (sym e) ∙ came;
@@ -71,12 +72,12 @@ module _ (s w : State) (left : ℕ) (m : MoreReads s left w) (z : Both) (i : Inp
       }
 
 -- the most reads, and there is more
-pub reads_over : (s : State) (left : ℕ) (z : Both) → MoreReads s left (state z More) → left ≡ 0 → InputRead s (state z Failed)
-reads_over s left z m h =
+pub reads_over : (s : State) (made : ℕ) (z : Both) → MoreReads s made (state z More) → made ≡ read_limit → InputRead s (state z Failed)
+reads_over s made z m h =
     record {
       reads = m.reads;
       brought = m.brought;
-      ended = used_up (omega (arith, h, m.spare)) m.more (ap (λ (v : State). state v.fed Failed) m.stepped);
+      ended = used_up (m.count ∙ h) m.more (ap (λ (v : State). state v.fed Failed) m.stepped);
     }
 
 -- an input that was read is over, or it failed

@@ -2,4 +2,3 @@ pub mod Steps
 pub mod Inputs
 pub mod Ends
 pub mod Endings
-pub mod Told

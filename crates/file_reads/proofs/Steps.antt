@@ -1,48 +1,30 @@
 -- Laws of one read. Assumes nothing.
 use Prim.Native.Nat.{ℕ, zero, suc, min}
 use mathlib.Core.Path.{◌≡◌, refl, sym, ap, ap₂, subst, ◌∙◌}
-use mathlib.Core.Bool.{Bool, true, false, cond}
+use mathlib.Core.Bool.{Bool, true, false}
 use mathlib.Core.List.{List, [], ◌∷◌}
 use native.Mathlib.Omega.{arith}
 use native.Mathlib.Nat.{zero-min, min-zero, suc-min-suc}
 use lib.ListN.{length, take}
-use borrow.Author.Tests.{ne_eqb}
-use lib.Dec.{T, eqb, ltb, ltb→lt, lt→ltb}
+use lib.Dec.{T, ltb, ltb→lt, lt→ltb}
 use lib.IntN.{ℤ, pos, negsuc}
 use lib.Signed.{lt_z}
 use Rattle.ground.specs.Parts.{up}
 use Rattle.io.specs.Counts.{clamp_len}
-use Rattle.file_line.specs.Read.{Rooms}
+use Rattle.file_line.specs.declared.Rooms.{Rooms}
 use Rattle.file_parts.specs.declared.Held.{Held}
-use Rattle.file_parts.specs.File.{going, stopped, Both, both, feed_all}
-use Rattle.file_parts.specs.Held.{abs}
+use Rattle.file_parts.specs.File.{Both, both, feed_all}
+use Rattle.std.specs.Prelude.{Ok, Err}
+use Rattle.refusals.specs.Given.{Answer}
+use Rattle.file_line.specs.declared.Reading.{Reading}
+use Rattle.file_parts.specs.Held.{abs, run_of}
 use Rattle.file_reads.specs.declared.Input.{Input}
-use Rattle.file_reads.specs.declared.Input.TheVariants.{More, Over, Failed}
+use Rattle.file_reads.specs.declared.Input.TheVariants.{More, Over}
 use Rattle.file_reads.specs.Reads.{read_as, state, failure_of, part_of, step_by, step_of}
 use Rattle.file_reads.specs.Walk.{part_by, input_of}
 
 nothing_below : (n : ℕ) → ltb n 0 ≡ true → ⊥
 nothing_below n e = omega (arith, ltb→lt n 0 (subst (λ (b : Bool). T b) (sym e) tt))
-
--- what a read without bytes leaves, by whether a signal interrupted it
-pub failure_again : (i : Bool) → i ≡ true → More ≡ failure_of i
-unfolding failure_of
-failure_again true e = refl
-failure_again false e = cc
-
-pub failure_told : (i : Bool) → i ≡ false → Failed ≡ failure_of i
-unfolding failure_of
-failure_told true e = cc
-failure_told false e = refl
-
--- what a part leaves, by its refusal
-pub part_more : (n : ℕ) → n ≡ 0 → More ≡ part_by n
-unfolding part_by
-part_more n e = rw e refl
-
-pub part_over : (n : ℕ) → (n ≡ 0 → ⊥) → Over ≡ part_by n
-unfolding part_by
-part_over n e = simp (ne_eqb n 0 e)
 
 -- what a read leaves, by the tests of its sign
 pub left_negative : (got : ℤ) (i : Bool) (p r : Input) → lt_z got (pos 0) ≡ true → r ≡ failure_of i → r ≡ input_of got i p
@@ -63,13 +45,10 @@ left_none (pos (suc n)) i p e h = absurd (subst (λ (b : Bool). T b) h (lt→ltb
 left_none (negsuc n) i p e h = let z : true ≡ false = e in cc
 
 -- after a part the state that is held says whether the reading is stopped
-part_is : (h : Held) → part_by h.refusal ≡ part_of (abs h)
-unfolding part_by part_of
-part_is h = go (eqb h.refusal 0)
-  where
-    go : (b : Bool) → cond b More Over ≡ part_of (cond b (going h.reading (take h.len h.line)) (stopped h.refusal h.at))
-    go true = refl
-    go false = refl
+part_is : (r : Answer Reading) (d : List ℕ) → part_by r ≡ part_of (run_of r d)
+unfolding part_of
+part_is (Ok s) d = refl
+part_is (Err r) d = refl
 
 -- as many of the buffer's bytes as a read counts
 clamped_is : (got : ℤ) (buf : List ℕ) → take (clamp_len got (length buf)) buf ≡ take (up got) buf
@@ -90,10 +69,10 @@ step_is z (pos (suc k)) i buf = refl
 
 -- the step that the code makes; g and k are the count as the two calls were handed it
 pub step_made : (h held : Held) (x y : Rooms) (got g k : ℤ) (i : Bool) (buf : List ℕ) (n : ℕ) (a : Input) → g ≡ got → k ≡ got
-    → n ≡ clamp_len g (length buf) → both (abs held) y ≡ feed_all (both (abs h) x) (take n buf) → a ≡ input_of k i (part_by held.refusal)
+    → n ≡ clamp_len g (length buf) → both (abs held) y ≡ feed_all (both (abs h) x) (take n buf) → a ≡ input_of k i (part_by held.reading)
     → state (both (abs held) y) a ≡ step_of (state (both (abs h) x) More) (read_as got i buf)
 step_made h held x y got g k i buf n a eg ek en e ea =
     let b = ap (λ (m : ℕ). take m buf) (en ∙ ap (λ (j : ℤ). clamp_len j (length buf)) eg) ∙ clamped_is got buf in
     let f = e ∙ ap (feed_all (both (abs h) x)) b in
-    let j = ea ∙ ap (λ (m : ℤ). input_of m i (part_by held.refusal)) ek ∙ ap (input_of got i) (part_is held) ∙ ap (λ (z : Both). input_of got i (part_of z.run)) f in
+    let j = ea ∙ ap (λ (m : ℤ). input_of m i (part_by held.reading)) ek ∙ ap (input_of got i) (part_is held.reading (take held.len held.line)) ∙ ap (λ (z : Both). input_of got i (part_of z.run)) f in
     ap₂ state f j ∙ sym (step_is (both (abs h) x) got i buf)

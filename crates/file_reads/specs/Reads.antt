@@ -1,7 +1,8 @@
 -- To be believed: what one read of the input does to a reading, and an input as a list of such reads.
 use Rattle.std.specs.Prelude.{ℕ, zero, suc, ◌-◌, ◌^◌, ◌≡◌, Bool, cond, List, [], ◌∷◌, ◌++◌, length, take, ℤ, pos, negsuc}
 use Rattle.ground.specs.Parts.{up}
-use Rattle.file_line.specs.Read.{Rooms, fresh}
+use Rattle.file_line.specs.declared.Rooms.{Rooms}
+use Rattle.file_line.specs.Read.{fresh}
 use Rattle.file_parts.specs.File.{Run, going, stopped, Both, both, feed_all}
 use Rattle.file_reads.specs.declared.Input.{Input}
 use Rattle.file_reads.specs.declared.Input.TheVariants.{More, Over, Failed}

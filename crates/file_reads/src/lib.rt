@@ -3,15 +3,14 @@
 #![tactic(auto)]
 
 ghost use Rattle.std.specs.Prelude.{◌≡◌};
-ghost use Rattle.file_line.specs.Read.{rooms};
-ghost use Rattle.file_line.specs.Walk.{Large};
 ghost use Rattle.file_parts.specs.File.{both};
 ghost use Rattle.file_parts.specs.Held.{abs, Sound};
 ghost use Rattle.file_reads.specs.Reads.{read_as, state, failure_of, step_of};
 ghost use Rattle.file_reads.specs.Walk.{part_by, input_of};
 
+use file_line::{Reading, Rooms};
 use file_parts::Held;
-use ground::Weight;
+use refusals::Refusal;
 
 // Whether there is more to read.
 #[derive(Clone, Copy)]
@@ -29,60 +28,50 @@ pub struct Fed {
 }
 
 // A read that a signal interrupted is made again; any other failure is one.
+#[tactic(auto, unfolding(crate::specs::Reads::failure_of))]
 fn after_failure(interrupted: bool) -> Input
     ensures { result ≡ failure_of interrupted }
 {
     if interrupted {
-        return Input::More;
+        Input::More
+    } else {
+        Input::Failed
     }
-    Input::Failed
 }
 
 // After a refusal nothing more is read, since nothing after it can change the answer.
-fn after_part(refusal: u8) -> Input
-    ensures { result ≡ part_by refusal }
+fn after_part(reading: &Result<Reading, Refusal>) -> Input
+    ensures { result ≡ part_by reading.now }
 {
-    if refusal != 0 {
-        return Input::Over;
+    match reading {
+        Ok(_) => Input::More,
+        Err(_) => Input::Over,
     }
-    Input::More
 }
 
-// What a read leaves, by the sign of its count; the refusal is that of the reading after its bytes.
-fn input_after(got: isize, interrupted: bool, refusal: u8) -> Input
-    ensures { result ≡ input_of got interrupted (part_by refusal) }
+// What a read leaves, by the sign of its count; the reading is what there is after its bytes.
+fn input_after(got: isize, interrupted: bool, reading: &Result<Reading, Refusal>) -> Input
+    ensures { result ≡ input_of got interrupted (part_by reading.now) }
 {
     if got < 0 {
-        return after_failure(interrupted);
+        after_failure(interrupted)
+    } else if 0 < got {
+        after_part(reading)
+    } else {
+        Input::Over
     }
-    if 0 < got {
-        return after_part(refusal);
-    }
-    Input::Over
 }
 
 // One read more: got is what it answered, interrupted whether a signal broke it off, and buf the buffer after it.
-pub fn take_read(
-    h: Held,
-    got: isize,
-    interrupted: bool,
-    buf: &[u8],
-    caps: &mut [u16],
-    marks: &mut [u8],
-    initial: &mut [u16],
-    pre: &mut [Weight],
-    post: &mut [Weight],
-    word: &mut [u8],
-) -> Fed
-    requires { (Sound h) × (Large (rooms caps.old marks.old initial.old pre.old post.old word.old)) }
-    ensures value { state (both (abs result.held) (rooms caps.new marks.new initial.new pre.new post.new word.new)) result.input
-        ≡ step_of (state (both (abs h) (rooms caps.old marks.old initial.old pre.old post.old word.old)) Input.More) (read_as got interrupted buf.now) }
+pub fn take_read(h: Held, got: isize, interrupted: bool, buf: &[u8], rooms: &mut Rooms) -> Fed
+    requires { Sound h }
+    ensures value { state (both (abs result.held) rooms.new) result.input ≡ step_of (state (both (abs h) rooms.old) Input.More) (read_as got interrupted buf.now) }
     ensures sound { Sound result.held }
 {
     let n = io::count(got, buf);
-    let r = file_parts::read_part(h, &buf[..n], caps, marks, initial, pre, post, word);
+    let held = file_parts::read_part(h, &buf[..n], rooms);
     Fed {
-        held: r,
-        input: input_after(got, interrupted, r.refusal),
+        held,
+        input: input_after(got, interrupted, &held.reading),
     }
 }

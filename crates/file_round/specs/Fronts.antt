@@ -1,7 +1,7 @@
 -- To be believed: what `read_case` leaves of a net, its initial marking and a word at the fronts of its rooms.
 use Rattle.std.specs.Prelude.{ℕ, ◌*◌, List, take}
 use Rattle.net.specs.Net.{Net, net_of}
-use Rattle.file_line.specs.Read.{Rooms}
+use Rattle.file_line.specs.declared.Rooms.{Rooms}
 
 -- the net, the marking and the word at the fronts of the rooms, by the counts that were answered
 abbrev pub front_net : ℕ → ℕ → Rooms → Net

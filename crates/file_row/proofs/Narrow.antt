@@ -6,42 +6,11 @@ use Prim.Native.Nat.{ℕ, ◌+◌, ◌*◌, ◌≤◌, ◌<◌}
 use native.Mathlib.Omega.{arith}
 use lib.ListN.{length, get_or}
 use lib.Dec.{eqb}
-use borrow.Author.Tests.{eq-eqb, ne_eqb}
 use Rattle.weights.proofs.Heavies.{row_light, light_row}
-use Rattle.file_digits.specs.Frame.{byte_at, word_at, bytes_from}
+use Rattle.file_digits.specs.Frame.{bytes_from}
 use Rattle.file_digits.proofs.Bytes.{of_below, bytes_long, bytes_small}
-use Rattle.file_row.specs.Row.{byte_limit, narrow_row, wide_row, is_row, weight_bytes, is_wide, row_kind, weights_from, takes_in, puts_in}
-use Rattle.file_row.specs.Walk.{weight_at, Fit}
-
--- a kind by the tests in turn
-module _ (k : ℕ) where
-  pub row_narrow : k ≡ narrow_row → true ≡ is_row k
-  row_narrow e = rw (eq-eqb k narrow_row e)
-
-  pub row_else : (k ≡ narrow_row → ⊥) → eqb k wide_row ≡ is_row k
-  row_else n = rw (ne_eqb k narrow_row n)
-
-  pub bytes_wide : k ≡ wide_row → weight_bytes k ≡ 2
-  bytes_wide e = rw (eq-eqb k wide_row e)
-
-  pub bytes_narrow : (k ≡ wide_row → ⊥) → weight_bytes k ≡ 1
-  bytes_narrow n = rw (ne_eqb k wide_row n)
-
-  -- a row's bytes as the code has them, and that they are few
-  pub row_bytes : (P x : ℕ) → x ≡ weight_bytes k → (x * P ≡ weight_bytes k * P) × (weight_bytes k * P ≤ 2 * P)
-  row_bytes P x e = (rw e, go (eqb k wide_row))
-    where
-      go : (b : Bool) → cond b 2 1 * P ≤ 2 * P
-      go true = omega arith
-      go false = omega arith
-
-  pub at_wide : k ≡ wide_row → (d : List ℕ) (i : ℕ) → weight_at k d i ≡ word_at d i
-  unfolding weight_at
-  at_wide e d i = rw (eq-eqb k wide_row e)
-
-  pub at_narrow : (k ≡ wide_row → ⊥) → (d : List ℕ) (i : ℕ) → weight_at k d i ≡ byte_at d i
-  unfolding weight_at
-  at_narrow n d i = rw (ne_eqb k wide_row n)
+use Rattle.file_row.specs.Row.{byte_limit, narrow_row, wide_row, weight_bytes, is_wide, row_kind, weights_from, takes_in, puts_in}
+use Rattle.file_row.specs.Walk.{Fit}
 
 -- rows of the same kind and length have as many bytes
 pub row_alike : {k j m n : ℕ} → k ≡ j → m ≡ n → weight_bytes k * m ≡ weight_bytes j * n

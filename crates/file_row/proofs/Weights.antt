@@ -1,16 +1,16 @@
 -- Laws of a row of weights in a frame: how many; read from digits, written as bytes, and back. Assumes nothing.
 use mathlib.Core.Path.{◌≡◌, refl, sym, ◌∙◌, ap}
 use mathlib.Core.Bool.{Bool, true, false, cond}
-use mathlib.Core.List.{List, ◌++◌}
-use Prim.Native.Nat.{ℕ, ◌+◌, ◌-◌, ◌*◌, ◌≤◌, ◌<◌}
+use mathlib.Core.List.{List, [], ◌∷◌, ◌++◌}
+use Prim.Native.Nat.{ℕ, ◌+◌, ◌*◌}
 use native.Mathlib.Omega.{arith}
+use native.Mathlib.Numerals.{add-one}
 use native.Mathlib.Nat.{one-mul}
 use lib.ListN.{length, set}
 use lib.Dec.{eqb}
 use lib.Seq.{sets}
 use Rattle.file_digits.specs.Frame.{byte_at, word_at, bytes_from, words_from}
-use Rattle.file_digits.proofs.Frames.{bytes_turn, words_turn, bytes_none, words_none}
-use Rattle.file_digits.proofs.Bytes.{Below, below_of, below_append, bytes_long, words_long}
+use Rattle.file_digits.proofs.Bytes.{Below, below_of, below_append, bytes_long, bytes_split, words_long, words_more, stored_next}
 use Rattle.file_put.specs.Put.{digits_of, twos}
 use Rattle.file_put.proofs.Round.{piece}
 use Rattle.file_put.proofs.Twos.{twos_long, twos_small, twos_apart, words_bytes}
@@ -71,36 +71,23 @@ module _ (k : ℕ) where
       text_apart (weights_from k d (length a) (length l)) l (from_long d (length a) (length l))
       (text_from d (length a) (length l) ∙ ap (bytes_from d (length a)) (sym (text_long l)) ∙ piece a (weights_text k l) c b)
 
+  -- one weight more
+  from_more : (d : List ℕ) (i n : ℕ) → weights_from k d i (n + 1) ≡ weights_from k d i n ++ (weight_at k d (i + weight_bytes k * n) ∷ [])
+  unfolding weights_from weight_at bytes_from
+  from_more d i n = go (eqb k wide_row)
+    where
+      go : (b : Bool) → cond b (words_from d i (n + 1)) (bytes_from d i (n + 1)) ≡ cond b (words_from d i n) (bytes_from d i n) ++ (cond b (word_at d (i + cond b 2 1 * n)) (byte_at d (i + cond b 2 1 * n)) ∷ [])
+      go true = rw (add-one n) (words_more d i n)
+      go false = rw (one-mul n) (bytes_split d i n 1)
+
   -- a turn of a store of weights
-  pub weights_turn : (room d : List ℕ) (i j left x i' j' left' : ℕ) → 0 < left → x ≡ weight_at k d j → i' ≡ i + 1 → j' ≡ j + weight_bytes k → left' ≡ left - 1
-      → sets (set room i x) i' (weights_from k d j' left') ≡ sets room i (weights_from k d j left)
-  unfolding weights_from weight_at
-  weights_turn room d i j left x i' j' left' h = go (eqb k wide_row)
-    where
-      go : (b : Bool) → x ≡ cond b (word_at d j) (byte_at d j) → i' ≡ i + 1 → j' ≡ j + cond b 2 1 → left' ≡ left - 1
-          → sets (set room i x) i' (cond b (words_from d j' left') (bytes_from d j' left')) ≡ sets room i (cond b (words_from d j left) (bytes_from d j left))
-      go true v e f g = words_turn room d i j left x i' j' left' h v e f g
-      go false v e f g = bytes_turn room d i j left x i' j' left' h v e f g
+  pub weights_next : (room d l : List ℕ) (at i n x : ℕ) → l ≡ sets room at (weights_from k d i n) → x ≡ weight_at k d (i + weight_bytes k * n) → set l (at + n) x ≡ sets room at (weights_from k d i (n + 1))
+  weights_next room d l at i n x e h = stored_next room (weights_from k d i n) (weights_from k d i (n + 1)) l at n x e (from_long d i n) (rw h (from_more d i n))
 
-  pub weights_none : (room d : List ℕ) (i j left : ℕ) → left ≤ 0 → sets room i (weights_from k d j left) ≡ room
-  unfolding weights_from
-  weights_none room d i j left h = go (eqb k wide_row)
+  pub weights_none : (room d : List ℕ) (at i : ℕ) → room ≡ sets room at (weights_from k d i 0)
+  unfolding weights_from words_from bytes_from
+  weights_none room d at i = go (eqb k wide_row)
     where
-      go : (b : Bool) → sets room i (cond b (words_from d j left) (bytes_from d j left)) ≡ room
-      go true = words_none room d i j left h
-      go false = bytes_none room d i j left h
-
-  -- there is a weight to read while some are left
-  pub weights_left : (j left n : ℕ) → 0 < left → 2 * (j + weight_bytes k * left) ≤ n → 2 * (j + weight_bytes k) ≤ n
-  weights_left j left n h = go (eqb k wide_row)
-    where
-      go : (b : Bool) → 2 * (j + cond b 2 1 * left) ≤ n → 2 * (j + cond b 2 1) ≤ n
-      go true e = omega arith
-      go false e = omega arith
-
-  pub weights_next : (j left n j' left' : ℕ) → 0 < left → 2 * (j + weight_bytes k * left) ≤ n → j' ≡ j + weight_bytes k → left' ≡ left - 1 → 2 * (j' + weight_bytes k * left') ≤ n
-  weights_next j left n j' left' h = go (eqb k wide_row)
-    where
-      go : (b : Bool) → 2 * (j + cond b 2 1 * left) ≤ n → j' ≡ j + cond b 2 1 → left' ≡ left - 1 → 2 * (j' + cond b 2 1 * left') ≤ n
-      go true e f g = omega arith
-      go false e f g = omega arith
+      go : (b : Bool) → room ≡ sets room at (cond b (words_from d i 0) (bytes_from d i 0))
+      go true = refl
+      go false = refl

@@ -15,10 +15,10 @@ use Rattle.file_row.specs.Row.{wide_row, weights_from, takes_in, puts_in}
 use Rattle.file_row.proofs.Weights.{from_long}
 
 -- one place, from its two numbers
-pub wide_at_lem : (limit : ℕ) (d : List ℕ) (P p x y r : ℕ) → p < P → x ≡ word_at d (2 + 2 * p) → y ≡ word_at d (2 + 2 * P + 2 * p) → r ≡ bit (ltb limit x || ltb limit y)
+pub wide_place : (limit : ℕ) (d : List ℕ) (P p x y r : ℕ) → p < P → x ≡ word_at d (2 + 2 * p) → y ≡ word_at d (2 + 2 * P + 2 * p) → r ≡ bit (ltb limit x || ltb limit y)
     → r ≡ bit (over_at limit (takes_in wide_row d P) (puts_in wide_row d P) p)
 unfolding weights_from
-wide_at_lem limit d P p x y r h e f g =
+wide_place limit d P p x y r h e f g =
     let a : get_or (takes_in wide_row d P) p 0 ≡ x = words_at d 2 P p h ∙ sym e in
     let b : get_or (puts_in wide_row d P) p 0 ≡ y = words_at d (2 + 2 * P) P p h ∙ sym f in
     rw (a, b) g

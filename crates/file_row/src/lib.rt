@@ -1,15 +1,18 @@
 // Inner: a transition's weights in a case file: a byte each in a frame 04, two bytes each in a frame 07. Read
-// from a line's digits, and put into a room.
+// from a line's digits, and written on a sheet.
 #![tactic(auto)]
 
 ghost use Rattle.std.specs.Prelude.{◌≡◌, [], ◌∷◌, ◌+◌, ◌*◌, ◌≤◌, length};
 ghost use Rattle.std.proofs.lemmas.List.Edits.{sets};
 ghost use Rattle.ground.specs.Limits.{count_limit, weight_limit};
 ghost use Rattle.weights.specs.Heavy.{row_over};
-ghost use Rattle.file_put.specs.Put.{Put, PutLine};
-ghost use Rattle.file_row.specs.Row.{wide_row, is_row, weight_bytes, is_wide, row_kind, weights_text, row_frame, weights_from, takes_in, puts_in};
+ghost use Rattle.file_put.specs.Put.{line_text};
+ghost use Rattle.file_put.specs.Sheet.{Spelled, Written};
+ghost use Rattle.std.specs.List.{All};
+ghost use Rattle.file_row.specs.Row.{byte_limit, wide_row, is_row, weight_bytes, is_wide, row_kind, weights_text, row_frame, weights_from, takes_in, puts_in};
 ghost use Rattle.file_row.specs.Walk.{weight_at, Fit};
 
+use file_put::Sheet;
 use ground::{WEIGHT_LIMIT, Weight};
 
 // The largest weight of a frame 04.
@@ -24,10 +27,7 @@ pub const WIDE_ROW: u8 = 7;
 pub fn is_row(kind: u8) -> bool
     ensures { result ≡ is_row kind }
 {
-    if kind == NARROW_ROW {
-        return true;
-    }
-    kind == WIDE_ROW
+    kind == NARROW_ROW || kind == WIDE_ROW
 }
 
 // How many bytes a weight has in a frame of this kind.
@@ -38,14 +38,16 @@ fn weight_bytes(kind: u8) -> usize
 }
 
 // The weight from byte i on.
+#[tactic(auto, unfolding(crate::specs::Walk::weight_at))]
 fn weight_at(kind: u8, d: &[u8], i: usize) -> Weight
     requires { 2 * (i + weight_bytes kind) ≤ length d.now }
     ensures { result ≡ weight_at kind d.now i }
 {
     if kind == WIDE_ROW {
-        return file_digits::word_at(d, i);
+        file_digits::word_at(d, i)
+    } else {
+        Weight::from(file_digits::byte_at(d, i))
     }
-    file_digits::byte_at(d, i) as Weight
 }
 
 // Whether an 07 of so many places has a weight over a limit: one plain pass over its digits, with no
@@ -55,12 +57,10 @@ fn digits_over(limit: u32, d: &[u8], places: usize) -> bool
     ensures { result ≡ row_over limit (takes_in wide_row d.now places) (puts_in wide_row d.now places) }
 {
     let mut over: u32 = 0;
-    let mut p = 0;
-    while p < places {
+    for p in 0..places {
         let takes = file_digits::word_at(d, 2 + 2 * p);
         let puts = file_digits::word_at(d, 2 + 2 * places + 2 * p);
         over += weights::over_at(limit, takes, puts);
-        p += 1;
     }
     0 < over
 }
@@ -82,19 +82,14 @@ pub fn is_heavy(d: &[u8], places: usize) -> bool
 }
 
 // Weights of a frame, count of them from byte from on, into the room at number at.
+#[tactic(auto, using(crate::proofs::Weights::weights_none, crate::proofs::Weights::weights_next))]
 fn store_weights(kind: u8, d: &[u8], from: usize, room: &mut [Weight], at: usize, count: usize)
     requires { (2 * (from + weight_bytes kind * count) ≤ length d.now) × (at + count ≤ length room.old) }
     ensures { room.new ≡ sets room.old at (weights_from kind d.now from count) }
 {
     let bytes = weight_bytes(kind);
-    let mut j = from;
-    let mut i = at;
-    let mut left = count;
-    while 0 < left {
-        room[i] = weight_at(kind, d, j);
-        i = i + 1;
-        j = j + bytes;
-        left = left - 1;
+    for k in 0..count {
+        room[at + k] = weight_at(kind, d, from + bytes * k);
     }
 }
 
@@ -116,32 +111,31 @@ pub fn store_row(
     store_weights(kind, d, 2 + bytes * places, post, at, places);
 }
 
-// A weight as a byte, or as two.
-fn put_weight(out: &mut [u8], at: usize, kind: u8, weight: Weight) -> usize
-    requires { (at + 2 * weight_bytes kind ≤ length out.old) × (Fit kind (weight ∷ [])) }
-    ensures { Put out.old at (weights_text kind (weight ∷ [])) result out.new }
+// Weights that fit a byte, a byte each.
+fn put_narrow(sheet: &mut Sheet, list: &[Weight])
+    requires { (sheet.old.at + 2 * length list.now ≤ length sheet.old.room.now) × (All (λ w. w ≤ byte_limit) list.now) }
+    ensures { Spelled sheet.old list.now sheet.new }
 {
-    if kind == WIDE_ROW {
-        return file_put::put_two(out, at, weight);
+    for weight in list {
+        sheet.put_byte(*weight as u8);
     }
-    file_put::put_byte(out, at, weight as u8)
 }
 
 // A row of Pre or of Post.
-fn put_weights(out: &mut [u8], at: usize, kind: u8, list: &[Weight]) -> usize
-    requires { (at + 2 * (weight_bytes kind * length list.now) ≤ length out.old) × (Fit kind list.now) }
-    ensures { Put out.old at (weights_text kind list.now) result out.new }
+#[tactic(auto, unfolding(crate::specs::Row::weights_text))]
+fn put_weights(sheet: &mut Sheet, kind: u8, list: &[Weight])
+    requires { (sheet.old.at + 2 * (weight_bytes kind * length list.now) ≤ length sheet.old.room.now) × (Fit kind list.now) }
+    ensures { Spelled sheet.old (weights_text kind list.now) sheet.new }
 {
-    let mut r = at;
-    let mut k = 0;
-    while k < list.len() {
-        r = put_weight(out, r, kind, list[k]);
-        k += 1;
+    if kind == WIDE_ROW {
+        sheet.put_twos(list);
+    } else {
+        put_narrow(sheet, list);
     }
-    r
 }
 
 // The kind of the frame for these rows.
+#[tactic(auto, unfolding(crate::specs::Row::row_kind))]
 fn row_kind(takes: &[Weight], puts: &[Weight]) -> u8
     requires { (length puts.now ≡ length takes.now) × (length takes.now ≤ count_limit) }
     ensures { result ≡ row_kind takes.now puts.now }
@@ -155,14 +149,13 @@ fn row_kind(takes: &[Weight], puts: &[Weight]) -> u8
 
 // The frame of transition t with what it takes from each place and what it puts there: an 07 exactly
 // when one of the weights is over 255.
-pub fn put_row(out: &mut [u8], at: usize, t: u8, takes: &[Weight], puts: &[Weight]) -> usize
-    requires { (at + (2 * (2 + 2 * (weight_bytes (row_kind takes.now puts.now) * length takes.now)) + 1) ≤ length out.old) × (length puts.now ≡ length takes.now) × (length takes.now ≤ count_limit) }
-    ensures { PutLine out.old at (row_frame t takes.now puts.now) result out.new }
+pub fn put_row(sheet: &mut Sheet, t: u8, takes: &[Weight], puts: &[Weight])
+    requires { (sheet.old.at + (2 * (2 + 2 * (weight_bytes (row_kind takes.now puts.now) * length takes.now)) + 1) ≤ length sheet.old.room.now) × (length puts.now ≡ length takes.now) × (length takes.now ≤ count_limit) }
+    ensures { Written sheet.old (line_text (row_frame t takes.now puts.now)) sheet.new }
 {
     let kind = row_kind(takes, puts);
-    let a = file_put::put_byte(out, at, kind);
-    let b = file_put::put_byte(out, a, t);
-    let c = put_weights(out, b, kind, takes);
-    let d = put_weights(out, c, kind, puts);
-    file_put::put_feed(out, d)
+    sheet.put_bytes(&[kind, t]);
+    put_weights(sheet, kind, takes);
+    put_weights(sheet, kind, puts);
+    sheet.put_feed();
 }

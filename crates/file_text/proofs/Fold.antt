@@ -1,4 +1,6 @@
 -- What holds at every byte of a file's fold: the state is good, it counts the lines, and the rooms keep their lengths. Assumes nothing.
+use Rattle.std.specs.Prelude.{Ok, Err}
+use Rattle.refusals.specs.Given.{Fault}
 use mathlib.Core.Path.{◌≡◌, refl, ◌∙◌, subst}
 use mathlib.Core.Bool.{Bool, true, false, cond}
 use mathlib.Core.List.{List, [], ◌∷◌, ◌++◌}
@@ -7,13 +9,12 @@ use native.Mathlib.Omega.{arith}
 use lib.ListN.{length}
 use lib.Seq.{length-sets}
 use lib.Dec.{eqb, ltb}
-use Rattle.refusals.specs.declared.Fault.{Fault}
-use Rattle.refusals.specs.declared.Fault.TheVariants.{Sound, Faulty}
 use Rattle.file_digits.specs.Frame.{line_limit, line_feed, byte_at, bytes_from, words_from}
 use Rattle.file_mask.specs.Mask.{bits_of, mask_in}
 use Rattle.file_row.specs.Row.{is_row, takes_in, puts_in}
 use Rattle.file_line.specs.declared.Reading.{Reading}
-use Rattle.file_line.specs.Read.{fresh, Rooms, line_of, rooms_of, judge_of, advanced_kind, stored, stored_kind, letters_in}
+use Rattle.file_line.specs.declared.Rooms.{Rooms}
+use Rattle.file_line.specs.Read.{fresh, line_of, rooms_of, judge_of, advanced_kind, stored, stored_kind, letters_in}
 use Rattle.file_line.specs.Walk.{Good}
 use Rattle.file_line.proofs.Meaning.{judged_number, taken_line, refused_line}
 use Rattle.file_line.proofs.Accept.{accepted, good_advanced}
@@ -76,13 +77,13 @@ line_fed : (s : Reading) (d : List ℕ) (y : Rooms) → Good s → Fed y (s.line
 line_fed s d y g = go (judge_of s d y) refl
   where
     go : (f : Fault) → judge_of s d y ≡ f → Fed y (s.line + 1) (both (ended (line_of s d y)) (rooms_of s d y))
-    go Sound j =
+    go (Ok _) j =
         let l = taken_line s d y j in
         rw (l.0, l.1) (record { same = stored_same s d y (byte_at d 0); counted = (good_advanced s d g (accepted s d y j), advanced_line s d (byte_at d 0)) })
-    go (Faulty n at) j =
-        let l = refused_line s d y n at j in
-        let z = (judged_number s d y n at j).2 in
-        rw (l.0, l.1) (record { same = kept_same s d y (eqb n 17); counted = (omega (arith, z), omega (arith, z)) })
+    go (Err r) j =
+        let l = refused_line s d y r.number r.at j in
+        let z = (judged_number s d y r.number r.at j).2 in
+        rw (l.0, l.1) (record { same = kept_same s d y (eqb r.number 17); counted = (omega (arith, z), omega (arith, z)) })
 
 -- a byte
 fed_run : (k : ℕ) (r : Run) (y : Rooms) → LinesCounted k r → (b : ℕ) → Fed y (k + cond (eqb b line_feed) 1 0) (fed_to r y b)

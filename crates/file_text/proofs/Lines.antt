@@ -1,4 +1,6 @@
 -- A line of each kind: the frame that it must be, and that the frame is taken. Assumes nothing.
+use Rattle.std.specs.Prelude.{Ok, Err}
+use Rattle.refusals.specs.Given.{refusal}
 use mathlib.Core.Path.{◌≡◌, refl, sym, ◌∙◌, ap, subst}
 use mathlib.Core.Bool.{Bool, true, false, cond}
 use mathlib.Core.Logic.{◌⊎◌, inl, inr, ⊎_elim}
@@ -25,8 +27,8 @@ use Rattle.file_row.proofs.Framed.{frame_long, frame_small, kind_back, index_bac
 use Rattle.file_line.specs.declared.Reading.{Reading}
 use Rattle.wiring.specs.Wired.{Wired}
 use Rattle.refusals.specs.Given.{Fine}
-use Rattle.refusals.specs.declared.Fault.TheVariants.{Sound, Faulty}
-use Rattle.file_line.specs.Read.{Rooms, rooms, stands_as, tokens_in, word_part, rule_of, judge_of, letters_in, advanced, advanced_kind, stored, stored_kind, net_in, line_here}
+use Rattle.file_line.specs.declared.Rooms.{Rooms}
+use Rattle.file_line.specs.Read.{rooms, stands_as, tokens_in, word_part, rule_of, judge_of, letters_in, advanced, advanced_kind, stored, stored_kind, net_in, line_here}
 use Rattle.file_line.specs.Line.{SomeBit, NoBitPast, Formed, frame01, frame02, frame03, frame04, frame05, frame06, frame07, CountsInRange, WeightsAllowed, TokensAllowed, NetWired, WordNotOver, LettersNamed, Taken}
 use Rattle.file_line.proofs.Digits.{rule_all, rule_exactly}
 use Rattle.file_line.proofs.Order.{no_counts, no_weights, no_tokens, no_net, no_long, no_letters, formed_kind_lem, formed_01, formed_02, formed_03, formed_05, formed_06, formed_07, formed_row}
@@ -46,7 +48,7 @@ state phase places transitions next letters line =
 -- the frame f is taken at s with the rooms y, and leaves t and z
 pub record Takes (s : Reading) (y : Rooms) (f : List ℕ) (t : Reading) (z : Rooms) : Type 0 where
   pub rule : rule_of (digits_of f) ≡ true
-  pub judged : judge_of s (digits_of f) y ≡ Sound
+  pub judged : judge_of s (digits_of f) y ≡ Ok tt
   pub next : advanced s (digits_of f) ≡ t
   pub kept : stored s (digits_of f) y ≡ z
 
@@ -242,7 +244,7 @@ module _ (s : Reading) (y : Rooms) where
         record { rule = r.0; judged = (taken_exactly s row_digits y).1 asked; next = r.5; kept = r.4 }
 
     -- where the net hangs loose with the last row, its line is refused
-    pub loose_row : s.next + 1 ≡ s.transitions → (Wired (net_in s (rows_of s y a b)) → ⊥) → judge_of s row_digits y ≡ Faulty 17 (line_here s)
+    pub loose_row : s.next + 1 ≡ s.transitions → (Wired (net_in s (rows_of s y a b)) → ⊥) → judge_of s row_digits y ≡ Err (refusal 17 (line_here s))
     loose_row l loose =
         let r = row_formed in
         (wired_exactly s row_digits y (line_here s)).1 ((rule_exactly row_digits).0 r.0, r.1, r.2, r.3, l, λ w. loose (subst (λ (z : Rooms). Wired (net_in s z)) r.4 w), refl)
@@ -277,7 +279,7 @@ unfolding bytes_from
 kind_then d l = refl
 
 -- and no other line of its kind is
-module _ (s : Reading) (d : List ℕ) (y : Rooms) (j : judge_of s d y ≡ Sound) where
+module _ (s : Reading) (d : List ℕ) (y : Rooms) (j : judge_of s d y ≡ Ok tt) where
   asked : Taken s d y
   asked = (taken_exactly s d y).0 j
 

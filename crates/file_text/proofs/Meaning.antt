@@ -1,4 +1,6 @@
 -- Accepted exactly if the file is the frames of a net and word within the limits, and then net and word are those. Assumes nothing.
+use Rattle.std.specs.Prelude.{Ok, Err}
+use Rattle.refusals.specs.Given.{refusal, refused}
 use mathlib.Core.Path.{◌≡◌, refl, sym, ◌∙◌, ap}
 use mathlib.Core.Bool.{Bool, true, false, cond}
 use mathlib.Core.List.{List, [], ◌∷◌, ◌++◌}
@@ -20,17 +22,14 @@ use Rattle.net.specs.Net.{Net, net_of, Sized, Light}
 use Rattle.net.specs.Letter.{Small}
 use Rattle.wiring.specs.Wired.{Wired}
 use Rattle.refusals.specs.Given.{Fine}
-use Rattle.refusals.specs.declared.Fault.TheVariants.{Faulty}
 use Rattle.replay.specs.Entry.{Allowed}
 use Rattle.file_line.specs.declared.Reading.{Reading}
-use Rattle.file_line.specs.declared.Took.TheVariants as took
-use Rattle.file_line.specs.Read.{cell_limit, Rooms, rooms, fresh, net_in, judge_of, line_of}
+use Rattle.file_line.specs.declared.Rooms.{Rooms}
+use Rattle.file_line.specs.Read.{cell_limit, rooms, fresh, net_in, judge_of, line_of}
 use Rattle.file_line.specs.Walk.{Large}
 use Rattle.file_line.proofs.Order.{formed_07, formed_row}
 use Rattle.file_line.proofs.Meaning.{refused_line, judged_number, one_on_01, heavy_exactly, three_on_03, wired_exactly}
-use Rattle.file_parts.specs.declared.Case.{Case}
-use Rattle.file_parts.specs.declared.Case.TheVariants.{Whole, Refused}
-use Rattle.file_parts.specs.File.{Run, going, stopped, Both, both, read_of, finish_of, case_of}
+use Rattle.file_parts.specs.File.{Case, Run, going, stopped, Both, both, read_of, finish_of, case_of}
 use Rattle.file_text.specs.Text.{pockets_lines, pockets_count, letters_line, letters_lines, joined, file_of, Limited, Written, marking_in, word_in, end_of, filled, filed}
 use Rattle.file_digits.proofs.Bytes.{below_of, of_below, below_most}
 use Rattle.file_text.proofs.Fronts.{front_of, rest_of}
@@ -95,10 +94,10 @@ pub limited_allowed : (net : Net) (initial w room : List ℕ) → Limited net in
 limited_allowed net initial w room m h = record { sized = m.sized; light = m.weights; marked = m.marked; roomy = h; inside = refl; fine = m.fine; wired = m.wired; short = m.short; letters = m.letters }
 
 -- a whole file, by the state that it ends in
-whole_case : (r : Run) (s : Reading) → case_of r ≡ Whole s → (r ≡ going s []) × (s.phase ≡ 5)
+whole_case : (r : Run) (s : Reading) → case_of r ≡ Ok s → (r ≡ going s []) × (s.phase ≡ 5)
 unfolding case_of finish_of
 whole_case (going t []) s e = go (eqb t.phase 5) refl e where
-  go : (b : Bool) → eqb t.phase 5 ≡ b → cond b (Whole t) (Refused 12 (t.line + 1)) ≡ Whole s → (going t [] ≡ going s []) × (s.phase ≡ 5)
+  go : (b : Bool) → eqb t.phase 5 ≡ b → cond b (Ok t) (refused 12 (t.line + 1)) ≡ Ok s → (going t [] ≡ going s []) × (s.phase ≡ 5)
   go true q f = let i : t ≡ s = cc in (ap (λ (u : Reading). going u []) i, sym (ap (λ (u : Reading). u.phase) i) ∙ eqb-true _ _ q)
   go false q f = let z : ◌≡◌ {A = ℕ} 0 1 = cc in absurd (omega arith)
 whole_case (going t (b ∷ d)) s e = let z : ◌≡◌ {A = ℕ} 0 1 = cc in absurd (omega arith)
@@ -135,7 +134,7 @@ module _ (x : Rooms) (big : Large x) (net : Net) (initial w : List ℕ) (m : Lim
   )
 
   -- the file of a net, its marking and a word within the limits is accepted, and they stand in the rooms
-  pub file_read : (case_of (read_of x (file_of net initial w)).run ≡ Whole (end_of net w)) × ((read_of x (file_of net initial w)).rooms ≡ filled x net initial w)
+  pub file_read : (case_of (read_of x (file_of net initial w)).run ≡ Ok (end_of net w)) × ((read_of x (file_of net initial w)).rooms ≡ filled x net initial w)
   unfolding case_of finish_of
   file_read =
       let e = whole x big net initial w (listed net initial w m) in
@@ -143,14 +142,14 @@ module _ (x : Rooms) (big : Large x) (net : Net) (initial w : List ℕ) (m : Lim
 
 -- "refused .. in a file, on the line of the last transition": the file of a net that is within the limits but for a loose node, whatever its word is
 pub loose_refused : (x : Rooms) → Large x → (net : Net) (initial w : List ℕ) → Sized net → Light net → Small no_capacity net.caps → Bits net.marks → length initial ≡ net.places → Fine net.caps initial
-    → (Wired net → ⊥) → case_of (read_of x (file_of net initial w)).run ≡ Refused 17 (3 + pockets_count net.marks + net.transitions)
+    → (Wired net → ⊥) → case_of (read_of x (file_of net initial w)).run ≡ refused 17 (3 + pockets_count net.marks + net.transitions)
 unfolding case_of file_of
 loose_refused x big net initial w sized weights capacities bits marked fine loose =
     ap case_of (loose_read x big net initial (rowed_of net initial sized weights capacities bits marked fine) loose (joined (letters_line w) (letters_lines (length w))))
 
 -- the other way: an accepted file is the file of what stands in the rooms
 module _ (x : Rooms) (big : Large x) (file : List ℕ) where
-  found : (s : Reading) → case_of (read_of x file).run ≡ Whole s → Written file
+  found : (s : Reading) → case_of (read_of x file).run ≡ Ok s → Written file
   found s e = go (staged x big file s (read_of x file).rooms (read_taken x file s (read_of x file).rooms (ap (λ (r : Run). both r (read_of x file).rooms) (whole_case (read_of x file).run s e).0)))
     where
       early : {A : Type 0} (t : Reading) → s ≡ t → (t.phase ≡ 5 → ⊥) → A
@@ -164,11 +163,11 @@ module _ (x : Rooms) (big : Large x) (file : List ℕ) where
       go (lettered net initial w l a b f) = record { net = net; initial = initial; word = w; limited = limited net initial w l; text = f }
 
   -- net, marking and word are those of the file, whichever way they were found
-  pub those : (s : Reading) → case_of (read_of x file).run ≡ Whole s → (f : Written file)
+  pub those : (s : Reading) → case_of (read_of x file).run ≡ Ok s → (f : Written file)
       → (net_in s (read_of x file).rooms ≡ f.net) × (marking_in s (read_of x file).rooms ≡ f.initial) × (word_in s (read_of x file).rooms ≡ f.word)
   those s e f =
       let r = file_read x big f.net f.initial f.word f.limited in
-      let a : case_of (read_of x file).run ≡ Whole (end_of f.net f.word) = ap (λ (l : List ℕ). case_of (read_of x l).run) f.text ∙ r.0 in
+      let a : case_of (read_of x file).run ≡ Ok (end_of f.net f.word) = ap (λ (l : List ℕ). case_of (read_of x l).run) f.text ∙ r.0 in
       let y : (read_of x file).rooms ≡ filled x f.net f.initial f.word = ap (λ (l : List ℕ). (read_of x l).rooms) f.text ∙ r.1 in
       let i : s ≡ end_of f.net f.word = cc in (
         ap (λ (u : Reading). net_in u (read_of x file).rooms) i ∙ ap (net_in (end_of f.net f.word)) y ∙ filled_net x big f.net f.initial f.word f.limited,
@@ -176,7 +175,7 @@ module _ (x : Rooms) (big : Large x) (file : List ℕ) where
         ap (λ (u : Reading). word_in u (read_of x file).rooms) i ∙ ap (word_in (end_of f.net f.word)) y ∙ filled_word x big f.net f.initial f.word f.limited,
       )
 
-  pub read_file : (s : Reading) → case_of (read_of x file).run ≡ Whole s
+  pub read_file : (s : Reading) → case_of (read_of x file).run ≡ Ok s
       → (file ≡ file_of (net_in s (read_of x file).rooms) (marking_in s (read_of x file).rooms) (word_in s (read_of x file).rooms))
       × Limited (net_in s (read_of x file).rooms) (marking_in s (read_of x file).rooms) (word_in s (read_of x file).rooms)
   read_file s e =
@@ -185,19 +184,19 @@ module _ (x : Rooms) (big : Large x) (file : List ℕ) where
       rw (t.0, t.1, t.2) (f.text, f.limited)
 
   -- Accepted exactly if the file is the frames of a net and word within the limits
-  pub accepted_exactly : ((s : Reading) × (case_of (read_of x file).run ≡ Whole s)) ↔ Written file
+  pub accepted_exactly : ((s : Reading) × (case_of (read_of x file).run ≡ Ok s)) ↔ Written file
   accepted_exactly = (
     λ a. found a.0 a.1,
     λ f. (end_of f.net f.word, ap (λ (l : List ℕ). case_of (read_of x l).run) f.text ∙ (file_read x big f.net f.initial f.word f.limited).0),
   )
 
   -- every other file is refused, with one number and line
-  pub refused_otherwise : (Written file → ⊥) → (n : ℕ) × (l : ℕ) × (case_of (read_of x file).run ≡ Refused n l)
+  pub refused_otherwise : (Written file → ⊥) → (n : ℕ) × (l : ℕ) × (case_of (read_of x file).run ≡ refused n l)
   refused_otherwise no_net = go (case_of (read_of x file).run) refl
     where
-      go : (c : Case) → case_of (read_of x file).run ≡ c → (n : ℕ) × (l : ℕ) × (case_of (read_of x file).run ≡ Refused n l)
-      go (Whole s) e = absurd (no_net (found s e))
-      go (Refused n l) e = (n, l, e)
+      go : (c : Case) → case_of (read_of x file).run ≡ c → (n : ℕ) × (l : ℕ) × (case_of (read_of x file).run ≡ refused n l)
+      go (Ok s) e = absurd (no_net (found s e))
+      go (Err r) e = (r.number, r.at, e)
 
 pub one_answer : (x : Rooms) (file : List ℕ) (a b : Case) → case_of (read_of x file).run ≡ a → case_of (read_of x file).run ≡ b → a ≡ b
 one_answer x file a b p q = sym p ∙ q
@@ -250,26 +249,26 @@ module _ (x : Rooms) (big : Large x) (lines : List ℕ) (s : Reading) (y : Rooms
           })
       go (lettered net initial w l a b f) = by _ _ a b (none_of (λ q. omega arith) (λ q. omega arith) (λ q. omega arith) (λ q. omega arith))
 
-  pub one_on_line_1 : (at : ℕ) → judge_of s d y ≡ Faulty 1 at → line_of s d y ≡ took.Refused 1 1
+  pub one_on_line_1 : (at : ℕ) → judge_of s d y ≡ Err (refusal 1 at) → line_of s d y ≡ refused 1 1
   one_on_line_1 at e =
       let l : at ≡ 1 = let z = lines_so_far.first (one_on_01 s d y at e).0 in omega (arith, (judged_number s d y 1 at e).2) in
       (refused_line s d y 1 at e).0 ∙ rw l
 
-  pub three_on_line_3 : (at : ℕ) → judge_of s d y ≡ Faulty 3 at → ((s.phase ≡ 6) × (line_of s d y ≡ took.Refused 3 3)) ⊎ ((s.phase ≡ 3) × (line_of s d y ≡ took.Refused 3 4))
+  pub three_on_line_3 : (at : ℕ) → judge_of s d y ≡ Err (refusal 3 at) → ((s.phase ≡ 6) × (line_of s d y ≡ refused 3 3)) ⊎ ((s.phase ≡ 3) × (line_of s d y ≡ refused 3 4))
   three_on_line_3 at e =
       ⊎_elim
       (λ p. let l : at ≡ 3 = let z = lines_so_far.plain p in omega (arith, (judged_number s d y 3 at e).2) in inl (p, (refused_line s d y 3 at e).0 ∙ rw l))
       (λ p. let l : at ≡ 4 = let z = lines_so_far.pocketed p in omega (arith, (judged_number s d y 3 at e).2) in inr (p, (refused_line s d y 3 at e).0 ∙ rw l))
       (three_on_03 s d y at e).0
 
-  pub seventeen_on_last_row : (at : ℕ) → judge_of s d y ≡ Faulty 17 at → line_of s d y ≡ took.Refused 17 (3 + pockets_count (net_in s y).marks + s.transitions)
+  pub seventeen_on_last_row : (at : ℕ) → judge_of s d y ≡ Err (refusal 17 at) → line_of s d y ≡ refused 17 (3 + pockets_count (net_in s y).marks + s.transitions)
   seventeen_on_last_row at e =
       let w = (wired_exactly s d y at).0 e in
       let l : at ≡ 3 + pockets_count (net_in s y).marks + s.transitions = let z = lines_so_far.rows (formed_row s d w.1 w.3).0 in omega (arith, w.4, w.6) in
       (refused_line s d y 17 at e).0 ∙ rw l
 
   -- "in a file it falls on that 07": 18 on the line of the transition whose weight is over 4,095
-  pub eighteen_on_its_row : (at : ℕ) → judge_of s d y ≡ Faulty 18 at → line_of s d y ≡ took.Refused 18 (3 + pockets_count (net_in s y).marks + s.next + 1)
+  pub eighteen_on_its_row : (at : ℕ) → judge_of s d y ≡ Err (refusal 18 at) → line_of s d y ≡ refused 18 (3 + pockets_count (net_in s y).marks + s.next + 1)
   eighteen_on_its_row at e =
       let w = (heavy_exactly s d y at).0 e in
       let l : at ≡ 3 + pockets_count (net_in s y).marks + s.next + 1 = let z = lines_so_far.rows (formed_07 s d w.1 w.2).0 in omega (arith, w.4) in

@@ -1,4 +1,7 @@
 -- A refusal n on line l is one of: the earliest faulty line, a last line cut off, missing frames, exactly when, for the whole file. Assumes nothing.
+use Rattle.std.specs.Prelude.{Ok}
+use Rattle.refusals.specs.Given.{refused}
+use Rattle.refusals.proofs.Chains.{refused_one}
 use mathlib.Core.Path.{◌≡◌, refl, sym, ◌∙◌, ap}
 use mathlib.Core.Bool.{Bool, true, false, cond}
 use mathlib.Core.List.{List, [], ◌∷◌, append-nil}
@@ -10,10 +13,10 @@ use lib.ListN.{length}
 use borrow.Author.Tests.{eqb-false, ne_eqb}
 use Rattle.file_digits.specs.Frame.{line_limit}
 use Rattle.file_line.specs.declared.Reading.{Reading}
-use Rattle.file_line.specs.Read.{Rooms, line_here}
+use Rattle.file_line.specs.declared.Rooms.{Rooms}
+use Rattle.file_line.specs.Read.{line_here}
 use Rattle.file_line.specs.Walk.{Large}
 use Rattle.file_line.proofs.Meaning as line-meaning
-use Rattle.file_parts.specs.declared.Case.TheVariants.{Whole, Refused}
 use Rattle.file_parts.specs.File.{going, stopped, Both, read_of, finish_of, case_of}
 use Rattle.file_parts.specs.Held.{hold_of}
 use Rattle.file_text.specs.Refusal.{feeds, TakenLines, RefusedFile, faulty_line, cut_off, frames_missing, last_line}
@@ -21,17 +24,17 @@ use Rattle.file_text.proofs.Taken.{Cutting, at_fault, at-end, cutting, taken_rea
 use Rattle.file_text.proofs.Stage.{count_most, Stage, start, counted, capped, rowed, lettered, staged}
 
 -- the bytes after the last line feed, held or too many, are a line that lacks its own
-left_over : (t : Reading) (b : ℕ) (d : List ℕ) → case_of (hold_of t [] (b ∷ d)) ≡ Refused 11 (t.line + 1)
+left_over : (t : Reading) (b : ℕ) (d : List ℕ) → case_of (hold_of t [] (b ∷ d)) ≡ refused 11 (t.line + 1)
 unfolding case_of hold_of
 left_over t b d = go (leb (length {A = ℕ} [] + length (b ∷ d)) line_limit)
   where
-    go : (a : Bool) → case_of (cond a (going t (b ∷ d)) (stopped 11 (t.line + 1))) ≡ Refused 11 (t.line + 1)
+    go : (a : Bool) → case_of (cond a (going t (b ∷ d)) (stopped 11 (t.line + 1))) ≡ refused 11 (t.line + 1)
     go true = refl
     go false = refl
 
 module _ (x : Rooms) (file : List ℕ) (n l : ℕ) where
   -- each of the three is refused so
-  is_refused : RefusedFile x file n l → case_of (read_of x file).run ≡ Refused n l
+  is_refused : RefusedFile x file n l → case_of (read_of x file).run ≡ refused n l
   unfolding case_of finish_of
   is_refused (faulty_line lines line rest s y k e f j i) =
       ap (λ (b : Both). case_of b.run) (fault_read x file lines s y k line rest n l e f ((line-meaning.judged_exactly s line y n l).1 j))
@@ -41,18 +44,18 @@ module _ (x : Rooms) (file : List ℕ) (n l : ℕ) where
   is_refused (frames_missing s y k h p q) =
       ap (λ (w : Both). case_of w.run) (taken_read x file s y k) ∙ simp (ne_eqb _ _ h) (rw (p, q, line_number x file s y k))
 
-  same : (m at : ℕ) → Refused m at ≡ Refused n l → (n ≡ m) × (l ≡ at)
-  same m at e = (cc, cc)
+  same : (m at : ℕ) → refused {A = Reading} m at ≡ refused n l → (n ≡ m) × (l ≡ at)
+  same m at e = let z = refused_one m at n l e in (sym z.0, sym z.1)
 
   -- and a refused file is one of them, by what comes after the lines that are taken
-  refused_is : case_of (read_of x file).run ≡ Refused n l → RefusedFile x file n l
+  refused_is : case_of (read_of x file).run ≡ refused n l → RefusedFile x file n l
   unfolding case_of finish_of hold_of
   refused_is c = go (cutting x file)
     where
       number : (lines : List ℕ) (s : Reading) (y : Rooms) → TakenLines x lines s y → l ≡ line_here s → l ≡ feeds lines + 1
       number lines s y k i = i ∙ ap (λ (j : ℕ). j + 1) (line_number x lines s y k)
 
-      ends : (s : Reading) (y : Rooms) → TakenLines x file s y → (b : Bool) → eqb s.phase 5 ≡ b → cond b (Whole s) (Refused 12 (s.line + 1)) ≡ Refused n l → RefusedFile x file n l
+      ends : (s : Reading) (y : Rooms) → TakenLines x file s y → (b : Bool) → eqb s.phase 5 ≡ b → cond b (Ok s) (refused 12 (s.line + 1)) ≡ refused n l → RefusedFile x file n l
       ends s y k true h g = let z : ◌≡◌ {A = ℕ} 0 1 = cc in absurd (omega arith)
       ends s y k false h g = let i = same 12 (line_here s) g in frames_missing s y k (eqb-false _ _ h) i.0 (number file s y k i.1)
 
@@ -66,11 +69,11 @@ module _ (x : Rooms) (file : List ℕ) (n l : ℕ) where
           cut_off lines (b ∷ d) s y k e f (λ z. let o : ◌≡◌ {A = ℕ} 0 1 = cc in omega arith) i.0 (number lines s y k i.1)
       go (at-end lines [] s y k e f) =
           let g : TakenLines x file s y = rw (e, append-nil) k in
-          let a : finish_of s ≡ Refused n l = sym (ap (λ (u : Both). case_of u.run) (end_read x file lines s y k [] e f)) ∙ c in
+          let a : finish_of s ≡ refused n l = sym (ap (λ (u : Both). case_of u.run) (end_read x file lines s y k [] e f)) ∙ c in
           ends s y g (eqb s.phase 5) refl a
 
   -- "exactly when", for the whole file
-  pub refused_means : (case_of (read_of x file).run ≡ Refused n l) ↔ RefusedFile x file n l
+  pub refused_means : (case_of (read_of x file).run ≡ refused n l) ↔ RefusedFile x file n l
   refused_means = (refused_is, is_refused)
 
 -- however long a file is, it is refused at the latest on line 1,093, so that no line number comes near what four bytes hold

@@ -1,12 +1,12 @@
 -- The digits of a frame keep the rule of a line, and no line feed is among them. Assumes nothing.
 use mathlib.Core.Path.{◌≡◌, refl, sym, ◌∙◌, ap}
-use mathlib.Core.Bool.{Bool, true, false, cond, false≢true}
+use mathlib.Core.Bool.{Bool, true, false, ◌&&◌, cond, false≢true}
 use mathlib.Core.List.{List, [], ◌∷◌}
 use Prim.Native.Nat.{ℕ, suc, ◌*◌, ◌%◌, ◌≤◌}
 use native.Mathlib.Omega.{arith}
 use lib.Dec.{eqb}
 use lib.ListN.{length}
-use borrow.Author.Tests.{le-ltb, ne_eqb}
+use borrow.Author.Tests.{le-leb, eq-eqb, ne_eqb}
 use Rattle.file_digits.specs.Frame.{line_limit, line_feed, is_digit, all_digits}
 use Rattle.file_put.specs.Put.{digits_of}
 use Rattle.file_digits.proofs.Frames.{low}
@@ -22,7 +22,7 @@ no_feed (x ∷ d) t = go (is_digit x) refl t (λ u. no_feed d u) where
   plain : is_digit x ≡ true → x ≡ line_feed → ⊥
   plain p e = false≢true (sym (low x (omega arith)).1 ∙ p)
 
-  go : (a : Bool) → is_digit x ≡ a → cond a (all_digits d) false ≡ true → (all_digits d ≡ true → NoFeed d)
+  go : (a : Bool) → is_digit x ≡ a → (a && all_digits d) ≡ true → (all_digits d ≡ true → NoFeed d)
       → cond (eqb x line_feed) 0 (suc (line_len d)) ≡ suc (length d)
   go false p u r = absurd (false≢true u)
   go true p u r = simp (ne_eqb x line_feed (plain p)) (ap suc (r u))
@@ -33,8 +33,8 @@ unfolding rule_of
 rule_digits f w h k =
     let e = digits_long f in
     simp (
-      le-ltb (length (digits_of f)) 2 (omega arith),
-      le-ltb line_limit (length (digits_of f)) (omega arith),
-      ne_eqb (length (digits_of f) % 2) 1 (λ q. omega (arith, e)),
+      le-leb 2 (length (digits_of f)) (omega arith),
+      le-leb (length (digits_of f)) line_limit (omega arith),
+      eq-eqb (length (digits_of f) % 2) 0 (omega (arith, e)),
     )
     (digits_all f w)

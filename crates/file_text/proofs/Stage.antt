@@ -1,4 +1,5 @@
 -- A reading so far: its state, its rooms and the bytes read are those of the first lines of a file. Assumes nothing.
+use Rattle.std.specs.Prelude.{Ok}
 use mathlib.Core.Path.{◌≡◌, refl, sym, ◌∙◌, ap, subst}
 use mathlib.Core.Bool.{Bool, true, false, cond}
 use mathlib.Core.List.{List, [], ◌∷◌, ◌++◌, append_assoc, append-nil}
@@ -22,8 +23,8 @@ use Rattle.refusals.specs.Given.{Fine}
 use Rattle.file_row.specs.Row.{weight_bytes, takes_in, puts_in}
 use Rattle.file_row.proofs.Weights.{from_long}
 use Rattle.file_line.specs.declared.Reading.{Reading}
-use Rattle.refusals.specs.declared.Fault.TheVariants.{Sound}
-use Rattle.file_line.specs.Read.{cell_limit, Rooms, rooms, fresh, judge_of, letters_in, advanced, advanced_kind, stored, stored_kind, net_in}
+use Rattle.file_line.specs.declared.Rooms.{Rooms}
+use Rattle.file_line.specs.Read.{cell_limit, rooms, fresh, judge_of, letters_in, advanced, advanced_kind, stored, stored_kind, net_in}
 use Rattle.file_line.specs.Walk.{Large}
 use Rattle.file_line.proofs.Meaning.{taken_exactly}
 use Rattle.file_mask.specs.Mask.{Bits, mask_of, bits_of, mask_in, eight}
@@ -158,7 +159,7 @@ pub data Stage (x : Rooms) (s : Reading) (y : Rooms) (p : List ℕ) : Type 0 whe
 
 -- one line more, from each stage
 module _ (x : Rooms) (big : Large x) (d : List ℕ) where
-  step_start : judge_of fresh d x ≡ Sound → Stage x (advanced fresh d) (stored fresh d x) ([] ++ (d ++ (line_feed ∷ [])))
+  step_start : judge_of fresh d x ≡ Ok tt → Stage x (advanced fresh d) (stored fresh d x) ([] ++ (d ++ (line_feed ∷ [])))
   unfolding advanced_kind stored_kind
   step_start j =
       let e : byte_at d 0 ≡ 1 = kind_next fresh d x j (λ z. omega arith) (λ z. omega arith) in
@@ -166,7 +167,7 @@ module _ (x : Rooms) (big : Large x) (d : List ℕ) where
       counted (byte_at d 1) (byte_at d 2) c.1 c.2 c.3 c.4 (rw e) (rw e) (ap (λ (l : List ℕ). l ++ (line_feed ∷ [])) c.0)
 
   module _ (P T : ℕ) (a : 1 ≤ P) (b : P ≤ count_limit) (f : 1 ≤ T) (g : T ≤ count_limit) where
-    step_counted : judge_of (state 2 P T 0 0 1) d x ≡ Sound
+    step_counted : judge_of (state 2 P T 0 0 1) d x ≡ Ok tt
         → Stage x (advanced (state 2 P T 0 0 1) d) (stored (state 2 P T 0 0 1) d x) (counts_line P T ++ (d ++ (line_feed ∷ [])))
     unfolding advanced_kind stored_kind
     step_counted j =
@@ -178,7 +179,7 @@ module _ (x : Rooms) (big : Large x) (d : List ℕ) where
         ∙ sym (append-nil _) ∙ ap (λ (l : List ℕ). counts_line P T ++ caps_line (words_from d 1 P) ++ l) (sym (plain_lines (bits_of 0 P) z)))
 
     module _ (caps marks : List ℕ) (h : length caps ≡ P) (w : Below 65536 caps) (k : length marks ≡ P) (bits : Bits marks)
-        (j : judge_of (capped_state P T marks) d (capped_rooms x caps marks) ≡ Sound) where
+        (j : judge_of (capped_state P T marks) d (capped_rooms x caps marks) ≡ Ok tt) where
       -- a 03
       step_tokens : byte_at d 0 ≡ 3
           → Stage x (advanced (capped_state P T marks) d) (stored (capped_state P T marks) d (capped_rooms x caps marks))
@@ -247,7 +248,7 @@ module _ (x : Rooms) (big : Large x) (d : List ℕ) where
               step_tokens (kind_next (capped_state P T marks) d (capped_rooms x caps marks) j (λ o. omega arith) (λ o. omega arith) ∙ q)
 
   module _ (net : Net) (n : ℕ) (initial : List ℕ) (r : Rowed net n initial) (h : n < net.transitions) where
-    step_rowed : judge_of (state 4 net.places net.transitions n 0 (3 + pockets_count net.marks + n)) d (filled x net initial []) ≡ Sound
+    step_rowed : judge_of (state 4 net.places net.transitions n 0 (3 + pockets_count net.marks + n)) d (filled x net initial []) ≡ Ok tt
         → Stage x (advanced (state 4 net.places net.transitions n 0 (3 + pockets_count net.marks + n)) d) (stored (state 4 net.places net.transitions n 0 (3 + pockets_count net.marks + n)) d (filled x net initial []))
         (head net initial ++ joined (row_line net) n ++ (d ++ (line_feed ∷ [])))
     unfolding joined file_of
@@ -335,7 +336,7 @@ module _ (x : Rooms) (big : Large x) (d : List ℕ) where
           rowed more (suc n) initial grown (omega arith) (rw (m, l)) kept text
 
   module _ (net : Net) (initial w : List ℕ) (l : Listed net initial w) where
-    step_lettered : judge_of (end_of net w) d (filled x net initial w) ≡ Sound
+    step_lettered : judge_of (end_of net w) d (filled x net initial w) ≡ Ok tt
         → Stage x (advanced (end_of net w) d) (stored (end_of net w) d (filled x net initial w)) (file_of net initial w ++ (d ++ (line_feed ∷ [])))
     unfolding advanced_kind stored_kind joined file_of
     step_lettered j =
@@ -363,7 +364,7 @@ module _ (x : Rooms) (big : Large x) (d : List ℕ) where
         lettered net initial (w ++ v) (record { rowed = l.rowed; wired = l.wired; short = omega (arith, o, c.3); letters = below_append w v l.letters c.5 })
         (rw e st) (rw (e, kept)) (text ∙ rw i')
 
-  step : (s : Reading) (y : Rooms) (p : List ℕ) → Stage x s y p → judge_of s d y ≡ Sound → Stage x (advanced s d) (stored s d y) (p ++ (d ++ (line_feed ∷ [])))
+  step : (s : Reading) (y : Rooms) (p : List ℕ) → Stage x s y p → judge_of s d y ≡ Ok tt → Stage x (advanced s d) (stored s d y) (p ++ (d ++ (line_feed ∷ [])))
   step s y p (start es ey ep) j = rw (es, ey, ep) (step_start (rw (es, ey) at j))
   step s y p (counted P T a b f g es ey ep) j = rw (es, ey, ep) (step_counted P T a b f g (rw (es, ey) at j))
   step s y p (capped P T caps marks a b f g h w k bits es ey ep) j = rw (es, ey, ep) (step_capped P T a b f g caps marks h w k bits (rw (es, ey) at j))

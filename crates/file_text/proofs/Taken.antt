@@ -1,4 +1,6 @@
 -- The lines of a file that are taken, and what comes after the last of them; the fold over its bytes, by that. Assumes nothing.
+use Rattle.std.specs.Prelude.{Ok, Err}
+use Rattle.refusals.specs.Given.{Fault, refusal}
 use mathlib.Core.Path.{◌≡◌, refl, sym, ◌∙◌, ap}
 use mathlib.Core.Bool.{Bool, true, false, cond}
 use mathlib.Core.List.{List, [], ◌∷◌, ◌++◌, append_assoc, append-nil}
@@ -7,11 +9,10 @@ use native.Mathlib.Omega.{arith}
 use lib.Dec.{eqb, leb}
 use lib.ListN.{length}
 use borrow.Author.Tests.{eqb-true, eqb-false, ne_eqb}
-use Rattle.refusals.specs.declared.Fault.{Fault}
-use Rattle.refusals.specs.declared.Fault.TheVariants.{Sound, Faulty}
 use Rattle.file_digits.specs.Frame.{line_limit, line_feed}
 use Rattle.file_line.specs.declared.Reading.{Reading}
-use Rattle.file_line.specs.Read.{Rooms, fresh, judge_of, advanced, stored, rooms_of}
+use Rattle.file_line.specs.declared.Rooms.{Rooms}
+use Rattle.file_line.specs.Read.{fresh, judge_of, advanced, stored, rooms_of}
 use Rattle.file_line.proofs.Meaning as line-meaning
 use Rattle.file_parts.specs.File.{going, stopped, Both, both, feed_all, read_of, line_len, NoFeed}
 use Rattle.file_parts.specs.Held.{hold_of}
@@ -36,7 +37,7 @@ nofeed_one b n = simp (ne_eqb b line_feed n)
 -- after the lines that are taken stands a faulty line, or bytes that no line feed ends: none, where the file ends with its last line
 pub data Cutting (x : Rooms) (file : List ℕ) : Type 0 where
   at_fault : (lines line rest : List ℕ) (s : Reading) (y : Rooms) (n l : ℕ) → TakenLines x lines s y → file ≡ lines ++ (line ++ (line_feed ∷ rest)) → NoFeed line
-      → judge_of s line y ≡ Faulty n l → Cutting x file
+      → judge_of s line y ≡ Err (refusal n l) → Cutting x file
   at-end : (lines line : List ℕ) (s : Reading) (y : Rooms) → TakenLines x lines s y → file ≡ lines ++ line → NoFeed line → Cutting x file
 
 -- byte by byte, after the lines q and the bytes d of the next
@@ -49,10 +50,10 @@ cuts x (b ∷ bs) s y q d k f = go (eqb b line_feed) refl (λ s y q d k f. cuts 
     Rec = (s : Reading) (y : Rooms) (q d : List ℕ) → TakenLines x q s y → NoFeed d → Cutting x (q ++ (d ++ bs))
 
     line : b ≡ line_feed → (v : Fault) → judge_of s d y ≡ v → Rec → Cutting x (q ++ (d ++ (b ∷ bs)))
-    line h Sound o rec =
+    line h (Ok _) o rec =
         let c = rec (advanced s d) (stored s d y) (q ++ (d ++ (line_feed ∷ []))) [] (one_more q d s y k f ((line-meaning.taken_exactly s d y).0 o)) refl in
         rw h (rw (append_assoc q (d ++ (line_feed ∷ [])) bs, append_assoc d (line_feed ∷ []) bs) at c)
-    line h (Faulty n at) o rec = at_fault q d bs s y n at k (ap (λ (c : ℕ). q ++ (d ++ (c ∷ bs))) h) f o
+    line h (Err r) o rec = at_fault q d bs s y r.number r.at k (ap (λ (c : ℕ). q ++ (d ++ (c ∷ bs))) h) f o
 
     go : (a : Bool) → eqb b line_feed ≡ a → Rec → Cutting x (q ++ (d ++ (b ∷ bs)))
     go true h rec = line (eqb-true _ _ h) (judge_of s d y) refl rec
@@ -67,7 +68,7 @@ pub taken_read : (x : Rooms) (lines : List ℕ) (s : Reading) (y : Rooms) → Ta
 unfolding feed_all
 taken_read x lines s y no_line = refl
 taken_read x lines s y (one_more before line t z k h m) =
-    let j : judge_of t line z ≡ Sound = (line-meaning.taken_exactly t line z).1 m in
+    let j : judge_of t line z ≡ Ok tt = (line-meaning.taken_exactly t line z).1 m in
     let l = line-meaning.taken_line t line z j in
     all_append (both (going fresh []) x) before (line ++ (line_feed ∷ []))
     ∙ ap (λ (u : Both). feed_all u (line ++ (line_feed ∷ []))) (taken_read x before t z k)
@@ -84,7 +85,7 @@ module _ (x : Rooms) (file lines : List ℕ) (s : Reading) (y : Rooms) (k : Take
   then_reads rest e =
       ap (read_of x) e ∙ all_append (both (going fresh []) x) lines rest ∙ ap (λ (z : Both). feed_all z rest) (taken_read x lines s y k)
 
-  pub fault_read : (line rest : List ℕ) (n l : ℕ) → file ≡ lines ++ (line ++ (line_feed ∷ rest)) → NoFeed line → judge_of s line y ≡ Faulty n l → read_of x file ≡ both (stopped n l) (rooms_of s line y)
+  pub fault_read : (line rest : List ℕ) (n l : ℕ) → file ≡ lines ++ (line ++ (line_feed ∷ rest)) → NoFeed line → judge_of s line y ≡ Err (refusal n l) → read_of x file ≡ both (stopped n l) (rooms_of s line y)
   fault_read line rest n l e f j =
       let r = line-meaning.refused_line s line y n l j in
       then_reads (line ++ (line_feed ∷ rest)) e ∙ refused_line s y line rest f n l (sym r.0)

@@ -21,7 +21,8 @@ use Rattle.wiring.specs.Wired.{Wired}
 use Rattle.refusals.specs.Given.{Fine}
 use Rattle.file_row.specs.Row.{row_frame}
 use Rattle.file_line.specs.declared.Reading.{Reading}
-use Rattle.file_line.specs.Read.{Rooms, rooms, fresh, net_in, line_here}
+use Rattle.file_line.specs.declared.Rooms.{Rooms}
+use Rattle.file_line.specs.Read.{rooms, fresh, net_in, line_here}
 use Rattle.file_line.specs.Walk.{Large}
 use Rattle.file_line.proofs.Digits.{rule_all}
 use Rattle.file_line.proofs.Meaning as line-meaning

@@ -3,7 +3,8 @@ use Rattle.std.specs.Prelude.{ℕ, ◌+◌, ◌≡◌, cond, List, [], ◌∷◌
 use Rattle.ground.specs.Limits.{count_limit, word_limit}
 use Rattle.file_digits.specs.Frame.{line_feed}
 use Rattle.file_line.specs.declared.Reading.{Reading}
-use Rattle.file_line.specs.Read.{Rooms, fresh, advanced, stored}
+use Rattle.file_line.specs.declared.Rooms.{Rooms}
+use Rattle.file_line.specs.Read.{fresh, advanced, stored}
 use Rattle.file_line.specs.Line.{Taken, Judged}
 use Rattle.file_parts.specs.File.{NoFeed}
 use Rattle.file_text.specs.Text.{letters_lines}

@@ -12,7 +12,8 @@ use Rattle.net.specs.Marks.{remarked}
 use Rattle.wiring.specs.Wired.{Wired}
 use Rattle.refusals.specs.Given.{Fine, Letters}
 use Rattle.file_line.specs.declared.Reading.{Reading}
-use Rattle.file_line.specs.Read.{Rooms, rooms}
+use Rattle.file_line.specs.declared.Rooms.{Rooms}
+use Rattle.file_line.specs.Read.{rooms}
 
 -- "01 P T."
 abbrev pub counts_line : ℕ → ℕ → List ℕ

@@ -1,15 +1,13 @@
 -- To be believed: a net, its initial marking and a word written as a case file into lent room (document 02, E1); refusals 1 to 5, 17 and 18, "14, .. checked last".
-use Rattle.std.specs.Prelude.{ℕ, ◌≤◌, ◌≡◌, List, [], ◌∷◌, length, ltb}
+use Rattle.std.specs.Prelude.{Ok, Err}
+use Rattle.refusals.specs.Given.{Answer, Fault}
+use Rattle.std.specs.Prelude.{ℕ, ◌≤◌, ◌≡◌, List, length, ltb}
 use Rattle.std.proofs.lemmas.List.Edits.{sets}
 use Rattle.net.specs.Net.{Net}
 use Rattle.refusals.specs.Given.{refuse, or_else}
 use Rattle.refusals.specs.First.{First, Given}
-use Rattle.refusals.specs.declared.Fault.{Fault}
-use Rattle.refusals.specs.declared.Fault.TheVariants.{Sound, Faulty}
 use Rattle.file_text.specs.Text.{file_of}
-use Rattle.file_write.specs.Told.{text_fault, Writable, TextFirst}
-use Rattle.file_write.specs.declared.WriteCase.{WriteCase}
-use Rattle.file_write.specs.declared.WriteCase.TheVariants.{Written, Refused}
+use Rattle.file_write.specs.Told.{text_fault, numbers, Writable, TextFirst}
 
 -- 14: "room shorter than the exact length", n; position 0
 unfoldable pub room_fault : ℕ → ℕ → Fault
@@ -21,24 +19,19 @@ write_fault net initial w room = or_else (text_fault net initial w) (room_fault 
 
 -- an answer, and the room left
 pub record Wrote : Type 0 where
-  pub answer : WriteCase
+  pub answer : Answer ℕ
   pub left : List ℕ
 
 -- the file at the front of the room: "Room past the end isn't touched"; "A refusal leaves lent memory as found."
 abbrev pub answered : Fault → List ℕ → List ℕ → Wrote
-answered Sound file room = record { answer = Written (length file); left = sets room 0 file }
-answered (Faulty n at) file room = record { answer = Refused n at; left = room }
+answered (Ok _) file room = record { answer = Ok (length file); left = sets room 0 file }
+answered (Err r) file room = record { answer = Err r; left = room }
 
 abbrev pub write_of : Net → List ℕ → List ℕ → List ℕ → Wrote
 write_of net initial w room = answered (write_fault net initial w (length room)) (file_of net initial w) room
 
--- numbers for each case: 81 00 and the length; 82, a refusal's number and position
-abbrev pub numbers : WriteCase → List ℕ
-numbers (Written n) = 0x81 ∷ 0 ∷ n ∷ []
-numbers (Refused n at) = 0x82 ∷ n ∷ at ∷ []
-
 -- what `write_case` promises of its answer r and of the room at its end
-pub record CaseWritten (net : Net) (initial w room : List ℕ) (r : WriteCase) (room' : List ℕ) : Type 0 where
+pub record CaseWritten (net : Net) (initial w room : List ℕ) (r : Answer ℕ) (room' : List ℕ) : Type 0 where
   pub answer : numbers r ≡ numbers (write_of net initial w room).answer
   pub left : room' ≡ (write_of net initial w room).left
 

@@ -51,10 +51,10 @@ module _ {A : Type 0} (d : A) (g : ℕ → A → A) where
         rest = λ k b. get_or-set_other l i k v d (λ q. omega arith) ∙ f.rest k (omega arith);
       }
 
-  pub fill_end : (l₀ : List A) (i : ℕ) (l : List A) → Filled d g l₀ i l → length l ≤ i → l ≡ map_at g l₀
+  pub fill_end : (l₀ : List A) (i : ℕ) (l : List A) → Filled d g l₀ i l → length l₀ ≤ i → l ≡ map_at g l₀
   fill_end l₀ i l f h =
       ext_get_or d l (map_at g l₀) (f.long ∙ sym (map_at_length g l₀))
-      (λ k b. f.done k (omega arith) ∙ sym (map_at_at g l₀ k d d (rw f.long at b)))
+      (λ k b. f.done k (omega (arith, f.long)) ∙ sym (map_at_at g l₀ k d d (rw f.long at b)))
 
   -- the entry that such a loop has come to
   pub fill_here : (l₀ : List A) (i : ℕ) (l : List A) → Filled d g l₀ i l → get_or l i d ≡ get_or l₀ i d
@@ -73,10 +73,10 @@ module _ {A : Type 0} (d : A) (f : ℕ → A) where
   pub make_next : (l₀ : List A) (i : ℕ) (l : List A) (v : A) → Made d f l₀ i l → i < length l → v ≡ f i → Made d f l₀ (i + 1) (set l i v)
   make_next l₀ i l v m h e = record { filled = fill_next d (λ k x. f k) l₀ i l v m.filled h e }
 
-  pub make_end : (l₀ : List A) (i : ℕ) (l : List A) → Made d f l₀ i l → length l ≤ i → l ≡ table f (length l₀)
+  pub make_end : (l₀ : List A) (i : ℕ) (l : List A) → Made d f l₀ i l → length l₀ ≤ i → l ≡ table f (length l₀)
   make_end l₀ i l m h =
       ext_get_or d l (table f (length l₀)) (m.filled.long ∙ sym (table_length f (length l₀)))
-      (λ k b. m.filled.done k (omega arith) ∙ sym (table_at f (length l₀) k d (rw m.filled.long at b)))
+      (λ k b. m.filled.done k (omega (arith, m.filled.long)) ∙ sym (table_at f (length l₀) k d (rw m.filled.long at b)))
 
 pub ruleset makes = (make_start, make_next, make_end)
 

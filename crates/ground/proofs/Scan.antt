@@ -6,12 +6,14 @@ use native.Mathlib.Omega.{arith}
 use native.Mathlib.Decide.{dec_lt}
 use native.Mathlib.Numerals.{add-one}
 use native.Mathlib.Nat.{not-suc-le-zero, le_of_suc-le-suc}
+use Rattle.std.specs.Prelude.{Some, None}
 use lib.Dec.{eqb}
+use borrow.Author.Tests.{lt-ltb, le-ltb}
 use mir.Syntax.{w32}
 use mir.Val.{Fits}
 use borrow.Author.Count.{below_more}
 use Rattle.ground.specs.Limits.{count_limit}
-use Rattle.ground.specs.Lists.{first, bit, tally}
+use Rattle.ground.specs.Lists.{first, found, bit, tally}
 use Rattle.ground.proofs.Tests.{never}
 
 pub first-at : (f : ℕ → Bool) (n i : ℕ) → ((k : ℕ) → k < i → f k ≡ false) → f i ≡ true → i < n → first f n ≡ i
@@ -83,7 +85,29 @@ scan_next f i r lo e t = record { none = below_more (λ k. f k ≡ false) i lo.n
 pub scan_end : (f : ℕ → Bool) (n i : ℕ) → Below f i → i ≤ n → n ≤ i → i ≡ first f n
 scan_end f n i lo h l = let e : i ≡ n = omega arith in e ∙ sym (first_none f n (rw e at lo.none))
 
-pub ruleset scans = (scan_start, scan_hit, scan_next, scan_end)
+-- ... and where the scan answers what it found
+pub scan_some : (f : ℕ → Bool) (n i : ℕ) (r : Bool) → Below f i → r ≡ f i → r ≡ true → i < n → Some i ≡ found n (first f n)
+scan_some f n i r lo e t h = rw (← scan_hit f n i r lo e t h, lt-ltb i n h)
+
+pub scan_none : (f : ℕ → Bool) (n i : ℕ) → Below f i → i ≤ n → n ≤ i → None ≡ found n (first f n)
+scan_none f n i lo h l = rw (← scan_end f n i lo h l, le-ltb i n l)
+
+-- what is found is the first number that passes, and none is found where none is below the limit
+pub found_first : (n k i : ℕ) → Some i ≡ found n k → (i ≡ k) × (k < n)
+found_first n k i e = go (dec_lt k n)
+  where
+    go : Dec (k < n) → (i ≡ k) × (k < n)
+    go (yes h) = let q : Some i ≡ Some k = rw (lt-ltb k n h) at e in ((cc), h)
+    go (no h) = let q : Some i ≡ None = rw (le-ltb k n (omega arith)) at e in absurd (cc)
+
+pub found_none : (n k : ℕ) → None ≡ found n k → n ≤ k
+found_none n k e = go (dec_lt k n)
+  where
+    go : Dec (k < n) → n ≤ k
+    go (yes h) = let q : None ≡ Some k = rw (lt-ltb k n h) at e in absurd (cc)
+    go (no h) = omega arith
+
+pub ruleset scans = (scan_start, scan_hit, scan_next, scan_end, scan_some, scan_none)
 
 -- a count's turns
 pub tally_start : (f : ℕ → Bool) → 0 ≡ tally f 0

@@ -1,10 +1,14 @@
 -- To be believed: the least number that passes a test, how many do, the largest value; a list changed entry by entry, and a list made by number.
-use Rattle.std.specs.Prelude.{ℕ, zero, suc, ◌+◌, max, Bool, true, false, cond, List, [], ◌∷◌}
+use Rattle.std.specs.Prelude.{ℕ, zero, suc, ◌+◌, max, Bool, true, false, cond, List, [], ◌∷◌, ltb, Option, Some, None}
 
 -- the least k < n with `f k`, or n where there is none
 unfoldable pub first : (ℕ → Bool) → ℕ → ℕ
 first f zero = zero
 first f (suc n) = cond (f zero) zero (suc (first (λ k. f (suc k)) n))
+
+-- a number that is found where it is below n, as `first f n` is where some number passes
+abbrev pub found : ℕ → ℕ → Option ℕ
+found n k = cond (ltb k n) (Some k) None
 
 -- 1 for yes, 0 for no
 abbrev pub bit : Bool → ℕ

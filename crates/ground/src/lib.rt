@@ -43,7 +43,7 @@ pub fn up_part(x: i32) -> u32
 pub fn down_part(x: i32) -> u32
     ensures { result ≡ dn x }
 {
-    if x < 0 { ((!x) as u32) + 1 } else { 0 }
+    if x < 0 { x.unsigned_abs() } else { 0 }
 }
 
 // The difference of two numbers, signed.
@@ -58,12 +58,12 @@ pub fn less(gained: u32, lost: u32) -> i32
 pub fn up_entry(y: i16) -> u32
     ensures { (result ≡ up y) × (result ≤ entry_limit) }
 {
-    if y < 0 { 0 } else { y as u32 }
+    up_part(i32::from(y))
 }
 
 // Minus an entry of a weighting where it is negative, else 0.
 pub fn down_entry(y: i16) -> u32
     ensures { (result ≡ dn y) × (result ≤ entry_limit) }
 {
-    if y < 0 { ((!y) as u32) + 1 } else { 0 }
+    down_part(i32::from(y))
 }

@@ -2,7 +2,7 @@
 use Prim.Native.Nat.{ℕ}
 use mathlib.Core.Path.{◌≡◌}
 use mathlib.Core.List.{List}
-use Rattle.file_line.specs.Read.{Rooms}
+use Rattle.file_line.specs.declared.Rooms.{Rooms}
 use Rattle.file_parts.specs.File.{case_of}
 use Rattle.file_reads.specs.declared.Input.TheVariants.{Failed}
 use Rattle.file_reads.specs.Reads.{State, unread, InputRead}

@@ -6,7 +6,7 @@ use mathlib.Core.List.{List, [], ◌∷◌, ◌++◌}
 use lib.ListN.{length}
 use lib.Seq.{sets}
 use lib.IntN.{pos, negsuc}
-use Rattle.file_line.specs.Read.{Rooms}
+use Rattle.file_line.specs.declared.Rooms.{Rooms}
 use Rattle.file_parts.specs.File.{Run, stopped, Both, both, read_of, case_of}
 use Rattle.file_reads.specs.declared.Input.TheVariants.{Over, Failed}
 use Rattle.file_reads.specs.Reads.{Read, State, unread, AllMore, bytes_in, read_limit, InputEnds}

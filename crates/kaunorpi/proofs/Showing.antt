@@ -7,11 +7,11 @@ use lib.ListN.{length, get_or, set, take}
 use lib.Seq.{sets}
 use Rattle.std.specs.Prelude.{Result, Ok, Err, is_ok, OnOk}
 use Rattle.file_put.specs.Put.{digit_of, digits_of, line_text}
-use Rattle.file_line.specs.Read.{Rooms}
-use Rattle.file_parts.specs.declared.Case.{Case}
-use Rattle.file_parts.specs.declared.Case.TheVariants as file
+use Rattle.file_line.specs.declared.Rooms.{Rooms}
+use Rattle.refusals.specs.Given.{Answer}
+use Rattle.file_parts.specs.File.{Case}
 use Rattle.plays.specs.declared.Replay.{Replay}
-use Rattle.plays.specs.declared.Replay.TheVariants.{Fired, Blocked, Refused}
+use Rattle.plays.specs.declared.Replay.TheVariants.{Fired, Blocked}
 use Rattle.file_parts.proofs.Buffer.{front}
 use Rattle.verdict_text.specs.Verdict.{bytes_of, WrittenBytes}
 use Rattle.verdict_line.specs.Answer.{ran_read, line_for}
@@ -21,15 +21,15 @@ pub record Eight (line : List ℕ) : Type 0 where
   pub rest : List ℕ
   pub begins : line ≡ 56 ∷ rest
 
-eight : (a : Replay) (left : List ℕ) → Eight (line_text (bytes_of a left))
+eight : (a : Answer Replay) (left : List ℕ) → Eight (line_text (bytes_of a left))
 unfolding digits_of digit_of
-eight (Fired n) left = record { rest = _; begins = refl }
-eight (Blocked i why) left = record { rest = _; begins = refl }
-eight (Refused n at) left = record { rest = _; begins = refl }
+eight (Ok (Fired n)) left = record { rest = _; begins = refl }
+eight (Ok (Blocked i why)) left = record { rest = _; begins = refl }
+eight (Err r) left = record { rest = _; begins = refl }
 
 pub line_eight : (c : Case) (y : Rooms) → Eight (line_for c y)
-line_eight (file.Whole s) y = eight (ran_read s y).answer (ran_read s y).left
-line_eight (file.Refused n l) y = eight (Refused n l) []
+line_eight (Ok s) y = eight (ran_read s y).answer (ran_read s y).left
+line_eight (Err r) y = eight (Err r) []
 
 -- what stands before the first store is kept
 sets_after : (vs l : List ℕ) (i b : ℕ) → sets (b ∷ l) (suc i) vs ≡ b ∷ sets l i vs

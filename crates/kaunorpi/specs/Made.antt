@@ -3,7 +3,7 @@
 use Rattle.std.specs.Prelude.{ℕ, ◌≡◌, List, Option}
 use Rattle.std.specs.Io.KnownBytes.{Appends}
 use Rattle.file_put.specs.Put.{line_text}
-use Rattle.file_line.specs.Read.{Rooms}
+use Rattle.file_line.specs.declared.Rooms.{Rooms}
 use Rattle.file_parts.specs.File.{case_of}
 use Rattle.file_reads.specs.declared.Input.TheVariants.{Over, Failed}
 use Rattle.file_reads.specs.Reads.{State, unread, InputRead}

@@ -6,8 +6,6 @@
 ghost use Rattle.std.specs.Prelude.{◌≤◌, length, OnOk};
 ghost use Rattle.std.specs.Io.KnownBytes.{Appends};
 ghost use Rattle.file_put.specs.Put.{line_text};
-ghost use Rattle.file_line.specs.Read.{rooms};
-ghost use Rattle.file_line.specs.Walk.{Large};
 ghost use Rattle.file_parts.specs.File.{case_of};
 ghost use Rattle.file_parts.specs.Held.{abs, Sound};
 ghost use Rattle.verdict_text.specs.Verdict.{answer_limit};
@@ -15,80 +13,51 @@ ghost use Rattle.verdict_line.specs.Answer.{answer_for};
 ghost use Rattle.kaunorpi.specs.Made.{Shown, Made, Answered};
 
 use file_input::{Failure, Source};
-use file_line::{CELL_LIMIT, Reading};
+use file_line::{Reading, Rooms};
 use file_parts::Held;
 use file_reads::Input;
-use ground::{COUNT_LIMIT, WORD_LIMIT, Weight};
 use std::io::{Read, Write};
 use std::process::ExitCode;
 use verdict_text::ANSWER_LIMIT;
 
 // The line is made in the room out, and written. Where the write fails the line stands in the room all the same.
-fn show<W: Write>(
-    output: &mut W,
-    h: Held,
-    caps: &[u16],
-    marks: &[u8],
-    initial: &[u16],
-    pre: &[Weight],
-    post: &[Weight],
-    word: &[u8],
-    out: &mut [u8],
-) -> Result<(), Failure>
-    requires { (Sound h) × (Large (rooms caps.now marks.now initial.now pre.now post.now word.now)) × (answer_limit ≤ length out.old) }
-    ensures shown { Shown out.old (answer_for (case_of (abs h)) (rooms caps.now marks.now initial.now pre.now post.now word.now)) out.new }
-    ensures written { OnOk result (Appends (W.contents output.old) (W.contents output.new)
-        (line_text (answer_for (case_of (abs h)) (rooms caps.now marks.now initial.now pre.now post.now word.now)))) }
+fn show<W: Write>(output: &mut W, h: Held, rooms: &Rooms, out: &mut [u8]) -> Result<(), Failure>
+    requires { (Sound h) × (answer_limit ≤ length out.old) }
+    ensures shown { Shown out.old (answer_for (case_of (abs h)) rooms.now) out.new }
+    ensures written { OnOk result (Appends (W.contents output.old) (W.contents output.new) (line_text (answer_for (case_of (abs h)) rooms.now))) }
 {
-    let n = verdict_line::answer_line(h, caps, marks, initial, pre, post, word, out);
+    let n = verdict_line::answer_line(h, rooms, out);
     output.write_all(&out[..n]).map_err(Failure::Output)
 }
 
-// The whole program, over rooms that are large enough for any file and for any line.
+// The whole program, over rooms for any file and a room that is large enough for any line.
 fn answer<R: Read + Drop, W: Write>(
     source: &mut Source<R>,
     output: &mut W,
-    caps: &mut [u16],
-    marks: &mut [u8],
-    initial: &mut [u16],
-    pre: &mut [Weight],
-    post: &mut [Weight],
-    word: &mut [u8],
+    rooms: &mut Rooms,
     out: &mut [u8],
 ) -> Result<(), Failure>
-    requires { (Large (rooms caps.old marks.old initial.old pre.old post.old word.old)) × (answer_limit ≤ length out.old) }
-    ensures made { Made (rooms caps.old marks.old initial.old pre.old post.old word.old) out.old out.new }
-    ensures ok { OnOk result (Answered (rooms caps.old marks.old initial.old pre.old post.old word.old) out.old out.new
-        (W.contents output.old) (W.contents output.new)) }
+    requires { answer_limit ≤ length out.old }
+    ensures made { Made rooms.old out.old out.new }
+    ensures ok { OnOk result (Answered rooms.old out.old out.new (W.contents output.old) (W.contents output.new)) }
 {
     let s = Reading::new();
     let h = file_parts::cleared(s);
-    let f = file_input::read_all(source, h, caps, marks, initial, pre, post, word);
-    let input = f.input;
-    match input {
+    let f = file_input::read_all(source, h, rooms);
+    match f.input {
         Input::Failed => Err(source.failure()),
-        _ => show(output, f.held, caps, marks, initial, pre, post, word, out),
+        _ => show(output, f.held, rooms, out),
     }
 }
 
 // Makes the rooms of the largest sizes; the rest is done in rooms that are lent. A failure is told, and is the exit status.
 fn main(rt: HostRuntime) -> ExitCode {
-    let mut caps = [0u16; COUNT_LIMIT];
-    let mut marks = [0u8; COUNT_LIMIT];
-    let mut initial = [0u16; COUNT_LIMIT];
-    let mut pre: [Weight; CELL_LIMIT] = [0; CELL_LIMIT];
-    let mut post: [Weight; CELL_LIMIT] = [0; CELL_LIMIT];
-    let mut word = [0u8; WORD_LIMIT];
+    let mut rooms = Rooms::new();
     let mut out = [0u8; ANSWER_LIMIT];
     let ended = answer(
         &mut Source::new(rt.stdin()),
         &mut rt.stdout(),
-        &mut caps,
-        &mut marks,
-        &mut initial,
-        &mut pre,
-        &mut post,
-        &mut word,
+        &mut rooms,
         &mut out,
     );
     file_input::status_of(&rt, ended)

@@ -1,5 +1,5 @@
 -- Laws of a transition judged by its arcs: a place without one does not stop it, and a pass over the others tells what a pass over all would. Assumes nothing.
-use Prim.Native.Nat.{ℕ, ◌+◌, ◌-◌, ◌*◌, ◌≤◌, ◌<◌}
+use Prim.Native.Nat.{ℕ, ◌+◌, ◌≤◌, ◌<◌}
 use mathlib.Core.Path.{◌≡◌, refl, sym, ◌∙◌}
 use mathlib.Core.Bool.{Bool, true, false, ◌&&◌, ◌||◌}
 use mathlib.Core.List.{List}
@@ -12,11 +12,10 @@ use Rattle.ground.specs.Limits.{no_capacity}
 use Rattle.ground.specs.Lists.{tally}
 use Rattle.ground.proofs.Tests.{never, both_false}
 use Rattle.ground.proofs.Scan.{none_of, tally_none}
-use Rattle.net.specs.Net.{Net, leaves_first, Sized}
+use Rattle.net.specs.Net.{Net, leaves_first}
 use Rattle.net.specs.Letter.{short_at, over_at, arcs_at, stops, passes}
-use Rattle.net.proofs.Rows.{row_at, pre_end}
-use Rattle.list_arcs.specs.Arc.{Skips, Within}
-use Rattle.list_arcs.proofs.Nexts.{Next, next_is}
+use Rattle.net.proofs.Rows.{row_at}
+use Rattle.list_arcs.specs.Arc.{Next, Within}
 
 pub and-false : (a b : Bool) → b ≡ false → (a && b) ≡ false
 and-false true b e = e
@@ -31,9 +30,6 @@ bare_passes takes puts cap mark tokens e f h =
 -- nothing from i on, of n, passes the test: what a pass from the last place down knows at i
 pub record Above (f : ℕ → Bool) (i n : ℕ) : Type 0 where
   pub none : (k : ℕ) → i ≤ k → k < n → f k ≡ false
-
-above_start : (f : ℕ → Bool) (n : ℕ) → Above f n n
-above_start f n = record { none = λ k h l. absurd (omega arith) }
 
 above_next : (f : ℕ → Bool) (p q n : ℕ) → Above f p n → ((j : ℕ) → q < j → j < p → f j ≡ false) → f q ≡ false → Above f q n
 above_next f p q n hi between here = record { none = λ k h l. go k h l (dec_le p k) (dec_lt q k) }
@@ -54,31 +50,20 @@ seen_counts f n q e h = go (eqb (tally f n) 0) refl
 none_counts : (f : ℕ → Bool) (n p : ℕ) → Above f p n → p ≤ 0 → true ≡ eqb (tally f n) 0
 none_counts f n p hi h = sym (eq-eqb (tally f n) 0 (tally_none f n (record { none = λ k l. hi.none k (omega arith) l })))
 
-module _ (net : Net) (skips m : List ℕ) (t : ℕ) (sized : Sized net) (sk : Skips net.places net.pre net.post skips) (long : length m ≡ net.places) (h : t < net.transitions) (w : Within net.caps m) where
-  -- a place's test by the net's entries
-  place_stops : (p : ℕ) → p < net.places → (short_at (get_or net.pre (t * net.places + p) 0) (get_or m p 0) || over_at (get_or net.pre (t * net.places + p) 0) (get_or net.post (t * net.places + p) 0) (get_or net.caps p 0) (get_or net.marks p 0) (get_or m p 0)) ≡ stops (arcs_at net t) m p
-  place_stops p l = rw (row_at net.places t net.pre p l, row_at net.places t net.post p l)
-
-  pub judge_start : (p : ℕ) → p ≡ net.places → Above (stops (arcs_at net t) m) p (length m)
-  judge_start p e = rw (e ∙ sym long) (above_start (stops (arcs_at net t) m) (length m))
-
-  module _ (p q : ℕ) (z : 0 < p) (l : p ≤ net.places) (eq : q ≡ p - 1 - get_or skips (t * net.places + (p - 1)) 0) where
-    next : Next net.places net.pre net.post t p q
-    next = next_is net.places net.pre net.post skips sk t p (pre_end net m t sized h) z l q eq
-
-    pub judge_within : get_or m q 0 ≤ get_or net.caps q 0
-    judge_within = w.at q (omega (arith, next.less))
-
-    -- r is the test's answer at q
-    module _ (r : Bool) (e : r ≡ (short_at (get_or net.pre (t * net.places + q) 0) (get_or m q 0) || over_at (get_or net.pre (t * net.places + q) 0) (get_or net.post (t * net.places + q) 0) (get_or net.caps q 0) (get_or net.marks q 0) (get_or m q 0))) where
+module _ (net : Net) (m : List ℕ) (t : ℕ) (long : length m ≡ net.places) where
+  -- r is the test's answer at q, the place after p
+  module _ (w : Within net.caps m) (p q : ℕ) (l : p ≤ net.places) (n : Next net.places net.pre net.post t p q) where
+    module _ (r : Bool) (e : r ≡ stops (arcs_at net t) m q) where
       pub judge_next : r ≡ false → Above (stops (arcs_at net t) m) p (length m) → Above (stops (arcs_at net t) m) q (length m)
-      judge_next f a =
-          above_next (stops (arcs_at net t) m) p q (length m) a
-          (λ j b d. sym (place_stops j (omega arith)) ∙ bare_passes _ _ (get_or net.caps j 0) (get_or net.marks j 0) (get_or m j 0) (next.bare j b d).0 (next.bare j b d).1 (w.at j (omega arith)))
-          (sym (place_stops q (omega (arith, next.less))) ∙ sym e ∙ f)
+      judge_next f a = above_next (stops (arcs_at net t) m) p q (length m) a between (sym e ∙ f)
+        where
+          between : (j : ℕ) → q < j → j < p → stops (arcs_at net t) m j ≡ false
+          between j b d =
+              rw (row_at net.places t net.pre j (omega arith), row_at net.places t net.post j (omega arith))
+              (bare_passes _ _ (get_or net.caps j 0) (get_or net.marks j 0) (get_or m j 0) (n.bare j b d).0 (n.bare j b d).1 (w.at j (omega arith)))
 
       pub judge_seen : r ≡ true → false ≡ passes (arcs_at net t) m
-      judge_seen f = seen_counts (stops (arcs_at net t) m) (length m) q (sym (place_stops q (omega (arith, next.less))) ∙ sym e ∙ f) (omega (arith, next.less))
+      judge_seen f = seen_counts (stops (arcs_at net t) m) (length m) q (sym e ∙ f) (omega (arith, n.less))
 
   pub judge_end : (p : ℕ) → Above (stops (arcs_at net t) m) p (length m) → p ≤ 0 → true ≡ passes (arcs_at net t) m
   judge_end p a z = none_counts (stops (arcs_at net t) m) (length m) p a z

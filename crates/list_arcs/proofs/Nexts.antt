@@ -11,23 +11,11 @@ use borrow.Author.Tests.{ltb-false}
 use Rattle.ground.specs.Lists.{first}
 use Rattle.ground.proofs.Tests.{or-false}
 use Rattle.ground.proofs.Scan.{first_below, first_most}
-use Rattle.ground.proofs.Fill.{Made}
-use Rattle.net.specs.Net.{Net, Sized}
-use Rattle.net.proofs.Rows.{pre_end, post_end}
-use Rattle.list_arcs.specs.Arc.{arc_at, skip_of, Skips}
+use Rattle.list_arcs.specs.Arc.{arc_at, skip_of, Skips, Next}
 
 -- what is left of entry k's row below it
 pub row_below : (P k : ℕ) → 1 ≤ P → (k % P < P) × (k % P ≤ k)
 row_below P k h = (mod-lt k h, mod-le k P)
-
--- the table is made
-pub skips_made : (P : ℕ) (pre post l₀ : List ℕ) (i : ℕ) (l : List ℕ) → Made 0 (skip_of P pre post) l₀ i l → length pre ≤ length l₀ → length pre ≤ i → Skips P pre post l
-skips_made P pre post l₀ i l m h e = record { long = omega (arith, m.filled.long); at = λ k b. m.filled.done k (omega arith) }
-
--- q is below p, and t has no arc with the places between
-pub record Next (P : ℕ) (pre post : List ℕ) (t p q : ℕ) : Type 0 where
-  pub less : q < p
-  pub bare : (j : ℕ) → q < j → j < p → (get_or pre (t * P + j) 0 ≡ 0) × (get_or post (t * P + j) 0 ≡ 0)
 
 no_arc : (takes puts : ℕ) → arc_at takes puts ≡ false → (takes ≡ 0) × (puts ≡ 0)
 no_arc takes puts e =
@@ -57,20 +45,3 @@ module _ (P : ℕ) (pre post skips : List ℕ) (s : Skips P pre post skips) (t p
           let z : here - (p - 1 - j) ≡ t * P + j = omega arith in
           no_arc (get_or pre (t * P + j) 0) (get_or post (t * P + j) 0)
           (rw z at (first_below (λ n. arc_at (get_or pre (here - n) 0) (get_or post (here - n) 0)) (here % P) (p - 1 - j) n))
-
--- a pass over the places of t, at p and then at q, stays inside what is lent
-module _ (net : Net) (skips m : List ℕ) (t : ℕ) (sized : Sized net) (sk : Skips net.places net.pre net.post skips) (long : length m ≡ net.places) (h : t < net.transitions) (p : ℕ) (z : 0 < p) (l : p ≤ net.places) where
-  pub next_asked : ((0 < p) × (t * net.places + p ≤ length skips)) × (get_or skips (t * net.places + (p - 1)) 0 ≤ p - 1)
-  next_asked = ((z, omega (arith, pre_end net m t sized h, sk.long)), skip_most net.places net.pre net.post skips sk t p (pre_end net m t sized h) z l)
-
-  pub next_fits : (q : ℕ) → q ≡ p - 1 - get_or skips (t * net.places + (p - 1)) 0 → (q < p) × ((q < length m) × ((q < length net.caps) × ((t * net.places + q < length net.pre) × (t * net.places + q < length net.post))))
-  next_fits q e = (
-    omega arith,
-    (
-      omega arith,
-      (
-        omega (arith, sized.capped),
-        (omega (arith, pre_end net m t sized h), omega (arith, post_end net m t sized h)),
-      ),
-    ),
-  )

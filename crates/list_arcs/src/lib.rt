@@ -3,13 +3,15 @@
 // Pre how many such places a pass over the places, from the last one down, may leave out there.
 #![tactic(auto)]
 
-ghost use Rattle.std.specs.Prelude.{◌≡◌, true, ◌||◌, ◌+◌, ◌-◌, ◌*◌, ◌≤◌, ◌<◌, length, get_or};
+ghost use Rattle.std.specs.Prelude.{◌≡◌, true, ◌||◌, ◌+◌, ◌-◌, ◌≤◌, ◌<◌, length};
 ghost use Rattle.ground.specs.Limits.{count_limit};
-ghost use Rattle.net.specs.Net.{net_of, Sized};
+ghost use Rattle.net.specs.Lent.{lent};
+ghost use Rattle.net.specs.Net.{Sized};
 ghost use Rattle.net.specs.Letter.{short_at, over_at, arcs_at, passes, fired_at};
-ghost use Rattle.list_arcs.specs.Arc.{arc_limit, arc_at, skip_of, Skips, Within};
+ghost use Rattle.list_arcs.specs.Arc.{arc_limit, arc_at, skip_of, Skips, Next, Within};
 
 use ground::{NO_CAPACITY, Weight};
+use net::{Net, SizedNet};
 
 // As many entries as Pre may have.
 pub const ARC_LIMIT: usize = 4096;
@@ -25,60 +27,46 @@ pub fn no_skips() -> [u8; ARC_LIMIT]
 fn has_arc(takes: Weight, puts: Weight) -> bool
     ensures { result ≡ arc_at takes puts }
 {
-    if 0 < takes {
-        return true;
-    }
-    0 < puts
+    0 < takes || 0 < puts
 }
 
 // How many entries, from entry k down to the transition's place 1, have no arc, up to the first that
 // has one. Place 0 is always looked at, so that a pass ends there.
-fn skip_at(places: usize, pre: &[Weight], post: &[Weight], k: usize) -> u8
-    requires le_places { (1 ≤ places) × (places ≤ count_limit) }
-    requires k_in_bounds { (k < length pre.now) × (length post.now ≡ length pre.now) }
-    ensures { result ≡ skip_of places pre.now post.now k }
+fn skip_at(net: &Net, k: usize) -> u8
+    requires le_places { (1 ≤ net.now.places) × (net.now.places ≤ count_limit) }
+    requires k_in_bounds { (k < length net.now.pre.now) × (length net.now.post.now ≡ length net.now.pre.now) }
+    ensures { result ≡ skip_of net.now.places net.now.pre.now net.now.post.now k }
 {
-    let most = k % places;
-    let mut n = 0;
-    while n < most {
+    let most = k % net.places;
+    for n in 0..most {
         let j = k - n;
-        if has_arc(pre[j], post[j]) {
+        if has_arc(net.pre[j], net.post[j]) {
             return n as u8;
         }
-        n += 1;
     }
-    n as u8
+    most as u8
 }
 
 // The skips of a net, once for all pairs.
-pub fn make_skips(places: usize, pre: &[Weight], post: &[Weight], skips: &mut [u8])
-    requires le_places { (1 ≤ places) × (places ≤ count_limit) }
-    requires pre_in_bounds { (length pre.now ≤ length skips.old) × (length post.now ≡ length pre.now) }
-    ensures { Skips places pre.now post.now skips.new }
+pub fn make_skips(net: &Net, skips: &mut [u8])
+    requires le_places { (1 ≤ net.now.places) × (net.now.places ≤ count_limit) }
+    requires pre_in_bounds { (length net.now.pre.now ≤ length skips.old) × (length net.now.post.now ≡ length net.now.pre.now) }
+    ensures { Skips net.now.places net.now.pre.now net.now.post.now skips.new }
 {
-    let mut k = 0;
-    while k < pre.len() {
-        skips[k] = skip_at(places, pre, post, k);
-        k += 1;
+    for k in 0..net.pre.len() {
+        skips[k] = skip_at(net, k);
     }
 }
 
-// A skip as a number of places.
-fn counted(skip: u8) -> usize
-    ensures { result ≡ skip }
-{
-    skip as usize
-}
-
-// The next place below p that a pass looks at, of the transition whose entries begin at a.
-fn next_place(skips: &[u8], a: usize, p: usize) -> usize
-    requires p_nonzero { (0 < p) × (a + p ≤ length skips.now) }
-    requires p_bound { get_or skips.now (a + (p - 1)) 0 ≤ p - 1 }
-    ensures { result ≡ p - 1 - get_or skips.now (a + (p - 1)) 0 }
+// The next place below p that a pass looks at: a transition has no arc with those between.
+fn next_place(sized: &SizedNet, skips: &[u8], t: usize, p: usize) -> usize
+    requires skips { Skips sized.now.net.places sized.now.net.pre.now sized.now.net.post.now skips.now }
+    requires t_lt_transitions { t < sized.now.net.transitions }
+    requires p_inside { (0 < p) × (p ≤ sized.now.net.places) }
+    ensures { Next sized.now.net.places sized.now.net.pre.now sized.now.net.post.now t p result }
 {
     let last = p - 1;
-    let skip = counted(skips[a + last]);
-    last - skip
+    last - usize::from(skips[t * sized.net.places + last])
 }
 
 // One place stops a transition at a marking within the capacities: it has fewer tokens than are taken,
@@ -91,41 +79,36 @@ fn is_stopped(takes: Weight, puts: Weight, cap: u16, mark: u8, tokens: u16) -> b
     if tokens < takes {
         return true;
     }
-    let most = tokens as u32 + puts as u32;
-    if most <= cap as u32 {
+    let most = u32::from(tokens) + u32::from(puts);
+    if most <= u32::from(cap) {
         return false;
     }
     if cap < NO_CAPACITY {
         let rise = net::rise(mark, takes, puts);
-        return (cap as u32) < tokens as u32 + rise as u32;
+        return u32::from(cap) < u32::from(tokens) + u32::from(rise);
     }
     false
 }
 
 // Whether a transition may fire at a listed marking within the capacities.
-pub fn may_fire_listed(
-    places: usize,
-    transitions: usize,
-    pre: &[Weight],
-    post: &[Weight],
-    caps: &[u16],
-    marks: &[u8],
-    skips: &[u8],
-    t: usize,
-    listed: &[u16],
-) -> bool
-    requires sized { Sized (net_of places transitions pre.now post.now caps.now marks.now) }
-    requires skips { Skips places pre.now post.now skips.now }
-    requires listed_len { (length listed.now ≡ places) × (t < transitions) }
-    requires within { Within caps.now listed.now }
-    ensures { result ≡ passes (arcs_at (net_of places transitions pre.now post.now caps.now marks.now) t) listed.now }
+pub fn may_fire_listed(sized: &SizedNet, skips: &[u8], t: usize, listed: &[u16]) -> bool
+    requires skips { Skips sized.now.net.places sized.now.net.pre.now sized.now.net.post.now skips.now }
+    requires listed_len { (length listed.now ≡ sized.now.net.places) × (t < sized.now.net.transitions) }
+    requires within { Within sized.now.net.caps.now listed.now }
+    ensures { result ≡ passes (arcs_at (lent sized.now.net) t) listed.now }
 {
-    let a = t * places;
-    let mut p = places;
+    let takes = sized.takes(t);
+    let puts = sized.puts(t);
+    let mut p = sized.net.places;
     while 0 < p {
-        p = next_place(skips, a, p);
-        let e = a + p;
-        if is_stopped(pre[e], post[e], caps[p], marks[p], listed[p]) {
+        p = next_place(sized, skips, t, p);
+        if is_stopped(
+            takes[p],
+            puts[p],
+            sized.net.caps[p],
+            sized.net.marks[p],
+            listed[p],
+        ) {
             return false;
         }
     }
@@ -137,69 +120,34 @@ fn moved(takes: Weight, puts: Weight, tokens: u16) -> u32
     requires { takes ≤ tokens }
     ensures { result ≡ tokens + puts - takes }
 {
-    tokens as u32 + puts as u32 - takes as u32
+    u32::from(tokens) + u32::from(puts) - u32::from(takes)
 }
 
 // Changes the places that a transition has arcs with, in a room that has the listed marking.
-fn fire_arcs(
-    places: usize,
-    transitions: usize,
-    pre: &[Weight],
-    post: &[Weight],
-    caps: &[u16],
-    marks: &[u8],
-    skips: &[u8],
-    t: usize,
-    listed: &[u16],
-    room: &mut [u32],
-)
-    requires sized { Sized (net_of places transitions pre.now post.now caps.now marks.now) }
-    requires skips { Skips places pre.now post.now skips.now }
-    requires listed_len { (length listed.now ≡ places) × (t < transitions) }
-    requires listed_value { passes (arcs_at (net_of places transitions pre.now post.now caps.now marks.now) t) listed.now ≡ true }
+fn fire_arcs(sized: &SizedNet, skips: &[u8], t: usize, listed: &[u16], room: &mut [u32])
+    requires skips { Skips sized.now.net.places sized.now.net.pre.now sized.now.net.post.now skips.now }
+    requires listed_len { (length listed.now ≡ sized.now.net.places) × (t < sized.now.net.transitions) }
+    requires listed_value { passes (arcs_at (lent sized.now.net) t) listed.now ≡ true }
     requires room_value { room.old ≡ listed.now }
-    ensures { room.new ≡ fired_at (net_of places transitions pre.now post.now caps.now marks.now) t listed.now }
+    ensures { room.new ≡ fired_at (lent sized.now.net) t listed.now }
 {
-    let a = t * places;
-    let mut p = places;
+    let takes = sized.takes(t);
+    let puts = sized.puts(t);
+    let mut p = sized.net.places;
     while 0 < p {
-        p = next_place(skips, a, p);
-        let e = a + p;
-        room[p] = moved(pre[e], post[e], listed[p]);
+        p = next_place(sized, skips, t, p);
+        room[p] = moved(takes[p], puts[p], listed[p]);
     }
 }
 
 // The result of a transition that may fire at a listed marking, into the room.
-pub fn fire_listed(
-    places: usize,
-    transitions: usize,
-    pre: &[Weight],
-    post: &[Weight],
-    caps: &[u16],
-    marks: &[u8],
-    skips: &[u8],
-    t: usize,
-    listed: &[u16],
-    room: &mut [u32],
-)
-    requires sized { Sized (net_of places transitions pre.now post.now caps.now marks.now) }
-    requires skips { Skips places pre.now post.now skips.now }
-    requires listed_len { (length listed.now ≡ places) × (t < transitions) }
-    requires listed_value { passes (arcs_at (net_of places transitions pre.now post.now caps.now marks.now) t) listed.now ≡ true }
-    requires room_len { length room.old ≡ places }
-    ensures { room.new ≡ fired_at (net_of places transitions pre.now post.now caps.now marks.now) t listed.now }
+pub fn fire_listed(sized: &SizedNet, skips: &[u8], t: usize, listed: &[u16], room: &mut [u32])
+    requires skips { Skips sized.now.net.places sized.now.net.pre.now sized.now.net.post.now skips.now }
+    requires listed_len { (length listed.now ≡ sized.now.net.places) × (t < sized.now.net.transitions) }
+    requires listed_value { passes (arcs_at (lent sized.now.net) t) listed.now ≡ true }
+    requires room_len { length room.old ≡ sized.now.net.places }
+    ensures { room.new ≡ fired_at (lent sized.now.net) t listed.now }
 {
     net::load(listed, room);
-    fire_arcs(
-        places,
-        transitions,
-        pre,
-        post,
-        caps,
-        marks,
-        skips,
-        t,
-        listed,
-        room,
-    );
+    fire_arcs(sized, skips, t, listed, room);
 }

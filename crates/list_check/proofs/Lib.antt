@@ -1,4 +1,3 @@
 pub mod Refusals
-pub mod Targets
 pub mod Exactly
 pub mod Marks

@@ -1,4 +1,5 @@
 -- The refusals of a list ask of the marks only that there is one for each place (document 02, E5). Assumes nothing.
+use Rattle.refusals.specs.Given.{Fault}
 use Prim.Native.Nat.{ℕ}
 use mathlib.Core.Path.{◌≡◌}
 use mathlib.Core.Bool.{Bool, ◌&&◌}
@@ -6,7 +7,6 @@ use mathlib.Core.List.{List}
 use lib.ListN.{length}
 use Rattle.net.specs.Net.{Net}
 use Rattle.net.specs.Marks.{remarked}
-use Rattle.refusals.specs.declared.Fault.{Fault}
 use Rattle.refusals.proofs.Marks.{remarked_start, remarked_loose}
 use Rattle.lists.specs.declared.Kind.{Kind}
 use Rattle.list_pairs.specs.Look.{looked}

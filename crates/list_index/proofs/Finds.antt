@@ -51,11 +51,6 @@ module _ (P n : ℕ) (list heads₀ links₀ : List ℕ) (few : n ≤ list_limit
           index = index_next (λ k. bucket_of (marking_at P list k)) k heads links b v w m.index eb (bucket_inside (marking_at P list k) b eb) (link_inside h) ev ew;
         }
 
-    pub making_end : n ≤ k → Indexed P n list heads links
-    making_end h =
-        let q : k ≡ n = omega (arith, m.most) in
-        record { wide = m.wide ∙ heads_long; long = omega (arith, m.long); index = rw q at m.index }
-
 -- what the walk for m knows at its cursor
 abbrev pub Seeks : ℕ → ℕ → List ℕ → List ℕ → ℕ → Type 0
 Seeks P n list m at = Walk (λ k. bucket_of (marking_at P list k)) (λ k. matches Closed (marking_at P list k) m) (bucket_of m) n at

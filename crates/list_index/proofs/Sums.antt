@@ -1,13 +1,13 @@
 -- Laws of the hash of a result: a hash is a sum of multiples of the numbers, so that a transition adds the same to that of every marking. Assumes nothing.
-use Prim.Native.Nat.{ℕ, zero, suc, ◌+◌, ◌-◌, ◌*◌, ◌/◌, ◌%◌, ◌≤◌, ◌<◌}
+use Prim.Native.Nat.{ℕ, zero, suc, ◌+◌, ◌-◌, ◌*◌, ◌/◌, ◌%◌, ◌<◌}
 use mathlib.Core.Path.{◌≡◌, refl, sym, ap, ap₂, ◌∙◌}
 use mathlib.Core.List.{List}
 use native.Mathlib.Omega.{arith}
 use native.Mathlib.Nat.{add-mod, mod-add-mod, add-mul-mod_self_right}
 use lib.ListN.{length, get_or}
-use Rattle.ground.proofs.Fill.{map_at_length, map_at_at, Made}
-use Rattle.net.specs.Letter.{after, row, fired, Enough}
-use Rattle.list_index.specs.Index.{hash_limit, factor, mix_of, mixed, hash_of, change_of, Changes}
+use Rattle.ground.proofs.Fill.{map_at_length, map_at_at}
+use Rattle.net.specs.Letter.{after, fired, Enough}
+use Rattle.list_index.specs.Index.{hash_limit, factor, mix_of, mixed, hash_of, change_of}
 use Rattle.list_index.proofs.Hashes.{mixed_below}
 
 -- only what is left by the limit counts
@@ -52,7 +52,3 @@ after_hash takes puts m h c r lt lp enough eh ec er =
     (sym (less_sum (mixed (fired takes puts m) (length m)) (mixed takes (length m)) (mixed m (length m)) (mixed puts (length m))
     (mixed_sums (fired takes puts m) takes m puts (length m) (λ p l. omega (arith, fired_at_lem takes puts m p l, enough.at p)))
     (mixed_below (fired takes puts m) (length m)) (mixed_below takes (length m))))
-
--- the table of what each transition adds is made
-pub changes_made : (P T : ℕ) (pre post l₀ : List ℕ) (i : ℕ) (l : List ℕ) → Made 0 (λ t. change_of (row P t pre) (row P t post)) l₀ i l → T ≤ length l₀ → T ≤ i → Changes P T pre post l
-changes_made P T pre post l₀ i l m h e = record { long = omega (arith, m.filled.long); at = λ t b. m.filled.done t (omega arith) }

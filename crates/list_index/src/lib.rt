@@ -1,17 +1,20 @@
-// Inner: an index over a closed list, so that a marking is looked for among few listed ones. A hash
-// of a marking's numbers gives its bucket; `heads` has the latest listed marking of each bucket, and
-// `links` for each listed marking the one before it in its bucket. 0 is none, k + 1 marking number k.
+// Inner: an index over a closed list, so that a marking is looked for among few listed ones, by the
+// bucket that a hash of its numbers gives.
 #![tactic(auto)]
 
 ghost use Rattle.std.specs.Prelude.{◌≡◌, ◌+◌, ◌*◌, ◌/◌, ◌%◌, ◌≤◌, ◌<◌, length, replicate};
 ghost use Rattle.ground.specs.Limits.{count_limit, list_limit};
 ghost use Rattle.ground.specs.Lists.{bit};
 ghost use Rattle.refusals.specs.Given.{unlike};
-ghost use Rattle.lists.specs.Match.{alike, held};
+ghost use Rattle.lists.specs.Whole.{Whole};
+ghost use Rattle.lists.specs.Match.{alike, held_in};
 ghost use Rattle.lists.specs.declared.Kind.TheVariants.{Closed};
-ghost use Rattle.list_index.specs.Index.{bucket_count, hash_limit, bucket_size, mix_of, hash_of, bucket_of, change_of, Changes, Indexed};
+ghost use Rattle.list_index.specs.Index.{bucket_count, hash_limit, bucket_size, mix_of, hash_of, bucket_of, change_of, Changes};
+ghost use Rattle.list_index.specs.Whole.{Indexes};
 
 use ground::{COUNT_LIMIT, LIST_LIMIT, Weight};
+use lists::Markings;
+use net::Net;
 
 // How many buckets there are.
 pub const BUCKET_COUNT: usize = 8192;
@@ -24,6 +27,14 @@ const BUCKET_SIZE: u64 = 524288;
 
 // A prime, by which small numbers at any places come to lie far apart.
 const FACTOR: u64 = 374761393;
+
+// The latest listed marking of each bucket, and for each listed marking the one before it in its
+// bucket. 0 is none, k + 1 marking number k: an entry has 16 bits, so that the index stays small.
+#[derive(Drop)]
+pub struct Index {
+    pub heads: [u16; BUCKET_COUNT],
+    pub links: [u16; LIST_LIMIT],
+}
 
 // An empty table of buckets.
 pub fn no_heads() -> [u16; BUCKET_COUNT]
@@ -46,13 +57,6 @@ pub fn no_changes() -> [u64; COUNT_LIMIT]
     [0; COUNT_LIMIT]
 }
 
-// An entry of the index as a number of markings.
-fn counted(entry: u16) -> usize
-    ensures { result ≡ entry }
-{
-    entry as usize
-}
-
 // The entry that stands for marking number k.
 fn entry_of(k: usize) -> u16
     requires { k < list_limit }
@@ -66,7 +70,7 @@ fn mix(hash: u64, number: u16) -> u64
     requires { hash < hash_limit }
     ensures { result ≡ mix_of hash number }
 {
-    (hash + number as u64) * FACTOR % HASH_LIMIT
+    (hash + u64::from(number)) * FACTOR % HASH_LIMIT
 }
 
 // The hash of a listed marking, or of what a transition takes or puts.
@@ -74,10 +78,8 @@ pub fn hash_of(numbers: &[u16]) -> u64
     ensures { result ≡ hash_of numbers.now }
 {
     let mut h = 0;
-    let mut p = 0;
-    while p < numbers.len() {
+    for p in 0..numbers.len() {
         h = mix(h, numbers[p]);
-        p += 1;
     }
     h
 }
@@ -91,7 +93,7 @@ fn bucket_at(hash: u64) -> usize
 
 // The bucket of a listed marking.
 fn listed_bucket(listed: &[u16]) -> usize
-    ensures { result ≡ bucket_of listed.now }
+    ensures { (result ≡ bucket_of listed.now) × (result < bucket_count) }
 {
     let hash = hash_of(listed);
     bucket_at(hash)
@@ -107,23 +109,13 @@ fn change_of(takes: &[Weight], puts: &[Weight]) -> u64
 }
 
 // The same for each transition of a net, once for all pairs.
-pub fn make_changes(
-    places: usize,
-    transitions: usize,
-    pre: &[Weight],
-    post: &[Weight],
-    changes: &mut [u64],
-)
-    requires pre_len { (length pre.now ≡ transitions * places) × (length post.now ≡ transitions * places) }
-    requires transitions_in_bounds { transitions ≤ length changes.old }
-    ensures { Changes places transitions pre.now post.now changes.new }
+pub fn make_changes(net: &Net, changes: &mut [u64])
+    requires pre_len { (length net.now.pre.now ≡ net.now.transitions * net.now.places) × (length net.now.post.now ≡ net.now.transitions * net.now.places) }
+    requires transitions_in_bounds { net.now.transitions ≤ length changes.old }
+    ensures { Changes net.now.places net.now.transitions net.now.pre.now net.now.post.now changes.new }
 {
-    let mut t = 0;
-    while t < transitions {
-        let a = t * places;
-        let e = a + places;
-        changes[t] = change_of(&pre[a..e], &post[a..e]);
-        t += 1;
+    for t in 0..net.transitions {
+        changes[t] = change_of(net.takes(t), net.puts(t));
     }
 }
 
@@ -135,21 +127,17 @@ pub fn hash_after(hash: u64, change: u64) -> u64
     (hash + change) % HASH_LIMIT
 }
 
-// The index of a list, into tables of which that of the buckets is empty.
-pub fn make_index(places: usize, count: usize, list: &[u16], heads: &mut [u16], links: &mut [u16])
-    requires list_len { (length list.now ≡ count * places) × (count ≤ list_limit) }
-    requires heads_value { heads.old ≡ replicate bucket_count 0 }
-    requires links_len { length links.old ≡ list_limit }
-    ensures { Indexed places count list.now heads.new links.new }
+// The index of a list, into one whose table of buckets is empty.
+pub fn make_index(list: &Markings, index: &mut Index)
+    requires whole { Whole list.now }
+    requires count_le_list_limit { list.now.count ≤ list_limit }
+    requires heads_value { index.old.heads ≡ replicate bucket_count 0 }
+    ensures { Indexes list.now index.new }
 {
-    let mut k = 0;
-    while k < count {
-        let from = k * places;
-        let to = from + places;
-        let b = listed_bucket(&list[from..to]);
-        links[k] = heads[b];
-        heads[b] = entry_of(k);
-        k += 1;
+    for k in 0..list.count {
+        let b = listed_bucket(list.marking(k));
+        index.links[k] = index.heads[b];
+        index.heads[b] = entry_of(k);
     }
 }
 
@@ -158,7 +146,7 @@ pub fn make_index(places: usize, count: usize, list: &[u16], heads: &mut [u16], 
 fn differs_at(listed: u16, tokens: u32) -> u32
     ensures { result ≡ bit (unlike listed tokens) }
 {
-    if listed as u32 == tokens { 0 } else { 1 }
+    u32::from(u32::from(listed) != tokens)
 }
 
 // Whether two markings are the same: one plain pass over the places, with no way out on the way, since
@@ -168,41 +156,29 @@ fn is_same(listed: &[u16], marking: &[u32]) -> bool
     ensures { result ≡ alike listed.now marking.now }
 {
     let mut differing: u32 = 0;
-    let mut p = 0;
-    while p < marking.len() {
+    for p in 0..marking.len() {
         differing += differs_at(listed[p], marking[p]);
-        p += 1;
     }
     differing == 0
 }
 
 // Whether the list holds a marking of this hash: only those in its bucket are compared with it, the
 // latest first.
-pub fn find(
-    places: usize,
-    count: usize,
-    list: &[u16],
-    heads: &[u16],
-    links: &[u16],
-    hash: u64,
-    marking: &[u32],
-) -> bool
-    requires list_len { length list.now ≡ count * places }
-    requires marking_len { (length marking.now ≡ places) × (places ≤ count_limit) }
-    requires indexed { Indexed places count list.now heads.now links.now }
+pub fn find(list: &Markings, index: &Index, hash: u64, marking: &[u32]) -> bool
+    requires whole { Whole list.now }
+    requires marking_len { (length marking.now ≡ list.now.places) × (list.now.places ≤ count_limit) }
+    requires indexed { Indexes list.now index.now }
     requires hash_value { hash ≡ hash_of marking.now }
-    ensures { result ≡ held Closed places count list.now marking.now }
+    ensures { result ≡ held_in Closed list.now marking.now }
 {
     let b = bucket_at(hash);
-    let mut at = counted(heads[b]);
+    let mut at = usize::from(index.heads[b]);
     while 0 < at {
         let k = at - 1;
-        let a = k * places;
-        let e = a + places;
-        if is_same(&list[a..e], marking) {
+        if is_same(list.marking(k), marking) {
             return true;
         }
-        at = counted(links[k]);
+        at = usize::from(index.links[k]);
     }
     false
 }

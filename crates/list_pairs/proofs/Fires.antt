@@ -1,18 +1,14 @@
 -- Laws of a pair of a listed marking and a transition: what the code's steps give. Assumes nothing.
 use Prim.Native.Nat.{ℕ, ◌+◌, ◌-◌, ◌*◌, ◌≤◌, ◌<◌}
-use mathlib.Core.Path.{◌≡◌, sym, ap, ◌∙◌}
-use mathlib.Core.Bool.{Bool, true, false, not}
+use mathlib.Core.Path.{◌≡◌, sym, ◌∙◌}
+use mathlib.Core.Bool.{Bool, true, false}
 use mathlib.Core.List.{List}
-use native.Mathlib.Omega.{arith}
 use lib.ListN.{length, get_or}
-use borrow.Author.Tests.{ltb-false, le-leb, lt-leb}
-use Rattle.ground.specs.Limits.{token_limit, replay_limit}
-use Rattle.ground.proofs.Room.{lent_room}
+use borrow.Author.Tests.{le-leb, lt-leb}
+use Rattle.ground.specs.Limits.{token_limit}
 use Rattle.ground.proofs.Fill.{Made, make_end}
 use Rattle.net.specs.Net.{Net}
-use Rattle.net.specs.Letter.{arcs_at, passes, fired_at, Small}
 use Rattle.lists.proofs.Somes.{none_at}
-use Rattle.lists.specs.Match.{held}
 use Rattle.lists.specs.declared.Kind.{Kind}
 use Rattle.lists.specs.declared.Kind.TheVariants.{Closed, Cover}
 use Rattle.list_pairs.specs.Fire.{lacks, passes_any, after_any, fired_any}
@@ -20,9 +16,6 @@ use Rattle.list_pairs.specs.Look.{unlisted, uncovered, absent}
 
 -- one place's tests: what the code compares
 module _ (takes puts entry : ℕ) where
-  pub enough_at : lacks takes entry ≡ false → entry ≤ token_limit → takes ≤ entry
-  enough_at e h = ltb-false entry takes (rw (le-leb entry token_limit h) at e)
-
   pub after_number : entry ≤ token_limit → entry + puts - takes ≡ after_any takes puts entry
   after_number h = rw (le-leb entry token_limit h)
 
@@ -35,34 +28,8 @@ module _ (P : ℕ) (pre post : List ℕ) (t : ℕ) (l : List ℕ) where
   pub passes_at : (p : ℕ) → passes_any P pre t l ≡ true → p < length l → lacks (get_or pre (t * P + p) 0) (get_or l p 0) ≡ false
   passes_at p e h = none_at (λ p. lacks (get_or pre (t * P + p) 0) (get_or l p 0)) (length l) e p h
 
-  pub fired_any_lem : (r₀ : List ℕ) (p : ℕ) (r : List ℕ) → Made 0 (λ p. after_any (get_or pre (t * P + p) 0) (get_or post (t * P + p) 0) (get_or l p 0)) r₀ p r → length l ≡ P → length r₀ ≡ P → length r ≤ p → r ≡ fired_any P pre post t l
+  pub fired_any_lem : (r₀ : List ℕ) (p : ℕ) (r : List ℕ) → Made 0 (λ p. after_any (get_or pre (t * P + p) 0) (get_or post (t * P + p) 0) (get_or l p 0)) r₀ p r → length l ≡ P → length r₀ ≡ P → length r₀ ≤ p → r ≡ fired_any P pre post t l
   fired_any_lem r₀ p r m e f h = rw (e ∙ sym f) (make_end 0 (λ p. after_any (get_or pre (t * P + p) 0) (get_or post (t * P + p) 0) (get_or l p 0)) r₀ p r m h)
-
--- m is a marking l of 16 bits that was loaded: less than a replay reaches
-pub small_as : (m l : List ℕ) → m ≡ l → ((p : ℕ) → get_or l p 0 < 65536) → Small replay_limit m
-small_as m l e h = rw e (record { at = λ p. omega (arith, h p, lent_room) })
-
--- a pair in a closed list: r tells whether t is enabled at l
-module _ (net : Net) (n : ℕ) (list : List ℕ) (t : ℕ) (l : List ℕ) (r : Bool) (e : r ≡ passes (arcs_at net t) l) where
-  pub unlisted_fires : (m' : List ℕ) (s : Bool) → r ≡ true → m' ≡ fired_at net t l → s ≡ held Closed net.places n list m' → not s ≡ unlisted net n list t l
-  unlisted_fires m' s q ef es =
-      let p : passes (arcs_at net t) l ≡ true = sym e ∙ q in
-      rw p (ap not (es ∙ ap (held Closed net.places n list) ef))
-
-  pub unlisted_none : r ≡ false → false ≡ unlisted net n list t l
-  unlisted_none q = let p : passes (arcs_at net t) l ≡ false = sym e ∙ q in rw p
-
-pub ruleset unlisteds = (unlisted_fires, unlisted_none)
-
--- a pair in a cover list: r tells whether t is enabled at l
-module _ (P : ℕ) (pre post : List ℕ) (n : ℕ) (list : List ℕ) (t : ℕ) (l : List ℕ) (r : Bool) (e : r ≡ passes_any P pre t l) where
-  pub uncovered_fires : (m' : List ℕ) (s : Bool) → r ≡ true → m' ≡ fired_any P pre post t l → s ≡ held Cover P n list m' → not s ≡ uncovered P pre post n list t l
-  uncovered_fires m' s q ef es = rw (sym e ∙ q) (ap not (es ∙ ap (held Cover P n list) ef))
-
-  pub uncovered_none : r ≡ false → false ≡ uncovered P pre post n list t l
-  uncovered_none q = let p : passes_any P pre t l ≡ false = sym e ∙ q in rw p
-
-pub ruleset uncovereds = (uncovered_fires, uncovered_none)
 
 -- by the list's kind
 module _ (kind : Kind) (net : Net) (n : ℕ) (list : List ℕ) (t : ℕ) (l : List ℕ) (r : Bool) where

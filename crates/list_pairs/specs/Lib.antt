@@ -1,2 +1,3 @@
 pub mod Fire
 pub mod Look
+pub mod Search

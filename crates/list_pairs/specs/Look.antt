@@ -8,8 +8,8 @@ use Rattle.lists.specs.Pairs.{results_of, looked_of}
 use Rattle.lists.specs.declared.Kind.{Kind}
 use Rattle.lists.specs.declared.Kind.TheVariants.{Closed, Cover}
 use Rattle.lists.specs.declared.ListAnswer.{ListAnswer}
-use Rattle.list_index.specs.Index.{hash_of, Changes, Indexed}
-use Rattle.list_arcs.specs.Arc.{Skips, Within}
+use Rattle.list_index.specs.Index.{hash_of}
+use Rattle.list_arcs.specs.Arc.{Within}
 use Rattle.list_pairs.specs.Fire.{passes_any, fired_any}
 
 -- what is lent: a net, and a list of n whole markings
@@ -17,23 +17,11 @@ pub record Ready (net : Net) (n : ℕ) (list : List ℕ) : Type 0 where
   pub sized : Sized net
   pub long : length list ≡ n * net.places
 
--- what a lookup needs: the index of a closed list, and nothing for a cover list
-pub record Found (kind : Kind) (P n : ℕ) (list heads links : List ℕ) : Type 0 where
-  pub index : kind ≡ Closed → Indexed P n list heads links
-
--- what judging by arcs needs: the skips of the net for a closed list, and nothing for a cover list
-pub record Skipped (kind : Kind) (P : ℕ) (pre post skips : List ℕ) : Type 0 where
-  pub table : kind ≡ Closed → Skips P pre post skips
-
--- what the hash of a result needs: what each transition adds to one for a closed list, and nothing for a cover list
-pub record Shifted (kind : Kind) (P T : ℕ) (pre post changes : List ℕ) : Type 0 where
-  pub table : kind ≡ Closed → Changes P T pre post changes
-
--- ... and the hash of the marking
+-- what the hash of a result needs: the hash of the marking for a closed list, and nothing for a cover list
 pub record Hashed (kind : Kind) (h : ℕ) (m : List ℕ) : Type 0 where
   pub known : kind ≡ Closed → h ≡ hash_of m
 
--- what judging needs beside the skips: a marking within the capacities, as no other is in a closed list that is not refused
+-- what judging by arcs needs: a marking within the capacities, as no other is in a closed list that is not refused
 pub record Fitting (kind : Kind) (caps m : List ℕ) : Type 0 where
   pub within : kind ≡ Closed → Within caps m
 

@@ -1,5 +1,7 @@
 -- "Exactly when" for a list and a target: each refusal is read as its demand (specs/Demands.antt), and nothing is refused exactly
 -- where the demand holds. Assumes nothing.
+use Rattle.std.specs.Prelude.{Ok, Err}
+use Rattle.refusals.specs.Given.{Fault}
 use Prim.Native.Nat.{ℕ, ◌%◌, ◌≤◌, ◌<◌, zero-le}
 use mathlib.Core.Path.{◌≡◌, refl, sym, ◌∙◌}
 use mathlib.Core.Bool.{true, false, ◌||◌}
@@ -15,8 +17,6 @@ use Rattle.ground.proofs.Tests.{and-true, or-false, both_false}
 use Rattle.net.specs.Letter.{Small}
 use Rattle.refusals.specs.Given.{token_bad}
 use Rattle.refusals.specs.First.{Given, GivenAt}
-use Rattle.refusals.specs.declared.Fault.{Fault}
-use Rattle.refusals.specs.declared.Fault.TheVariants.{Sound, Faulty}
 use Rattle.refusals.proofs.Exactly.{Tells, tells_as, tells_test, tells_scan, Reads, reads_test}
 use Rattle.lists.specs.declared.Kind.{Kind}
 use Rattle.lists.specs.declared.Kind.TheVariants.{Closed, Cover}
@@ -26,15 +26,15 @@ use Rattle.list_refusals.specs.Demands.{WholeMarkings, EntryFine, EntriesFine, T
 use Rattle.list_refusals.proofs.Wholes.{whole_some, whole_long}
 
 -- a fault that tells of its demand is none where the demand holds
-tells_back : {f : Fault} {D : Type 0} {Tell : ℕ → ℕ → Type 0} → Tells f D Tell → D → f ≡ Sound
+tells_back : {f : Fault} {D : Type 0} {Tell : ℕ → ℕ → Type 0} → Tells f D Tell → D → f ≡ Ok tt
 tells_back {f} t d = go f refl
   where
-    go : (x : Fault) → f ≡ x → f ≡ Sound
-    go Sound e = e
-    go (Faulty n at) e = absurd ((t.fails n at e).0 d)
+    go : (x : Fault) → f ≡ x → f ≡ Ok tt
+    go (Ok _) e = e
+    go (Err r) e = absurd ((t.fails r.number r.at e).0 d)
 
 -- nothing is asked: what comes next decides
-pub none_reads : Reads Sound (λ n at Next. Next)
+pub none_reads : Reads (Ok tt) (λ n at Next. Next)
 none_reads = record { then = λ g Next c. c }
 
 -- 2: the list's length
@@ -67,14 +67,14 @@ module _ (P : ℕ) (caps list : List ℕ) where
       (tells_scan (λ k. token_bad (get_or caps (k % P) 0) (get_or list k 0)) (length list) 3 {D = EntryFine P caps list} entry_of of_entry)
 
   -- a cover list's are free
-  entries_free : entry_fault Cover P caps list ≡ Sound
+  entries_free : entry_fault Cover P caps list ≡ Ok tt
   unfolding entry_fault first_bad
   entries_free = rw (le-ltb (length list) (length list) (omega arith))
 
-pub entries_of : (kind : Kind) (P : ℕ) (caps list : List ℕ) → entry_fault kind P caps list ≡ Sound → kind ≡ Closed → EntriesFine P caps list
+pub entries_of : (kind : Kind) (P : ℕ) (caps list : List ℕ) → entry_fault kind P caps list ≡ Ok tt → kind ≡ Closed → EntriesFine P caps list
 entries_of kind P caps list e q = (entries_tell P caps list).sound (rw q at e)
 
-pub of_entries : (kind : Kind) (P : ℕ) (caps list : List ℕ) → (kind ≡ Closed → EntriesFine P caps list) → entry_fault kind P caps list ≡ Sound
+pub of_entries : (kind : Kind) (P : ℕ) (caps list : List ℕ) → (kind ≡ Closed → EntriesFine P caps list) → entry_fault kind P caps list ≡ Ok tt
 of_entries Closed P caps list f = tells_back (entries_tell P caps list) (f refl)
 of_entries Cover P caps list f = entries_free P caps list
 
@@ -98,10 +98,10 @@ module _ (target : List ℕ) where
       tells_as (λ h. record { at = h }) (λ (f : TargetFine target). f.at)
       (tells_scan (λ p. ltb token_limit (get_or target p 0)) (length target) 3 {D = λ p. get_or target p 0 ≤ token_limit} (λ p e. ltb-false _ _ e) (λ p h. le-ltb token_limit (get_or target p 0) h))
 
-  pub target_of_lem : target_fault target ≡ Sound → TargetFine target
+  pub target_of_lem : target_fault target ≡ Ok tt → TargetFine target
   target_of_lem e = target_tells.sound e
 
-  pub of_target_lem : TargetFine target → target_fault target ≡ Sound
+  pub of_target_lem : TargetFine target → target_fault target ≡ Ok tt
   of_target_lem f = tells_back target_tells f
 
   pub target_reads : Reads (target_fault target) (TargetFirst target)
@@ -121,10 +121,10 @@ module _ (P : ℕ) (list : List ℕ) where
       back : SomeMarkings P list → (ltb (count P list) 1 || ltb list_limit (count P list)) ≡ false
       back s = both_false _ _ (le-ltb (count P list) 1 s.some) (le-ltb list_limit (count P list) s.many)
 
-  pub size_of : size_fault P list ≡ Sound → SomeMarkings P list
+  pub size_of : size_fault P list ≡ Ok tt → SomeMarkings P list
   size_of e = size_tells.sound e
 
-  pub of_size : SomeMarkings P list → size_fault P list ≡ Sound
+  pub of_size : SomeMarkings P list → size_fault P list ≡ Ok tt
   of_size s = tells_back size_tells s
 
   pub size_reads : Reads (size_fault P list) (SizeFirst P list)

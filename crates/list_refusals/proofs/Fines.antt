@@ -7,26 +7,14 @@ use native.Mathlib.Omega.{arith}
 use native.Mathlib.Decide.{dec_lt}
 use native.Mathlib.Nat.{mod-eq_of_lt, mul-add-mod_self_right, div-mul-le_self, add-mul}
 use lib.ListN.{length, get_or}
-use lib.Dec.{eqb}
 use borrow.Author.Tests.{eqb-true}
-use Rattle.ground.specs.Lists.{bit}
-use Rattle.ground.proofs.Tests.{never}
 use Rattle.ground.proofs.Scan.{Below, none_of, first_none}
 use Rattle.net.proofs.Rows.{row_at, row_end, row_length_lem}
 use Rattle.refusals.specs.Given.{token_bad}
 use Rattle.lists.specs.Whole.{count, marking_at}
-use Rattle.list_refusals.specs.Given.{bad_entry}
+use Rattle.list_refusals.specs.Given.{whole, bad_entry}
 use Rattle.list_refusals.specs.Fine.{fine_marking, FineList}
-
--- a test as a number
-module _ (r t : Bool) (e : r ≡ t) where
-  pub bit_yes : r ≡ true → 1 ≡ bit t
-  bit_yes q = rw (sym e ∙ q)
-
-  pub bit_no : r ≡ false → 0 ≡ bit t
-  bit_no q = rw (sym e ∙ q)
-
-pub ruleset bits = (bit_yes, bit_no)
+use Rattle.list_refusals.proofs.Wholes.{whole_long}
 
 -- an entry by its number
 abbrev pub bad : ℕ → List ℕ → List ℕ → ℕ → Bool
@@ -36,9 +24,6 @@ module _ (P : ℕ) (caps list : List ℕ) where
   -- marking number k ends in the list
   pub fine_end : (k : ℕ) → k < count P list → k * P + P ≤ length list
   fine_end k h = omega (arith, row_end k (count P list) P h, div-mul-le_self (length list) P)
-
-  pub fine_start : Below (bad P caps list) (0 * P)
-  fine_start = record { none = λ k h. absurd (omega arith) }
 
   -- r is the answer for marking number k
   pub fine_next : (k : ℕ) (r : Bool) → k * P + P ≤ length list → r ≡ fine_marking caps (marking_at P list k) → r ≡ true → Below (bad P caps list) (k * P) → Below (bad P caps list) ((k + 1) * P)
@@ -54,14 +39,11 @@ module _ (P : ℕ) (caps list : List ℕ) where
           let g : get_or list i 0 ≡ get_or (marking_at P list k) (i - k * P) 0 = ap (λ (j : ℕ). get_or list j 0) (sym z) ∙ sym (row_at P k list (i - k * P) u) in
           rw (m, g) q
 
-  pub fine_all : (n k : ℕ) → Below (bad P caps list) (k * P) → k ≤ n → n ≤ k → FineList P caps list (eqb (n * P) (length list))
-  fine_all n k lo h l = record { none = λ t. go (rw q at lo) (eqb-true (n * P) (length list) t) }
+  pub fine_all : (k : ℕ) → Below (bad P caps list) (k * P) → whole P list ≡ true → k ≤ count P list → count P list ≤ k → FineList P caps list true
+  fine_all k lo w h l = record { none = λ t. go (rw q at lo) (whole_long P list w) }
     where
-      q : k ≡ n
+      q : k ≡ count P list
       q = omega arith
 
-      go : Below (bad P caps list) (n * P) → n * P ≡ length list → length list ≡ bad_entry P caps list
+      go : Below (bad P caps list) (count P list * P) → length list ≡ count P list * P → length list ≡ bad_entry P caps list
       go b e = sym (first_none (bad P caps list) (length list) (λ i u. b.none i (omega arith)))
-
-  pub fine_none : FineList P caps list false
-  fine_none = record { none = λ t. never (sym t) }

@@ -1,9 +1,9 @@
 -- To be believed: the refusals of a list and of a target.
+use Rattle.refusals.specs.Given.{Fault}
 use Rattle.std.specs.Prelude.{ℕ, ◌%◌, Bool, ◌&&◌, ◌||◌, List, length, get_or, ltb, eqb}
 use Rattle.ground.specs.Limits.{token_limit, list_limit}
 use Rattle.ground.specs.Lists.{first}
 use Rattle.refusals.specs.Given.{refuse, or_else, token_bad}
-use Rattle.refusals.specs.declared.Fault.{Fault}
 use Rattle.lists.specs.declared.Kind.{Kind}
 use Rattle.lists.specs.declared.Kind.TheVariants.{Closed, Cover}
 use Rattle.lists.specs.Whole.{count}

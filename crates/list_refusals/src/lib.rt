@@ -1,35 +1,29 @@
 // Inner: which refusal a list of either kind gets, and a target after it: 2, 3 and 9.
 #![tactic(auto)]
 
-ghost use Rattle.std.specs.Prelude.{◌≡◌, ◌&&◌, ◌≤◌, ltb, length};
-ghost use Rattle.ground.specs.Limits.{count_limit, token_limit};
-ghost use Rattle.ground.specs.Lists.{bit};
+ghost use Rattle.std.specs.Prelude.{◌≡◌, ◌&&◌, ◌||◌, ◌≤◌, ltb, length};
+ghost use Rattle.ground.specs.Limits.{count_limit, token_limit, list_limit};
+ghost use Rattle.ground.specs.Lists.{bit, found};
 ghost use Rattle.refusals.specs.Given.{token_bad};
 ghost use Rattle.list_refusals.specs.Given.{whole, lowest_any, target_fault, bad_entry, first_bad, size_fault, list_fault};
 ghost use Rattle.list_refusals.specs.Fine.{fine_marking, FineList};
 
 use ground::{LIST_LIMIT, TOKEN_LIMIT};
-use lists::Kind;
-use refusals::Fault;
+use lists::{Kind, Markings};
+use refusals::Refusal;
 
 // Whether the list is made of whole markings.
 fn is_whole(places: usize, list: &[u16]) -> bool
     ensures { result ≡ whole places list.now }
 {
-    if 0 < places {
-        return list.len() % places == 0;
-    }
-    false
+    0 < places && list.len() % places == 0
 }
 
 // Whether the list's length and that of what is lent after it agree with the counts.
 pub fn is_fitting(places: usize, list: &[u16], fits: bool) -> bool
     ensures { result ≡ (whole places list.now && fits) }
 {
-    if is_whole(places, list) {
-        return fits;
-    }
-    false
+    is_whole(places, list) && fits
 }
 
 // One place has more tokens than may be given.
@@ -39,47 +33,37 @@ fn is_any(tokens: u16) -> bool
     TOKEN_LIMIT < tokens
 }
 
-// The lowest such place, or the number of places.
-fn lowest_any(target: &[u16]) -> usize
-    ensures { result ≡ lowest_any target.now }
+// The lowest such place, if there is one.
+fn lowest_any(target: &[u16]) -> Option<usize>
+    ensures { result ≡ found (length target.now) (lowest_any target.now) }
 {
-    let mut p = 0;
-    while p < target.len() {
+    for p in 0..target.len() {
         if is_any(target[p]) {
-            return p;
+            return Some(p);
         }
-        p += 1;
     }
-    p
+    None
 }
 
 // Refusal 3 for a target, which may be above capacity.
-pub fn target_fault(target: &[u16]) -> Fault
+pub fn target_fault(target: &[u16]) -> Result<(), Refusal>
     ensures { result ≡ target_fault target.now }
 {
-    let p = lowest_any(target);
-    if p < target.len() {
-        Fault::Faulty(3, p)
-    } else {
-        Fault::Sound
-    }
+    refusals::refuse_found(lowest_any(target), 3)
 }
 
-// The first entry of a closed list that may not be given, or the number of entries.
-fn bad_entry(places: usize, caps: &[u16], list: &[u16]) -> usize
+// The first entry of a closed list that may not be given, if there is one.
+fn bad_entry(places: usize, caps: &[u16], list: &[u16]) -> Option<usize>
     requires le_places { 1 ≤ places }
     requires caps_len { length caps.now ≡ places }
-    ensures { result ≡ bad_entry places caps.now list.now }
+    ensures { result ≡ found (length list.now) (bad_entry places caps.now list.now) }
 {
-    let mut k = 0;
-    while k < list.len() {
-        let p = k % places;
-        if refusals::is_bad_token(caps[p], list[k]) {
-            return k;
+    for k in 0..list.len() {
+        if refusals::is_bad_token(caps[k % places], list[k]) {
+            return Some(k);
         }
-        k += 1;
     }
-    k
+    None
 }
 
 // 1 where a place has tokens that may not be given, else 0: a number, so that a pass over the places
@@ -87,11 +71,7 @@ fn bad_entry(places: usize, caps: &[u16], list: &[u16]) -> usize
 fn bad_at(cap: u16, tokens: u16) -> u32
     ensures { result ≡ bit (token_bad cap tokens) }
 {
-    if refusals::is_bad_token(cap, tokens) {
-        1
-    } else {
-        0
-    }
+    u32::from(refusals::is_bad_token(cap, tokens))
 }
 
 // Whether a marking may be given: one plain pass over the places, with no way out on the way.
@@ -100,10 +80,8 @@ fn is_fine(caps: &[u16], marking: &[u16]) -> bool
     ensures { result ≡ fine_marking caps.now marking.now }
 {
     let mut bad: u32 = 0;
-    let mut p = 0;
-    while p < marking.len() {
+    for p in 0..marking.len() {
         bad += bad_at(caps[p], marking[p]);
-        p += 1;
     }
     bad == 0
 }
@@ -115,70 +93,70 @@ fn are_fine(places: usize, caps: &[u16], list: &[u16]) -> bool
     requires caps_len { length caps.now ≡ places }
     ensures { FineList places caps.now list.now result }
 {
-    let n = list.len() / places;
-    let mut k = 0;
-    while k < n {
-        let a = k * places;
-        let e = a + places;
-        if !is_fine(caps, &list[a..e]) {
+    if !is_whole(places, list) {
+        return false;
+    }
+    let markings = Markings::new(places, list);
+    for k in 0..markings.count {
+        if !is_fine(caps, markings.marking(k)) {
             return false;
         }
-        k += 1;
     }
-    n * places == list.len()
+    true
 }
 
 // The first entry of a closed list that may not be given, looked for only where there may be one.
-fn bad_listed(places: usize, caps: &[u16], list: &[u16]) -> usize
+fn bad_listed(places: usize, caps: &[u16], list: &[u16]) -> Option<usize>
     requires le_places { (1 ≤ places) × (places ≤ count_limit) }
     requires caps_len { length caps.now ≡ places }
-    ensures { result ≡ bad_entry places caps.now list.now }
+    ensures { result ≡ found (length list.now) (bad_entry places caps.now list.now) }
 {
     if are_fine(places, caps, list) {
-        return list.len();
+        return None;
     }
     bad_entry(places, caps, list)
 }
 
 // The same by the list's kind: a cover list has none.
-fn first_bad(kind: Kind, places: usize, caps: &[u16], list: &[u16]) -> usize
+fn first_bad(kind: Kind, places: usize, caps: &[u16], list: &[u16]) -> Option<usize>
     requires le_places { (1 ≤ places) × (places ≤ count_limit) }
     requires caps_len { length caps.now ≡ places }
-    ensures { result ≡ first_bad kind places caps.now list.now }
+    ensures { result ≡ found (length list.now) (first_bad kind places caps.now list.now) }
 {
     match kind {
         Kind::Closed => bad_listed(places, caps, list),
-        Kind::Cover => list.len(),
+        Kind::Cover => None,
     }
 }
 
-// Refusal 9: no marking, or too many.
-fn size_fault(places: usize, list: &[u16]) -> Fault
+// Whether there are no markings, or too many.
+fn is_outside(count: usize) -> bool
+    ensures { result ≡ (ltb count 1 || ltb list_limit count) }
+{
+    count < 1 || LIST_LIMIT < count
+}
+
+// Refusal 9 for such a count.
+fn size_fault(places: usize, list: &[u16]) -> Result<(), Refusal>
     requires { 1 ≤ places }
     ensures { result ≡ size_fault places list.now }
 {
-    let n = list.len() / places;
-    if n < 1 {
-        return Fault::Faulty(9, 0);
-    }
-    if LIST_LIMIT < n {
-        return Fault::Faulty(9, 0);
-    }
-    Fault::Sound
+    refusals::refuse(is_outside(list.len() / places), 9, 0)
 }
 
 // Refusals 3 and 9 of the list; `next` is what comes between: 3 for what is lent after it, and 17.
-pub fn list_fault(kind: Kind, places: usize, caps: &[u16], list: &[u16], next: Fault) -> Fault
+pub fn list_fault(
+    kind: Kind,
+    places: usize,
+    caps: &[u16],
+    list: &[u16],
+    next: Result<(), Refusal>,
+) -> Result<(), Refusal>
     requires le_places { (1 ≤ places) × (places ≤ count_limit) }
     requires caps_len { length caps.now ≡ places }
     ensures { result ≡ list_fault kind places caps.now list.now next }
 {
-    let k = first_bad(kind, places, caps, list);
-    if k < list.len() {
-        return Fault::Faulty(3, k);
-    }
-    match next {
-        Fault::Faulty(number, at) => Fault::Faulty(number, at),
-        Fault::Sound => size_fault(places, list),
-    }
+    refusals::refuse_found(first_bad(kind, places, caps, list), 3)?;
+    next?;
+    size_fault(places, list)
 }

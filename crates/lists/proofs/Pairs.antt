@@ -11,7 +11,7 @@ use Rattle.ground.proofs.Scan.{Below, scan_hit, scan_next, scan_end, first_below
 use Rattle.lists.specs.Pairs.{lowest_missing, fails, first_failing, results_of, looked_of}
 use Rattle.lists.specs.declared.Failure.TheVariants.{InitialMissing, ResultMissing}
 use Rattle.lists.specs.declared.ListAnswer.{ListAnswer}
-use Rattle.lists.specs.declared.ListAnswer.TheVariants.{Accepted, Failed, Refused}
+use Rattle.lists.specs.declared.ListAnswer.TheVariants.{Accepted, Failed}
 use Rattle.lists.proofs.Somes.{some_hit, some_end, some_first, some_none}
 
 -- the turns of the two loops over the pairs
@@ -153,13 +153,3 @@ module _ (missing : ℕ → ℕ → Bool) (T n : ℕ) where
 
     pub result_looked : (k t : ℕ) → starts ≡ true → FirstPair missing T n k t → looked_of starts missing T n ≡ Failed (ResultMissing k t)
     result_looked k t e f = sym (looked_holds starts missing T n starts refl (Failed (ResultMissing k t)) e (failed_results k t f))
-
-    -- a list that is looked through is not refused
-    pub looked_never : (k p : ℕ) → looked_of starts missing T n ≡ Refused k p → ⊥
-    unfolding looked_of results_of
-    looked_never k p q = go starts refl (ltb (first_failing missing T n) n) refl
-      where
-        go : (b : Bool) → starts ≡ b → (c : Bool) → ltb (first_failing missing T n) n ≡ c → ⊥
-        go true e true f = let z : ◌≡◌ {A = ℕ} 0 1 = cc (rw (e, f) at q) in omega arith
-        go true e false f = let z : ◌≡◌ {A = ℕ} 0 1 = cc (rw (e, f) at q) in omega arith
-        go false e c f = let z : ◌≡◌ {A = ℕ} 0 1 = cc (rw e at q) in omega arith

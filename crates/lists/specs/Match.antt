@@ -5,6 +5,7 @@ use Rattle.refusals.specs.Given.{unlike}
 use Rattle.lists.specs.Some.{some, none}
 use Rattle.lists.specs.Whole.{marking_at}
 use Rattle.lists.specs.declared.Kind.{Kind}
+use Rattle.lists.specs.declared.Markings.{Markings}
 use Rattle.lists.specs.declared.Kind.TheVariants.{Closed, Cover}
 
 -- two markings agree at every place
@@ -27,3 +28,7 @@ matches Cover l m = covering l m
 -- one of the n markings of the list does
 abbrev pub held : Kind → ℕ → ℕ → List ℕ → List ℕ → Bool
 held kind P n list m = some (λ k. matches kind (marking_at P list k) m) n
+
+-- ... one of the code's own value for it
+abbrev pub held_in : Kind → Markings → List ℕ → Bool
+held_in kind l m = held kind l.places l.count l.list.now m

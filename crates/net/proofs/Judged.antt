@@ -20,7 +20,7 @@ use Rattle.net.specs.Firing.{Covers, Keeps, Enabled, Gives, LowestShort, LowestO
 use Rattle.net.specs.Letter.{arcs_at, over_at, short, over, stops, lowest_short, lowest_over, cause, passes, after, judge_at, fired_at}
 use Rattle.net.specs.declared.Cause.{Cause}
 use Rattle.net.specs.declared.Cause.TheVariants.{Short, Over}
-use Rattle.net.specs.declared.Letter.TheVariants.{Passes, Stops}
+use Rattle.std.specs.Prelude.{Ok, Err}
 use Rattle.net.proofs.Rule.{level_le, level_lt}
 use Rattle.net.proofs.Letters.{none_stops}
 use Rattle.net.proofs.Rows.{row_at}
@@ -91,7 +91,7 @@ module _ (net : Net) (m : List ℕ) (t : ℕ) (long : length m ≡ net.places) w
       }
 
   -- a letter that is stopped names a cause that is true of m
-  pub names_of : (why : Cause) → judge_at net t m ≡ Stops why → Names net m t why
+  pub names_of : (why : Cause) → judge_at net t m ≡ Err why → Names net m t why
   names_of why e = go (passes (arcs_at net t) m) refl (ltb (lowest_short (arcs_at net t).takes m) (length m)) refl
     where
       stopped : passes (arcs_at net t) m ≡ false → why ≡ cause (arcs_at net t) m
@@ -139,8 +139,8 @@ module _ (net : Net) (m : List ℕ) (t : ℕ) (long : length m ≡ net.places) w
       go false q true k = rw (stopped q, k) (short_named (ltb-true _ _ k))
       go false q false k = rw (stopped q, k) (over_named q (ltb-false _ _ k))
 
--- the answer `Passes` says that no place stops the letter
-pub passes_judged : (net : Net) (m : List ℕ) (t : ℕ) → judge_at net t m ≡ Passes → passes (arcs_at net t) m ≡ true
+-- the answer `Ok` says that no place stops the letter
+pub passes_judged : (net : Net) (m : List ℕ) (t : ℕ) → judge_at net t m ≡ Ok tt → passes (arcs_at net t) m ≡ true
 passes_judged net m t e = go (passes (arcs_at net t) m) refl
   where
     go : (b : Bool) → passes (arcs_at net t) m ≡ b → passes (arcs_at net t) m ≡ true

@@ -14,7 +14,9 @@ use Rattle.ground.proofs.Fill.{Filled, fill_here}
 use Rattle.net.specs.Letter.{Arcs, short_at, over_at, stops, lowest_short, lowest_over, cause, passes, fired, Small, Enough, Played}
 use Rattle.net.specs.declared.Cause.{Cause}
 use Rattle.net.specs.declared.Cause.TheVariants.{Short, Over}
-use Rattle.net.specs.declared.Letter.TheVariants.{Passes, Stops}
+use Rattle.std.specs.Prelude.{Some, None, Ok, Err}
+use Rattle.ground.specs.Lists.{found}
+use Rattle.ground.proofs.Scan.{found_first, found_none}
 
 -- one place's number: s and o are the two tests' answers
 module _ (s o : Bool) (takes puts cap mark tokens : ℕ) (es : s ≡ short_at takes tokens) where
@@ -41,14 +43,12 @@ module _ (g : ℕ → ℕ → ℕ) (m₀ : List ℕ) (i : ℕ) (m : List ℕ) (f
   fill_enough takes h = rw (fill_here 0 g m₀ i m f) (h.at i)
 
 -- the cause, from the two scans
-module _ (arcs : Arcs) (m : List ℕ) (s : ℕ) (es : s ≡ lowest_short arcs.takes m) where
-  pub cause_short : s < length m → Short s ≡ cause arcs m
-  cause_short h = rw (← es, lt-ltb s (length m) h)
+module _ (arcs : Arcs) (m : List ℕ) where
+  pub cause_short : (s : ℕ) → Some s ≡ found (length m) (lowest_short arcs.takes m) → Short s ≡ cause arcs m
+  cause_short s e = let q = found_first (length m) (lowest_short arcs.takes m) s e in rw (q.0, lt-ltb _ (length m) q.1)
 
-  pub cause_over : (o : ℕ) → length m ≤ s → o ≡ lowest_over arcs m → Over o ≡ cause arcs m
-  cause_over o h eo = rw (← es, le-ltb s (length m) h, ← eo)
-
-pub ruleset causes = (cause_short, cause_over)
+  pub cause_over : (o : ℕ) → None ≡ found (length m) (lowest_short arcs.takes m) → o ≡ lowest_over arcs m → Over o ≡ cause arcs m
+  cause_over o h eo = rw (le-ltb _ (length m) (found_none (length m) (lowest_short arcs.takes m) h), ← eo)
 
 -- no place stops a letter that passes
 pub none_stops : (arcs : Arcs) (m : List ℕ) → passes arcs m ≡ true → Below (stops arcs m) (length m)
@@ -62,10 +62,10 @@ enough_of arcs m r long e h = record { at = λ p. go p (dec_lt p (length m)) }
     go p (no n) = rw (get_or-eq_default arcs.takes 0 {n = p} (omega arith)) zero-le
 
 module _ (arcs : Arcs) (m : List ℕ) (r : Bool) (e : r ≡ passes arcs m) where
-  pub played_passes : (m' : List ℕ) → r ≡ true → m' ≡ fired arcs.takes arcs.puts m → Played arcs m Passes m'
+  pub played_passes : (m' : List ℕ) → r ≡ true → m' ≡ fired arcs.takes arcs.puts m → Played arcs m (Ok tt) m'
   played_passes m' h q = record { answer = rw (sym e ∙ h); left = rw (sym e ∙ h) q }
 
-  pub played_stops : (c : Cause) → r ≡ false → c ≡ cause arcs m → Played arcs m (Stops c) m
-  played_stops c h q = record { answer = rw (sym e ∙ h) (ap Stops q); left = rw (sym e ∙ h) }
+  pub played_stops : (c : Cause) → r ≡ false → c ≡ cause arcs m → Played arcs m (Err c) m
+  played_stops c h q = record { answer = rw (sym e ∙ h) (ap Err q); left = rw (sym e ∙ h) }
 
 pub ruleset plays = (played_passes, played_stops)

@@ -16,7 +16,7 @@ use Rattle.net.specs.Firing.{Keeps, Enabled, Fires, nothing, letter}
 use Rattle.net.specs.Letter.{arcs_at, short, over, lowest_short, passes, judge_at}
 use Rattle.net.specs.Marks.{remarked, MarksAlike}
 use Rattle.net.specs.declared.Cause.TheVariants.{Short, Over}
-use Rattle.net.specs.declared.Letter.TheVariants.{Passes, Stops}
+use Rattle.std.specs.Prelude.{Ok, Err}
 use Rattle.net.proofs.Rule.{leaves_plain, leaves_pocket, force_capped, force_uncapped, level_le}
 
 -- "01's rule passes runs that jam": a loop that puts back as much as it takes fires at a full plain place, and not at a full pocket
@@ -71,8 +71,8 @@ module _ (net : Net) (marks : List ℕ) (alike : MarksAlike net.caps net.marks m
   alike_judge t m =
       ap
       (λ (f : ℕ → Bool).
-      cond (eqb (tally (λ p. short (arcs_at net t).takes m p || f p) (length m)) 0) Passes
-      (Stops (cond (ltb (lowest_short (arcs_at net t).takes m) (length m)) (Short (lowest_short (arcs_at net t).takes m)) (Over (first f (length m))))))
+      cond (eqb (tally (λ p. short (arcs_at net t).takes m p || f p) (length m)) 0) (Ok tt)
+      (Err (cond (ltb (lowest_short (arcs_at net t).takes m) (length m)) (Short (lowest_short (arcs_at net t).takes m)) (Over (first f (length m))))))
       (same_tests t m)
 
   -- every word fires the same

@@ -27,6 +27,13 @@ module _ (net : Net) (m : List ℕ) (t : ℕ) (sized : Sized net) (h : t < net.t
   pub post_end : t * net.places + net.places ≤ length net.post
   post_end = rw sized.posts (row_end t net.transitions net.places h)
 
+  -- entry p of the transition's rows is in the tables
+  pub pre_in : (p : ℕ) → p < net.places → t * net.places + p < length net.pre
+  pre_in p l = omega (arith, pre_end)
+
+  pub post_in : (p : ℕ) → p < net.places → t * net.places + p < length net.post
+  post_in p l = omega (arith, post_end)
+
   pub rows_of : length m ≡ net.places → Small replay_limit m → Rows (arcs_at net t) m
   rows_of long s =
       record {

@@ -1,12 +1,10 @@
 -- Only for the code's walk, tied to what is published by proofs/Judged.antt: one letter judged and fired by tests on one place's numbers, then the lowest place that fails one.
-use Rattle.std.specs.Prelude.{ℕ, ◌+◌, ◌-◌, ◌*◌, ◌≤◌, ◌≡◌, Bool, cond, ◌&&◌, ◌||◌, List, length, get_or, take, drop, ltb, eqb}
+use Rattle.std.specs.Prelude.{ℕ, ◌+◌, ◌-◌, ◌*◌, ◌≤◌, ◌≡◌, Bool, cond, ◌&&◌, ◌||◌, List, length, get_or, take, drop, ltb, eqb, Result, Ok, Err}
 use Rattle.ground.specs.Limits.{count_limit, no_capacity, replay_limit}
 use Rattle.ground.specs.Lists.{first, tally, map_at}
 use Rattle.net.specs.Net.{Net, leaves_first}
 use Rattle.net.specs.declared.Cause.{Cause}
 use Rattle.net.specs.declared.Cause.TheVariants.{Short, Over}
-use Rattle.net.specs.declared.Letter.{Letter}
-use Rattle.net.specs.declared.Letter.TheVariants.{Passes, Stops}
 
 -- one place is "short of tokens": it has fewer than are taken
 abbrev pub short_at : ℕ → ℕ → Bool
@@ -59,8 +57,8 @@ cause arcs m = cond (ltb (lowest_short arcs.takes m) (length m)) (Short (lowest_
 abbrev pub passes : Arcs → List ℕ → Bool
 passes arcs m = eqb (tally (stops arcs m) (length m)) 0
 
-abbrev pub judge : Arcs → List ℕ → Letter
-judge arcs m = cond (passes arcs m) Passes (Stops (cause arcs m))
+abbrev pub judge : Arcs → List ℕ → Result Unit Cause
+judge arcs m = cond (passes arcs m) (Ok tt) (Err (cause arcs m))
 
 -- the tokens of place p after the letter, from those before, and the marking after it
 abbrev pub after : List ℕ → List ℕ → ℕ → ℕ → ℕ
@@ -74,7 +72,7 @@ abbrev pub settled : Arcs → List ℕ → List ℕ
 settled arcs m = cond (passes arcs m) (fired arcs.takes arcs.puts m) m
 
 -- what becomes of letter t at m, and the marking after it has fired
-abbrev pub judge_at : Net → ℕ → List ℕ → Letter
+abbrev pub judge_at : Net → ℕ → List ℕ → Result Unit Cause
 judge_at net t m = judge (arcs_at net t) m
 
 abbrev pub fired_at : Net → ℕ → List ℕ → List ℕ
@@ -98,7 +96,7 @@ pub record Rows (arcs : Arcs) (m : List ℕ) : Type 0 where
   pub small : Small replay_limit m
 
 -- the letter was judged, and fired if it passes
-pub record Played (arcs : Arcs) (m : List ℕ) (r : Letter) (m' : List ℕ) : Type 0 where
+pub record Played (arcs : Arcs) (m : List ℕ) (r : Result Unit Cause) (m' : List ℕ) : Type 0 where
   pub answer : r ≡ judge arcs m
   pub left : m' ≡ settled arcs m
 

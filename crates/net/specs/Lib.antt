@@ -1,4 +1,5 @@
 pub mod Net
+pub mod Lent
 pub mod Firing
 pub mod Letter
 pub mod Marks

@@ -1,4 +1,6 @@
 -- The promise has one answer, one room and one work space; nothing is refused exactly where all that is asked holds; each refusal is the one of the first demand that does not hold. Assumes nothing.
+use Rattle.std.specs.Prelude.{Ok, Err}
+use Rattle.refusals.specs.Given.{Answer, Fault, refused}
 use Prim.Native.Nat.{ℕ, ◌+◌, ◌≤◌, ◌<◌}
 use mathlib.Core.Path.{◌≡◌, refl, sym, ap, ◌∙◌}
 use mathlib.Core.Bool.{true, cond}
@@ -12,37 +14,32 @@ use Rattle.ground.proofs.Tests.{and-true}
 use Rattle.net.specs.Net.{Net}
 use Rattle.refusals.specs.Given.{or_else, marked_fault, word_fault, Letters}
 use Rattle.refusals.specs.First.{First, fails, holds, GivenAt, WordFirst}
-use Rattle.refusals.specs.declared.Fault.{Fault}
-use Rattle.refusals.specs.declared.Fault.TheVariants.{Sound}
 use Rattle.refusals.proofs.Chains.{or_sound, sound_or}
 use Rattle.refusals.proofs.Refusals.{marked_met, met_marked}
 use Rattle.refusals.proofs.Words.{word_met, met_word}
-use Rattle.refusals.proofs.Exactly.{Chain, Reads, reads_both, reads_all, marked_reads, word_reads, Answers, answers_of, fault_is, exactly_refused, is_answered, is_allowed}
+use Rattle.refusals.proofs.Exactly.{Chain, Reads, reads_both, reads_all, marked_reads, word_reads, Answers, not_refused, fault_is, exactly_refused, is_answered, is_allowed}
 use Rattle.orders.specs.Orders.{logs_of}
 use Rattle.orders.specs.Lengths.{log_limit, work_length, long_fault, LongFirst}
 use Rattle.orders.specs.Search.{Way, no_order, an_order, way_of}
 use Rattle.orders.proofs.Lengths.{long_met, met_long, long_reads}
-use Rattle.order.specs.Entry.{logs_fault, order_fault, rooms_fit, found, answered, order_of, numbers, Ordered, Allowed, Refusal}
+use Rattle.order.specs.Entry.{logs_fault, order_fault, rooms_fit, found, order_of, numbers, Ordered, Allowed, Refusal}
 use Rattle.order.specs.declared.LogOrder.{LogOrder}
-use Rattle.order.specs.declared.LogOrder.TheVariants.{Found, NoneFires, Refused}
+use Rattle.order.specs.declared.LogOrder.TheVariants.{Found, NoneFires}
 
 -- `numbers` tells any two answers apart: the answer is read back from them
-abbrev back : List ℕ → LogOrder
-back ns = cond (eqb (get_or ns 0 0) 0x82) (Refused (get_or ns 1 0) (get_or ns 2 0)) (cond (eqb (get_or ns 1 0) 0) Found NoneFires)
+abbrev back : List ℕ → Answer LogOrder
+back ns = cond (eqb (get_or ns 0 0) 0x82) (refused (get_or ns 1 0) (get_or ns 2 0)) (cond (eqb (get_or ns 1 0) 0) (Ok Found) (Ok NoneFires))
 
-numbers_back : (a : LogOrder) → back (numbers a) ≡ a
-numbers_back Found = refl
-numbers_back NoneFires = refl
-numbers_back (Refused n at) = refl
+numbers_back : (a : Answer LogOrder) → back (numbers a) ≡ a
+numbers_back (Ok Found) = refl
+numbers_back (Ok NoneFires) = refl
+numbers_back (Err r) = refl
 
-pub numbers_apart : (a b : LogOrder) → numbers a ≡ numbers b → a ≡ b
+pub numbers_apart : (a b : Answer LogOrder) → numbers a ≡ numbers b → a ≡ b
 numbers_apart a b e = sym (numbers_back a) ∙ ap back e ∙ numbers_back b
 
-refused_one : (n at k p : ℕ) → Refused n at ≡ Refused k p → (n ≡ k) × (at ≡ p)
-refused_one n at k p e = (cc, cc)
-
 -- the promise has one answer, one content of the room and one of the work space
-pub unique : (net : Net) (initial first second room work : List ℕ) (r r' : LogOrder) (m m' w w' : List ℕ)
+pub unique : (net : Net) (initial first second room work : List ℕ) (r r' : Answer LogOrder) (m m' w w' : List ℕ)
     → Ordered net initial first second room work r m w → Ordered net initial first second room work r' m' w' → (r ≡ r') × ((m ≡ m') × (w ≡ w'))
 unique net initial first second room work r r' m m' w w' a b = (numbers_apart r r' (a.answer ∙ sym b.answer), (a.left ∙ sym b.left, a.cleared ∙ sym b.cleared))
 
@@ -69,14 +66,14 @@ reads_as same a =
 
 module _ (T : ℕ) (first second : List ℕ) where
   -- both logs are short and their letters name transitions
-  pub logs_met : logs_fault T first second ≡ Sound → ((length first ≤ log_limit) × (length second ≤ log_limit)) × (Letters T first × Letters T second)
+  pub logs_met : logs_fault T first second ≡ Ok tt → ((length first ≤ log_limit) × (length second ≤ log_limit)) × (Letters T first × Letters T second)
   unfolding logs_fault
   logs_met e =
       let a = or_sound (long_fault (length first) (length second)) (or_else (word_fault T first) (word_fault T second)) e in
       let b = or_sound (word_fault T first) (word_fault T second) a.1 in
       (long_met (length first) (length second) a.0, ((word_met T first b.0).letters, (word_met T second b.1).letters))
 
-  pub met_logs : length first ≤ log_limit → length second ≤ log_limit → Letters T first → Letters T second → logs_fault T first second ≡ Sound
+  pub met_logs : length first ≤ log_limit → length second ≤ log_limit → Letters T first → Letters T second → logs_fault T first second ≡ Ok tt
   unfolding logs_fault
   met_logs a b u v =
       sound_or _ _ (met_long (length first) (length second) a b)
@@ -113,7 +110,7 @@ module _ (first second room work : List ℕ) where
   of_fits h = rw (eq-eqb (length room) (length first + length second) h.0, eq-eqb (length work) work_length h.1)
 
 module _ (net : Net) (initial first second room work : List ℕ) where
-  pub allowed_of : order_fault net initial first second (rooms_fit first second room work) ≡ Sound → Allowed net initial first second room work
+  pub allowed_of : order_fault net initial first second (rooms_fit first second room work) ≡ Ok tt → Allowed net initial first second room work
   unfolding order_fault
   allowed_of e =
       let a = or_sound (marked_fault net initial (rooms_fit first second room work)) (logs_fault net.transitions first second) e in
@@ -134,7 +131,7 @@ module _ (net : Net) (initial first second room work : List ℕ) where
         letters_second = l.1.1;
       }
 
-  pub of_allowed : Allowed net initial first second room work → order_fault net initial first second (rooms_fit first second room work) ≡ Sound
+  pub of_allowed : Allowed net initial first second room work → order_fault net initial first second (rooms_fit first second room work) ≡ Ok tt
   unfolding order_fault
   of_allowed a =
       sound_or _ _
@@ -150,9 +147,9 @@ module _ (net : Net) (initial first second room work : List ℕ) where
       (logs_reads net.transitions first second))
 
 -- what is found is never a refusal
-never_refused : (way : Way) (room : List ℕ) (n at : ℕ) → (found way room).answer ≡ Refused n at → ⊥
-never_refused no_order room n at e = let z : ◌≡◌ {A = ℕ} 0 1 = cc in omega arith
-never_refused (an_order order) room n at e = let z : ◌≡◌ {A = ℕ} 0 1 = cc in omega arith
+never_refused : (way : Way) (room : List ℕ) (n at : ℕ) → (found way room).answer ≡ refused n at → ⊥
+never_refused no_order room n at e = not_refused NoneFires n at e
+never_refused (an_order order) room n at e = not_refused Found n at e
 
 -- whatever is found, the work space is zero
 found_zero : (way : Way) (room : List ℕ) → (found way room).work ≡ replicate work_length 0
@@ -160,32 +157,33 @@ found_zero no_order room = refl
 found_zero (an_order order) room = refl
 
 -- ---- an order or none is answered exactly where nothing is refused
-module _ (net : Net) (initial first second room work : List ℕ) (r : LogOrder) (room' work' : List ℕ) (promise : Ordered net initial first second room work r room' work') where
+module _ (net : Net) (initial first second room work : List ℕ) (r : Answer LogOrder) (room' work' : List ℕ) (promise : Ordered net initial first second room work r room' work') where
   answer_is : r ≡ (order_of net initial first second room work).answer
   answer_is = numbers_apart r (order_of net initial first second room work).answer promise.answer
 
-  answers : Answers Refused (order_fault net initial first second (rooms_fit first second room work)) r
+  answers : Answers (order_fault net initial first second (rooms_fit first second room work)) r
   answers =
-      answers_of Refused (λ (f : Fault). (answered f (way_of (logs_of net first second) initial) room work).answer)
-      (order_fault net initial first second (rooms_fit first second room work)) r answer_is (λ n at. refl)
-      (never_refused (way_of (logs_of net first second) initial) room)
+      record {
+        given = λ n at f. answer_is ∙ rw f;
+        never = λ f n at e. never_refused (way_of (logs_of net first second) initial) room n at (sym (rw f at answer_is) ∙ e);
+      }
 
   -- a refusal has the number and position of the first demand that does not hold, and is given exactly then
-  pub refused_exactly : (n at : ℕ) → (r ≡ Refused n at) ↔ Refusal net initial first second room work n at
-  refused_exactly = exactly_refused answers refused_one (order_chain net initial first second room work)
+  pub refused_exactly : (n at : ℕ) → (r ≡ refused n at) ↔ Refusal net initial first second room work n at
+  refused_exactly = exactly_refused answers (order_chain net initial first second room work)
 
   -- "A refusal leaves lent memory as found."
-  pub refused_as_found : (n at : ℕ) → r ≡ Refused n at → (room' ≡ room) × (work' ≡ work)
-  refused_as_found n at e = let f = fault_is answers refused_one n at e in (rw f at promise.left, rw f at promise.cleared)
+  pub refused_as_found : (n at : ℕ) → r ≡ refused n at → (room' ≡ room) × (work' ≡ work)
+  refused_as_found n at e = let f = fault_is answers n at e in (rw f at promise.left, rw f at promise.cleared)
 
-  pub allowed_answered : Allowed net initial first second room work → (n at : ℕ) → r ≡ Refused n at → ⊥
+  pub allowed_answered : Allowed net initial first second room work → (n at : ℕ) → r ≡ refused n at → ⊥
   allowed_answered = is_answered answers (of_allowed net initial first second room work)
 
-  pub answered_allowed : ((n at : ℕ) → r ≡ Refused n at → ⊥) → Allowed net initial first second room work
+  pub answered_allowed : ((n at : ℕ) → r ≡ refused n at → ⊥) → Allowed net initial first second room work
   answered_allowed = is_allowed answers (allowed_of net initial first second room work)
 
   -- "any answer but a refusal leaves them zero"
-  pub zero_after : ((n at : ℕ) → r ≡ Refused n at → ⊥) → work' ≡ replicate work_length 0
+  pub zero_after : ((n at : ℕ) → r ≡ refused n at → ⊥) → work' ≡ replicate work_length 0
   zero_after none =
       let f = of_allowed net initial first second room work (answered_allowed none) in
       let w : work' ≡ (found (way_of (logs_of net first second) initial) room).work = rw f at promise.cleared in
@@ -196,27 +194,27 @@ module _ (net : Net) (initial first second room work : List ℕ) (r : LogOrder) 
     is_way : (r ≡ (found (way_of (logs_of net first second) initial) room).answer) × (room' ≡ (found (way_of (logs_of net first second) initial) room).left)
     is_way = let f = of_allowed net initial first second room work allowed in (rw f at answer_is, rw f at promise.left)
 
-    pub way_found : (order : List ℕ) → way_of (logs_of net first second) initial ≡ an_order order → (r ≡ Found) × (room' ≡ order)
+    pub way_found : (order : List ℕ) → way_of (logs_of net first second) initial ≡ an_order order → (r ≡ Ok Found) × (room' ≡ order)
     way_found order e = (rw e at is_way.0, rw e at is_way.1)
 
-    pub way_none_fires : way_of (logs_of net first second) initial ≡ no_order → (r ≡ NoneFires) × (room' ≡ room)
+    pub way_none_fires : way_of (logs_of net first second) initial ≡ no_order → (r ≡ Ok NoneFires) × (room' ≡ room)
     way_none_fires e = (rw e at is_way.0, rw e at is_way.1)
 
-  pub found_allowed : r ≡ Found → Allowed net initial first second room work
-  found_allowed e = answered_allowed (λ n at q. let z : ◌≡◌ {A = ℕ} 0 1 = cc in omega arith)
+  pub found_allowed : r ≡ Ok Found → Allowed net initial first second room work
+  found_allowed e = answered_allowed (λ n at q. not_refused Found n at (sym e ∙ q))
 
-  pub none_allowed : r ≡ NoneFires → Allowed net initial first second room work
-  none_allowed e = answered_allowed (λ n at q. let z : ◌≡◌ {A = ℕ} 0 1 = cc in omega arith)
+  pub none_allowed : r ≡ Ok NoneFires → Allowed net initial first second room work
+  none_allowed e = answered_allowed (λ n at q. not_refused NoneFires n at (sym e ∙ q))
 
   -- the order found is the one to be given
-  pub found_way : r ≡ Found → way_of (logs_of net first second) initial ≡ an_order room'
+  pub found_way : r ≡ Ok Found → way_of (logs_of net first second) initial ≡ an_order room'
   found_way e = go (way_of (logs_of net first second) initial) refl
     where
       go : (way : Way) → way_of (logs_of net first second) initial ≡ way → way_of (logs_of net first second) initial ≡ an_order room'
       go no_order q = let x = (way_none_fires (found_allowed e) q).0 in let z : ◌≡◌ {A = ℕ} 0 1 = cc in absurd (omega arith)
       go (an_order order) q = q ∙ ap an_order (sym (way_found (found_allowed e) order q).1)
 
-  pub none_way : r ≡ NoneFires → way_of (logs_of net first second) initial ≡ no_order
+  pub none_way : r ≡ Ok NoneFires → way_of (logs_of net first second) initial ≡ no_order
   none_way e = go (way_of (logs_of net first second) initial) refl
     where
       go : (way : Way) → way_of (logs_of net first second) initial ≡ way → way_of (logs_of net first second) initial ≡ no_order
@@ -224,5 +222,5 @@ module _ (net : Net) (initial first second room work : List ℕ) (r : LogOrder) 
       go (an_order order) q = let x = (way_found (none_allowed e) order q).0 in let z : ◌≡◌ {A = ℕ} 0 1 = cc in absurd (omega arith)
 
   -- ""none" leaves the room for the order as found"
-  pub none_as_found : r ≡ NoneFires → room' ≡ room
+  pub none_as_found : r ≡ Ok NoneFires → room' ≡ room
   none_as_found e = (way_none_fires (none_allowed e) (none_way e)).1

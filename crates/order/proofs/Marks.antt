@@ -8,6 +8,7 @@ use Rattle.net.specs.Net.{Net}
 use Rattle.net.specs.Letter.{arcs_at, passes, fired_at}
 use Rattle.net.specs.Marks.{remarked, MarksAlike}
 use Rattle.net.proofs.Pockets.{alike_passes}
+use Rattle.refusals.specs.Given.{Answer}
 use Rattle.refusals.proofs.Marks.{remarked_marked}
 use Rattle.orders.specs.Orders.{Recorded, logs_of}
 use Rattle.orders.specs.Search.{Way, no_order, letter_at, onto, else_way, step, order_from, left_of}
@@ -47,7 +48,7 @@ module _ (net : Net) (marks : List ℕ) (alike : MarksAlike net.caps net.marks m
       ∙ rw (same_fault initial (rooms_fit first second room work))
 
   -- two questions that differ in the marks only have one answer, and one content of the room and of the work space
-  pub order_alike : (initial room work : List ℕ) (r r' : LogOrder) (m m' w w' : List ℕ) → Ordered net initial first second room work r m w → Ordered (remarked net marks) initial first second room work r' m' w' → (r ≡ r') × ((m ≡ m') × (w ≡ w'))
+  pub order_alike : (initial room work : List ℕ) (r r' : Answer LogOrder) (m m' w w' : List ℕ) → Ordered net initial first second room work r m w → Ordered (remarked net marks) initial first second room work r' m' w' → (r ≡ r') × ((m ≡ m') × (w ≡ w'))
   order_alike initial room work r r' m m' w w' a b =
       let e = sym (same_order initial room work) in
       unique net initial first second room work r r' m m' w w' a

@@ -1,16 +1,16 @@
 -- To be believed: two logs put into an order that fires: refusals 1 2 18 3 17 4 15 5, else the order that is given, or none.
+use Rattle.std.specs.Prelude.{Ok, Err}
+use Rattle.refusals.specs.Given.{Answer, Fault}
 use Rattle.std.specs.Prelude.{ℕ, ◌+◌, ◌≤◌, ◌<◌, ◌≡◌, Bool, ◌&&◌, List, [], ◌∷◌, length, get_or, replicate, eqb}
 use Rattle.net.specs.Net.{Net, Sized, Light}
 use Rattle.wiring.specs.Wired.{Wired}
 use Rattle.refusals.specs.Given.{or_else, marked_fault, word_fault, Fine, Letters}
 use Rattle.refusals.specs.First.{First, GivenAt, MarkedFirst}
-use Rattle.refusals.specs.declared.Fault.{Fault}
-use Rattle.refusals.specs.declared.Fault.TheVariants.{Sound, Faulty}
 use Rattle.orders.specs.Orders.{logs_of}
 use Rattle.orders.specs.Lengths.{log_limit, work_length, long_fault, LongFirst}
 use Rattle.orders.specs.Search.{Way, no_order, an_order, way_of}
 use Rattle.order.specs.declared.LogOrder.{LogOrder}
-use Rattle.order.specs.declared.LogOrder.TheVariants.{Found, NoneFires, Refused}
+use Rattle.order.specs.declared.LogOrder.TheVariants.{Found, NoneFires}
 
 -- of two logs 4 and 15, then 5: "first log, then second"
 unfoldable pub logs_fault : ℕ → List ℕ → List ℕ → Fault
@@ -26,32 +26,32 @@ rooms_fit first second room work = eqb (length room) (length first + length seco
 
 -- an answer, and what is left in the room and in the work space
 pub record Answered : Type 0 where
-  pub answer : LogOrder
+  pub answer : Answer LogOrder
   pub left : List ℕ
   pub work : List ℕ
 
 -- "any answer but a refusal leaves them zero, and "none" leaves the room for the order as found"
 abbrev pub found : Way → List ℕ → Answered
-found no_order room = record { answer = NoneFires; left = room; work = replicate work_length 0 }
-found (an_order order) room = record { answer = Found; left = order; work = replicate work_length 0 }
+found no_order room = record { answer = Ok NoneFires; left = room; work = replicate work_length 0 }
+found (an_order order) room = record { answer = Ok Found; left = order; work = replicate work_length 0 }
 
 -- "A refusal leaves lent memory as found."
 abbrev pub answered : Fault → Way → List ℕ → List ℕ → Answered
-answered Sound way room work = found way room
-answered (Faulty n at) way room work = record { answer = Refused n at; left = room; work = work }
+answered (Ok _) way room work = found way room
+answered (Err r) way room work = record { answer = Err r; left = room; work = work }
 
 abbrev pub order_of : Net → List ℕ → List ℕ → List ℕ → List ℕ → List ℕ → Answered
 order_of net initial first second room work =
     answered (order_fault net initial first second (rooms_fit first second room work)) (way_of (logs_of net first second) initial) room work
 
 -- the numbers for each case: 81 00 (found), 81 01 (none); 82, a refusal's number and position
-abbrev pub numbers : LogOrder → List ℕ
-numbers Found = 0x81 ∷ 0 ∷ []
-numbers NoneFires = 0x81 ∷ 1 ∷ []
-numbers (Refused n at) = 0x82 ∷ n ∷ at ∷ []
+abbrev pub numbers : Answer LogOrder → List ℕ
+numbers (Ok Found) = 0x81 ∷ 0 ∷ []
+numbers (Ok NoneFires) = 0x81 ∷ 1 ∷ []
+numbers (Err r) = 0x82 ∷ r.number ∷ r.at ∷ []
 
 -- what is promised of the answer r, of the room and of the work space at the end
-pub record Ordered (net : Net) (initial first second room work : List ℕ) (r : LogOrder) (room' work' : List ℕ) : Type 0 where
+pub record Ordered (net : Net) (initial first second room work : List ℕ) (r : Answer LogOrder) (room' work' : List ℕ) : Type 0 where
   pub answer : numbers r ≡ numbers (order_of net initial first second room work).answer
   pub left : room' ≡ (order_of net initial first second room work).left
   pub cleared : work' ≡ (order_of net initial first second room work).work

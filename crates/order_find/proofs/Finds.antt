@@ -1,20 +1,15 @@
 -- A whole search: from the initial marking to the order in the room. Assumes nothing.
-use Prim.Native.Nat.{ℕ, ◌+◌, ◌≤◌}
+use Prim.Native.Nat.{ℕ, ◌+◌}
 use mathlib.Core.Path.{◌≡◌, sym, ◌∙◌, ap}
 use mathlib.Core.Bool.{Bool, true, false}
 use mathlib.Core.List.{List}
 use native.Mathlib.Omega.{arith}
-use lib.ListN.{length, take, replicate, length-replicate}
+use lib.ListN.{length, take, replicate}
 use Rattle.orders.specs.Orders.{Recorded}
-use Rattle.orders.specs.Lengths.{order_limit, work_length}
+use Rattle.orders.specs.Lengths.{work_length}
 use Rattle.orders.specs.Search.{Way}
 use Rattle.orders.proofs.Meaning.{way_long}
-use Rattle.order_find.specs.Walk.{Stands, Ends, Begins, Sought, is_order, order_or, way_from}
-use Rattle.order_find.proofs.Marks.{remembers_none}
-
--- the initial marking as loaded
-pub stands_loaded : (logs : Recorded) (n k : ℕ) (m path work initial : List ℕ) → m ≡ initial → Stands logs n k initial path work → Stands logs n k m path work
-stands_loaded logs n k m path work initial e s = rw e s
+use Rattle.order_find.specs.Walk.{Ends, Begins, Sought, is_order, order_or, way_from}
 
 pub ends_loaded :
     (logs : Recorded) (n k : ℕ) (m path : List ℕ) (r : Bool) (m' path' work' initial : List ℕ) → m ≡ initial
@@ -22,20 +17,6 @@ pub ends_loaded :
 ends_loaded logs n k m path r m' path' work' initial e s = rw (← e) s
 
 module _ (logs : Recorded) (initial room work : List ℕ) (b : Begins logs initial room work) where
-  -- where the search stands at first, its work space cleared
-  pub begins_stands : (path work₁ : List ℕ) → order_limit ≤ length path → work₁ ≡ replicate (length work) 0 → Stands logs 0 0 initial path work₁
-  begins_stands path work₁ l e =
-      record {
-        ready = b.ready;
-        read_first = omega arith;
-        read_second = omega arith;
-        marked = b.marked;
-        small = record { at = λ p. omega (arith, b.small.at p) };
-        roomy = omega (arith, b.ready.few_first, b.ready.few_second);
-        bytes = ap length e ∙ length-replicate {A = ℕ} (length work) 0 ∙ b.bytes;
-        remembers = remembers_none logs 0 0 initial work₁ (length work) e;
-      }
-
   module _
       (path : List ℕ) (r : Bool) (m₂ path₂ work₂ : List ℕ) (e : Ends logs 0 0 initial path (way_from logs 0 0 initial) r m₂ path₂ work₂)
       (work₃ : List ℕ) (z : work₃ ≡ replicate (length work₂) 0) (l : length work₂ ≡ length work)

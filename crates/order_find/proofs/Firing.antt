@@ -50,9 +50,9 @@ module _ (net : Net) (t : ℕ) (m : List ℕ) (long : length m ≡ net.places) (
           rw (get_or-eq_default (row net.places t net.post) 0 {n = p} (omega arith)) zero-le
 
   -- taken back, the marking is what it was
-  pub back_again : taken_back net.places net.pre net.post t (fired_at net t m) ≡ m
+  pub back_again : taken_back net t (fired_at net t m) ≡ m
   back_again =
-      ext_get_or 0 (taken_back net.places net.pre net.post t (fired_at net t m)) m
+      ext_get_or 0 (taken_back net t (fired_at net t m)) m
       (map_at_length (after (arcs_at net t).puts (arcs_at net t).takes) (fired_at net t m) ∙ fired_long)
       (λ p h.
       let l : p < length m = rw (map_at_length (after (arcs_at net t).puts (arcs_at net t).takes) (fired_at net t m) ∙ fired_long) at h in

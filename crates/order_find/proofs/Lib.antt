@@ -1,5 +1,4 @@
 pub mod Letters
-pub mod Copies
 pub mod Sums
 pub mod Ways
 pub mod Firing

@@ -1,18 +1,15 @@
 -- A search from where it stands: what the code is asked for and what it promises, from what its two steps came to. Assumes nothing.
-use Prim.Native.Nat.{ℕ, ◌+◌, ◌≤◌}
+use Prim.Native.Nat.{ℕ, ◌+◌}
 use mathlib.Core.Path.{◌≡◌, refl, sym, ◌∙◌, ap}
-use mathlib.Core.Bool.{Bool, true, false, not}
+use mathlib.Core.Bool.{Bool, true, false}
 use mathlib.Core.List.{List, [], ◌++◌, append-nil}
 use native.Mathlib.Omega.{arith}
-use lib.ListN.{length, get_or, take, set}
-use lib.Dec.{eqb}
-use borrow.Author.Tests.{eqb-false, not-true}
+use lib.ListN.{length, take, set}
 use Rattle.orders.specs.Orders.{Recorded}
-use Rattle.orders.specs.Lengths.{log_limit}
 use Rattle.orders.specs.Search.{Way, no_order, else_way}
 use Rattle.order_find.specs.Walk.{Stands, Ends, Remembers, cell_of, way_from, way_by}
 use Rattle.order_find.proofs.Ways.{way_end, way_more}
-use Rattle.order_find.proofs.Marks.{dead_here, remembers_more}
+use Rattle.order_find.proofs.Marks.{remembers_more}
 use Rattle.order_find.proofs.Steps.{ends_whole, ends_back}
 
 module _ (logs : Recorded) (n k : ℕ) (m path work : List ℕ) (s : Stands logs n k m path work) where
@@ -25,21 +22,6 @@ module _ (logs : Recorded) (n k : ℕ) (m path work : List ℕ) (s : Stands logs
         order = [];
         is = way_end logs n k m s.read_first s.read_second e;
         stands = ap (λ (j : ℕ). take j path) z ∙ sym (append-nil (take (n + k) path));
-      })
-
-  pub few_read : (n ≤ log_limit) × (k ≤ log_limit)
-  few_read = (omega (arith, s.read_first, s.ready.few_first), omega (arith, s.read_second, s.ready.few_second))
-
-  -- a dead end that is remembered
-  pub look_dead : (r : Bool) → r ≡ not (eqb (get_or work (cell_of n k) 0) 0) → r ≡ true → Ends logs n k m path (way_from logs n k m) false m path work
-  look_dead r e y =
-      let z : get_or work (cell_of n k) 0 ≡ 0 → ⊥ = eqb-false (get_or work (cell_of n k) 0) 0 (not-true (eqb (get_or work (cell_of n k) 0) 0) (sym e ∙ y)) in
-      ends_back logs n k m path (way_from logs n k m) false m path work refl
-      (record {
-        is = dead_here logs n k m work s.remembers s.read_first s.read_second z;
-        marking = refl;
-        stands = refl;
-        remembers = s.remembers;
       })
 
   -- something is left, and a step from the first log came to this

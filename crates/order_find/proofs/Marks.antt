@@ -4,8 +4,7 @@ use mathlib.Core.Path.{◌≡◌, refl, sym, ◌∙◌}
 use mathlib.Core.Bool.{Bool, true, false}
 use mathlib.Core.List.{List}
 use native.Mathlib.Omega.{arith}
-use native.Mathlib.Decide.{dec_lt}
-use lib.ListN.{length, get_or, set, replicate, length-replicate, get_or-replicate, get_or-eq_default}
+use lib.ListN.{length, get_or, set}
 use lib.Seq.{ext_get_or, get_or-set_other}
 use lib.Dec.{eqb}
 use borrow.Author.Tests.{eqb-true, eqb-false}
@@ -79,19 +78,7 @@ module _ (logs : Recorded) where
   pub remembers_back : {n k n' k' : ℕ} {m m' work : List ℕ} → Alike logs n k m n' k' m' → Remembers logs n' k' m' work → Remembers logs n k m work
   remembers_back a r = remembers_along (alike_turned a) r
 
-  -- a work space of zeros remembers nothing
-  pub remembers_none : (n k : ℕ) (m work : List ℕ) (l : ℕ) → work ≡ replicate l 0 → Remembers logs n k m work
-  remembers_none n k m work l e = record { dead = λ i j x b c z s. absurd (z (rw e (zero_at (cell_of i j) (dec_lt (cell_of i j) l)))) }
-    where
-      zero_at : (c : ℕ) → Dec (c < l) → ◌≡◌ {A = ℕ} (get_or (replicate l 0) c 0) 0
-      zero_at c (yes h) = get_or-replicate l c 0 0 h
-      zero_at c (no f) = get_or-eq_default (replicate l 0) 0 {n = c} (rw (length-replicate {A = ℕ} l 0) (omega arith))
-
   module _ (n k : ℕ) (m work : List ℕ) (r : Remembers logs n k m work) (a : n ≤ length logs.first) (b : k ≤ length logs.second) where
-    -- a dead end that is remembered is one
-    pub dead_here : (get_or work (cell_of n k) 0 ≡ 0 → ⊥) → way_from logs n k m ≡ no_order
-    dead_here z = r.dead n k m a b z (alike_own n k m)
-
     -- one more dead end may be remembered
     pub remembers_more : length logs.first ≤ log_limit → length logs.second ≤ log_limit → way_from logs n k m ≡ no_order → Remembers logs n k m (set work (cell_of n k) 1)
     remembers_more few few' w = record { dead = λ i j x f g z s. go i j x f g z s (eqb (cell_of i j) (cell_of n k)) refl }

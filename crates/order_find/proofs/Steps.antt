@@ -122,14 +122,14 @@ module _ (logs : Recorded) (which n k : ℕ) (m path work : List ℕ) (w : which
 
             -- ... and then all is as it was
             pub step_none :
-                (m₃ : List ℕ) → m₃ ≡ taken_back logs.net.places logs.net.pre logs.net.post t m₂
+                (m₃ : List ℕ) → m₃ ≡ taken_back logs.net t m₂
                 → Ends logs n k m path (way_by logs which n k m) false m₃ path₂ work₂
             step_none m₃ e₃ =
                 let b = e.back y in
                 ends_back logs n k m path (way_by logs which n k m) false m₃ path₂ work₂ refl
                 (record {
                   is = by_this ∙ ap (onto which) b.is;
-                  marking = e₃ ∙ ap (taken_back logs.net.places logs.net.pre logs.net.post t) there_again ∙ back_again logs.net t m s.marked pass;
+                  marking = e₃ ∙ ap (taken_back logs.net t) there_again ∙ back_again logs.net t m s.marked pass;
                   stands = path_kept path path₂ (n + k) (n + (1 - which) + (k + which)) which going.steps b.stands;
                   remembers = remembers_back logs same_start b.remembers;
                 })

@@ -1,7 +1,8 @@
 -- Only for the code's walk, tied to the order that is given by the contract of `find_order`: where a search stands, what it remembers, and how it ends.
-use Rattle.std.specs.Prelude.{ℕ, ◌+◌, ◌-◌, ◌*◌, ◌≤◌, ◌<◌, ◌≡◌, Bool, true, false, List, ◌++◌, length, get_or, take, replicate}
+use Rattle.std.specs.List.{slice_get}
+use Rattle.std.specs.Prelude.{ℕ, zero, suc, Option, ◌+◌, ◌-◌, ◌*◌, ◌≤◌, ◌<◌, ◌≡◌, Bool, true, false, List, ◌++◌, length, get_or, take, replicate}
 use Rattle.ground.specs.Limits.{token_limit, tokens_after}
-use Rattle.net.specs.Net.{Sized, Light, tokens}
+use Rattle.net.specs.Net.{Net, Sized, Light, tokens}
 use Rattle.net.specs.Letter.{Small, row, fired}
 use Rattle.refusals.specs.Given.{Letters}
 use Rattle.orders.specs.Orders.{Recorded}
@@ -17,8 +18,13 @@ abbrev pub put_at : Recorded → ℕ → ℕ → ℕ → ℕ
 put_at logs n k p = put logs.net p (take n logs.first) + put logs.net p (take k logs.second)
 
 -- the marking before transition t, from the one after it
-abbrev pub taken_back : ℕ → List ℕ → List ℕ → ℕ → List ℕ → List ℕ
-taken_back P pre post t m = fired (row P t post) (row P t pre) m
+abbrev pub taken_back : Net → ℕ → List ℕ → List ℕ
+taken_back net t m = fired (row net.places t net.post) (row net.places t net.pre) m
+
+-- the next unread letter of log `which`, n letters of the first and k of the second having been read, if that log has one left
+abbrev pub unread : List ℕ → List ℕ → ℕ → ℕ → ℕ → Option ℕ
+unread first second zero n k = slice_get first n
+unread first second (suc x) n k = slice_get second k
 
 -- m, come to with n and k letters read, and m', with n' and k', come from the same start: at each place they differ by what was taken and put
 pub record Alike (logs : Recorded) (n k : ℕ) (m : List ℕ) (n' k' : ℕ) (m' : List ℕ) : Type 0 where

@@ -1,14 +1,14 @@
 -- The numbers tell any two answers apart; nothing is refused exactly where all that is asked holds; each refusal is the one of the first demand that does not hold. Assumes nothing.
+use Rattle.std.specs.Prelude.{Ok, Err}
+use Rattle.refusals.specs.Given.{Fault, refusal}
 use Prim.Native.Nat.{ℕ}
 use mathlib.Core.Path.{◌≡◌, refl, sym, ap, ◌∙◌}
 use mathlib.Core.Bool.{not}
 use mathlib.Core.List.{List, [], ◌∷◌}
 use lib.ListN.{length}
 use borrow.Author.Tests.{not-false}
-use Rattle.refusals.specs.Given.{refuse}
-use Rattle.refusals.specs.declared.Fault.{Fault}
-use Rattle.refusals.specs.declared.Fault.TheVariants.{Sound, Faulty}
-use Rattle.refusals.proofs.Chains.{chain_first, chain_next, or_sound, sound_or, refuse_sound, sound_refuse}
+use Rattle.refusals.specs.Given.{refuse, or_else}
+use Rattle.refusals.proofs.Chains.{or_sound, sound_or, refuse_sound, sound_refuse}
 use Rattle.refusals.proofs.Exactly.{Chain, tells_test, reads_test, reads_both, reads_all}
 use Rattle.orders.specs.Lengths.{long_fault}
 use Rattle.orders.proofs.Lengths.{long_met, met_long, long_reads}
@@ -17,14 +17,14 @@ use Rattle.order_rest.proofs.Fits.{order_of_lem, of_order}
 
 -- an answer can be read back from its numbers
 abbrev back : List ℕ → Fault
-back (k ∷ n ∷ at ∷ l) = Faulty n at
-back (k ∷ n ∷ []) = Sound
-back (k ∷ []) = Sound
-back [] = Sound
+back (k ∷ n ∷ at ∷ l) = Err (refusal n at)
+back (k ∷ n ∷ []) = Ok tt
+back (k ∷ []) = Ok tt
+back [] = Ok tt
 
 back_is : (a : Fault) → back (numbers a) ≡ a
-back_is Sound = refl
-back_is (Faulty n at) = refl
+back_is (Ok _) = refl
+back_is (Err r) = refl
 
 pub numbers_apart : (a b : Fault) → numbers a ≡ numbers b → a ≡ b
 numbers_apart a b e = sym (back_is a) ∙ ap back e ∙ back_is b
@@ -36,17 +36,12 @@ module _ (first second order : List ℕ) (step : ℕ) where
   pub is_told : (r : Fault) → r ≡ rest_fault first second order step → Told first second order step r
   is_told r e = record { answer = ap numbers e }
 
-  -- what was found of the lengths, and whether the order fits
-  module _ (long : Fault) (e : long ≡ long_fault (length first) (length second)) where
-    pub told_long : (n at : ℕ) → long ≡ Faulty n at → Told first second order step (Faulty n at)
-    unfolding rest_fault
-    told_long n at q = is_told (Faulty n at) (chain_first _ _ long n at e q)
+  -- so it is where the code comes to: the fault of the lengths, else that of the order
+  pub told_of : (r : Fault) → r ≡ or_else (long_fault (length first) (length second)) (refuse (not (fits (length first) (length second) order step)) 16 0) → Told first second order step r
+  unfolding rest_fault
+  told_of r e = is_told r e
 
-    pub told_fits : (r : Fault) → long ≡ Sound → r ≡ refuse (not (fits (length first) (length second) order step)) 16 0 → Told first second order step r
-    unfolding rest_fault
-    told_fits r q f = is_told r (chain_next _ _ long r e q f)
-
-  pub allowed_of : rest_fault first second order step ≡ Sound → Allowed first second order step
+  pub allowed_of : rest_fault first second order step ≡ Ok tt → Allowed first second order step
   unfolding rest_fault
   allowed_of e =
       let a = or_sound (long_fault (length first) (length second)) (refuse (not (fits (length first) (length second) order step)) 16 0) e in
@@ -54,7 +49,7 @@ module _ (first second order : List ℕ) (step : ℕ) where
       let o = order_of_lem first second order step (not-false _ (refuse_sound _ 16 0 a.1)) in
       record { short_first = l.0; short_second = l.1; of_both = o.0; inside = o.1 }
 
-  pub of_allowed : Allowed first second order step → rest_fault first second order step ≡ Sound
+  pub of_allowed : Allowed first second order step → rest_fault first second order step ≡ Ok tt
   unfolding rest_fault
   of_allowed a =
       sound_or _ _ (met_long (length first) (length second) a.short_first a.short_second)

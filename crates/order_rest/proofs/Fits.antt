@@ -1,7 +1,7 @@
 -- What `fits` tests: one fact for each of its tests. Assumes nothing.
 use Prim.Native.Nat.{ℕ, ◌+◌, ◌<◌}
-use mathlib.Core.Path.{◌≡◌, refl, sym}
-use mathlib.Core.Bool.{Bool, true, false, ◌&&◌}
+use mathlib.Core.Path.{◌≡◌}
+use mathlib.Core.Bool.{true, ◌&&◌}
 use mathlib.Core.List.{List}
 use lib.ListN.{length}
 use lib.Dec.{ltb, eqb}
@@ -27,15 +27,6 @@ module _ (n k : ℕ) (order : List ℕ) (step : ℕ) where
   pub true_fits : Fitting n k order step → fits n k order step ≡ true
   true_fits f =
       rw (eq-eqb (count 0 order) n f.zeros, eq-eqb (count 1 order) k f.ones, eq-eqb (length order) (n + k) f.long, lt-ltb step (length order) f.inside)
-
-  -- a test is `fits` if these facts hold where it does, and do not where it does not, however it is written
-  pub fits_is : (t : Bool) → (t ≡ true → Fitting n k order step) → (t ≡ false → Fitting n k order step → ⊥) → t ≡ fits n k order step
-  fits_is true there miss = sym (true_fits (there refl))
-  fits_is false there miss = go (fits n k order step) refl
-    where
-      go : (b : Bool) → fits n k order step ≡ b → false ≡ fits n k order step
-      go true e = absurd (miss refl (fits_true e))
-      go false e = sym e
 
 -- the order is one of the two logs' and has the step
 module _ (first second order : List ℕ) (step : ℕ) where

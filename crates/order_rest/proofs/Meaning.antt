@@ -1,4 +1,6 @@
 -- What the two questions mean: the promise fixes the answer and the part; what is refused, and when; the part is the unread rest of the step's log, and begins with the letter that the step takes. Assumes nothing.
+use Rattle.std.specs.Prelude.{Ok, Err}
+use Rattle.refusals.specs.Given.{Fault, refused}
 use Prim.Native.Nat.{ℕ, zero, suc, ◌≤◌}
 use mathlib.Core.Path.{◌≡◌, refl, sym, ap, ◌∙◌}
 use mathlib.Core.List.{List, []}
@@ -7,10 +9,8 @@ use native.Mathlib.Nat.{add-zero}
 use native.Mathlib.Omega.{arith}
 use lib.ListN.{length, get_or, length-drop}
 use lib.Seq.{get_or-drop}
-use Rattle.refusals.specs.declared.Fault.{Fault}
-use Rattle.refusals.specs.declared.Fault.TheVariants.{Sound, Faulty}
-use Rattle.refusals.proofs.Chains.{fault_one, not_sound}
-use Rattle.refusals.proofs.Exactly.{Answers, answers_of, exactly_refused, is_answered, is_allowed}
+use Rattle.refusals.proofs.Chains.{not_sound}
+use Rattle.refusals.proofs.Exactly.{Answers, exactly_refused, is_answered, is_allowed}
 use Rattle.orders.specs.Orders.{woven}
 use Rattle.order_rest.specs.Rest.{which_at, log_of, read_at, unread, rest_fault, rest_unless, rest_of, RestFrom, Told, Allowed, Refusal}
 use Rattle.order_rest.proofs.Steps.{letter_left, step_one, woven_at}
@@ -27,23 +27,25 @@ module _ (first second order : List ℕ) (step : ℕ) where
 
 -- ---- what is refused
 module _ (first second order : List ℕ) (step : ℕ) (r : Fault) (promise : Told first second order step r) where
-  answers : Answers Faulty (rest_fault first second order step) r
+  answers : Answers (rest_fault first second order step) r
   answers =
-      answers_of Faulty (λ (f : Fault). f) (rest_fault first second order step) r (told_is first second order step r promise) (λ n at. refl)
-      (λ n at e. not_sound n at (sym e))
+      record {
+        given = λ n at f. told_is first second order step r promise ∙ f;
+        never = λ f n at e. not_sound n at (sym e ∙ told_is first second order step r promise ∙ f);
+      }
 
   -- a refusal has the number and position of the first demand that does not hold, and is given exactly then
-  pub refused_exactly : (n at : ℕ) → (r ≡ Faulty n at) ↔ Refusal first second order step n at
-  refused_exactly = exactly_refused answers fault_one (rest_chain first second order step)
+  pub refused_exactly : (n at : ℕ) → (r ≡ refused n at) ↔ Refusal first second order step n at
+  refused_exactly = exactly_refused answers (rest_chain first second order step)
 
-  pub allowed_answered : Allowed first second order step → (n at : ℕ) → r ≡ Faulty n at → ⊥
+  pub allowed_answered : Allowed first second order step → (n at : ℕ) → r ≡ refused n at → ⊥
   allowed_answered = is_answered answers (of_allowed first second order step)
 
-  pub answered_allowed : ((n at : ℕ) → r ≡ Faulty n at → ⊥) → Allowed first second order step
+  pub answered_allowed : ((n at : ℕ) → r ≡ refused n at → ⊥) → Allowed first second order step
   answered_allowed = is_allowed answers (allowed_of first second order step)
 
   -- nothing is refused exactly where all that is asked holds
-  pub sound_exactly : (r ≡ Sound) ↔ Allowed first second order step
+  pub sound_exactly : (r ≡ Ok tt) ↔ Allowed first second order step
   sound_exactly = (
     λ e. allowed_of first second order step (sym (told_is first second order step r promise) ∙ e),
     λ a. told_is first second order step r promise ∙ of_allowed first second order step a,
@@ -51,9 +53,9 @@ module _ (first second order : List ℕ) (step : ℕ) (r : Fault) (promise : Tol
 
 -- ---- the part, where nothing is refused
 module _ (first second order : List ℕ) (step : ℕ) (part : List ℕ) (promise : part ≡ rest_of first second order step) where
-  module _ (nothing : Told first second order step Sound) where
+  module _ (nothing : Told first second order step (Ok tt)) where
     allowed : Allowed first second order step
-    allowed = (sound_exactly first second order step Sound nothing).0 refl
+    allowed = (sound_exactly first second order step (Ok tt) nothing).0 refl
 
     -- the unread rest of the log that the step takes from
     rest-is : part ≡ unread first second order step
@@ -86,15 +88,15 @@ module _ (first second order : List ℕ) (step : ℕ) (part : List ℕ) (promise
 
   -- "refused, the part is empty", and only then; r is what "a call beside tells"
   module _ (r : Fault) (told : Told first second order step r) where
-    empty_of : (n at : ℕ) → r ≡ Faulty n at → part ≡ []
+    empty_of : (n at : ℕ) → r ≡ refused n at → part ≡ []
     empty_of n at e = promise ∙ ap (λ (f : Fault). rest_unless f (unread first second order step)) (sym (told_is first second order step r told) ∙ e)
 
-    pub refused_empty : (part ≡ []) ↔ (r ≡ Sound → ⊥)
+    pub refused_empty : (part ≡ []) ↔ (r ≡ Ok tt → ⊥)
     refused_empty = (there, back r refl)
       where
-        there : part ≡ [] → r ≡ Sound → ⊥
+        there : part ≡ [] → r ≡ Ok tt → ⊥
         there e q = let h = rest_some (rw q at told) in let l = ap length e in omega arith
 
-        back : (x : Fault) → r ≡ x → (r ≡ Sound → ⊥) → part ≡ []
-        back Sound q miss = absurd (miss q)
-        back (Faulty n at) q miss = empty_of n at q
+        back : (x : Fault) → r ≡ x → (r ≡ Ok tt → ⊥) → part ≡ []
+        back (Ok _) q miss = absurd (miss q)
+        back (Err r) q miss = empty_of r.number r.at q

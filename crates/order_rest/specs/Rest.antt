@@ -1,10 +1,10 @@
 -- To be believed: "for a step, .. the unread rest of whichever log that step takes from, as it lies in the lent log, from that step's entry on; refused, the part is empty
 -- and a call beside tells the number".
+use Rattle.std.specs.Prelude.{Ok, Err}
+use Rattle.refusals.specs.Given.{Fault}
 use Rattle.std.specs.Prelude.{ℕ, zero, suc, ◌+◌, ◌≤◌, ◌<◌, ◌≡◌, Bool, not, ◌&&◌, List, [], ◌∷◌, length, get_or, take, drop, ltb, eqb}
 use Rattle.refusals.specs.Given.{refuse, or_else}
 use Rattle.refusals.specs.First.{First, Given}
-use Rattle.refusals.specs.declared.Fault.{Fault}
-use Rattle.refusals.specs.declared.Fault.TheVariants.{Sound, Faulty}
 use Rattle.orders.specs.Orders.{count, OrderOf}
 use Rattle.orders.specs.Lengths.{log_limit, long_fault, LongFirst}
 
@@ -35,8 +35,8 @@ unread first second order step = drop (read_at order step) (log_of (which_at ord
 
 -- "refused, the part is empty"
 abbrev pub rest_unless : Fault → List ℕ → List ℕ
-rest_unless Sound rest = rest
-rest_unless (Faulty n at) rest = []
+rest_unless (Ok _) rest = rest
+rest_unless (Err r) rest = []
 
 abbrev pub rest_of : List ℕ → List ℕ → List ℕ → ℕ → List ℕ
 rest_of first second order step = rest_unless (rest_fault first second order step) (unread first second order step)
@@ -48,8 +48,8 @@ pub record RestFrom (which : ℕ) (log order : List ℕ) (step : ℕ) (part : Li
 
 -- the numbers for what `rest_fault` tells: 81 00 (nothing is refused); 82, the refusal's number and position
 abbrev pub numbers : Fault → List ℕ
-numbers Sound = 0x81 ∷ 0 ∷ []
-numbers (Faulty n at) = 0x82 ∷ n ∷ at ∷ []
+numbers (Ok _) = 0x81 ∷ 0 ∷ []
+numbers (Err r) = 0x82 ∷ r.number ∷ r.at ∷ []
 
 -- what `rest_fault` promises of its answer r
 pub record Told (first second order : List ℕ) (step : ℕ) (r : Fault) : Type 0 where

@@ -7,7 +7,6 @@ use native.Mathlib.Numerals.{add-one}
 use native.Mathlib.Omega.{arith}
 use mathlib.Core.List.{List, [], ◌∷◌}
 use lib.ListN.{length, get_or, take}
-use lib.Seq.{take-length}
 use lib.Dec.{eqb}
 use borrow.Author.Tests.{eq-eqb, ne_eqb}
 use Rattle.ground.specs.Lists.{bit}
@@ -48,7 +47,3 @@ count_hit b xs i n l e h = ap (λ (k : ℕ). k + 1) e ∙ sym (count_more b xs i
 
 pub count_miss : (b : ℕ) (xs : List ℕ) (i n : ℕ) → i < length xs → n ≡ count b (take i xs) → (get_or xs i 0 ≡ b → ⊥) → n ≡ count b (take (i + 1) xs)
 count_miss b xs i n l e h = e ∙ sym (count_more b xs i l ∙ ap (λ (t : Bool). count b (take i xs) + bit t) (ne_eqb _ _ h) ∙ add-zero (count b (take i xs)))
-
--- a count of all steps
-pub count_all : (b : ℕ) (xs : List ℕ) (z : ℕ) → z ≡ count b (take (length xs) xs) → count b xs ≡ z
-count_all b xs z e = sym (e ∙ ap (count b) (take-length xs))

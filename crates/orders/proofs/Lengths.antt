@@ -1,43 +1,19 @@
--- Laws of the refusals of two logs' lengths: which is given for which lengths. Assumes nothing.
-use Prim.Native.Nat.{ℕ, ◌≤◌, ◌<◌}
+-- Laws of the refusals of two logs' lengths: exactly when they are given. Assumes nothing.
+use Rattle.std.specs.Prelude.{Ok}
+use Prim.Native.Nat.{ℕ, ◌≤◌}
 use mathlib.Core.Path.{◌≡◌}
 use mathlib.Core.Bool.{false, ◌||◌}
 use mathlib.Core.List.{List}
 use native.Mathlib.Omega.{arith}
 use lib.ListN.{length}
 use lib.Dec.{ltb}
-use borrow.Author.Tests.{lt-ltb, le-ltb, ltb-false}
+use borrow.Author.Tests.{le-ltb, ltb-false}
 use Rattle.ground.specs.Limits.{word_limit}
 use Rattle.ground.proofs.Tests.{or-false, both_false}
-use Rattle.refusals.specs.declared.Fault.TheVariants.{Sound, Faulty}
 use Rattle.refusals.proofs.Chains.{or_sound, sound_or, refuse_sound, sound_refuse}
 use Rattle.refusals.proofs.Exactly.{Reads, tells_test, reads_test, reads_both}
 use Rattle.refusals.specs.Given.{refuse}
 use Rattle.orders.specs.Lengths.{log_limit, long_fault, LongFirst}
-
-module _ (first second : ℕ) where
-  pub long_word : word_limit < first → Faulty 4 0 ≡ long_fault first second
-  unfolding long_fault
-  long_word h = rw (lt-ltb _ _ h)
-
-  pub long_other : first ≤ word_limit → word_limit < second → Faulty 4 0 ≡ long_fault first second
-  unfolding long_fault
-  long_other a h = rw (le-ltb _ _ a, lt-ltb _ _ h)
-
-  module _ (a : first ≤ word_limit) (b : second ≤ word_limit) where
-    pub long_log : log_limit < first → Faulty 15 0 ≡ long_fault first second
-    unfolding long_fault
-    long_log h = rw (le-ltb _ _ a, le-ltb _ _ b, lt-ltb _ _ h)
-
-    pub long_second : first ≤ log_limit → log_limit < second → Faulty 15 0 ≡ long_fault first second
-    unfolding long_fault
-    long_second c h = rw (le-ltb _ _ a, le-ltb _ _ b, le-ltb _ _ c, lt-ltb _ _ h)
-
-    pub long_none : first ≤ log_limit → second ≤ log_limit → Sound ≡ long_fault first second
-    unfolding long_fault
-    long_none c d = rw (le-ltb _ _ a, le-ltb _ _ b, le-ltb _ _ c, le-ltb _ _ d)
-
-pub ruleset long_faults = (long_word, long_other, long_log, long_second, long_none)
 
 -- two lengths that are no longer than the limit
 module _ (limit first second : ℕ) where
@@ -48,13 +24,13 @@ module _ (limit first second : ℕ) where
   of_both h = both_false _ _ (le-ltb limit first h.0) (le-ltb limit second h.1)
 
 -- nothing of 4 and 15 is refused exactly where neither log has more letters than a log may have
-pub long_met : (first second : ℕ) → long_fault first second ≡ Sound → (first ≤ log_limit) × (second ≤ log_limit)
+pub long_met : (first second : ℕ) → long_fault first second ≡ Ok tt → (first ≤ log_limit) × (second ≤ log_limit)
 unfolding long_fault
 long_met first second e =
     let a = or_sound (refuse (ltb word_limit first || ltb word_limit second) 4 0) (refuse (ltb log_limit first || ltb log_limit second) 15 0) e in
     both_of log_limit first second (refuse_sound _ 15 0 a.1)
 
-pub met_long : (first second : ℕ) → first ≤ log_limit → second ≤ log_limit → long_fault first second ≡ Sound
+pub met_long : (first second : ℕ) → first ≤ log_limit → second ≤ log_limit → long_fault first second ≡ Ok tt
 unfolding long_fault
 met_long first second a b =
     sound_or _ _ (sound_refuse _ 4 0 (of_both word_limit first second (omega arith, omega arith))) (sound_refuse _ 15 0 (of_both log_limit first second (a, b)))

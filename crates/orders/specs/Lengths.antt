@@ -1,9 +1,9 @@
 -- To be believed: the limits of document 02's E3, and the refusals of two logs' lengths.
+use Rattle.refusals.specs.Given.{Fault}
 use Rattle.std.specs.Prelude.{ℕ, ◌+◌, ◌*◌, ◌≤◌, ◌||◌, List, length, ltb}
 use Rattle.ground.specs.Limits.{word_limit}
 use Rattle.refusals.specs.Given.{refuse, or_else}
 use Rattle.refusals.specs.First.{First, Given}
-use Rattle.refusals.specs.declared.Fault.{Fault}
 
 -- "two logs of at most 255 letters"
 abbrev pub log_limit : ℕ

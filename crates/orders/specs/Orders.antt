@@ -3,6 +3,7 @@ use Rattle.std.specs.Prelude.{ℕ, zero, suc, ◌+◌, ◌<◌, ◌≡◌, Bool,
 use Rattle.ground.specs.Lists.{bit}
 use Rattle.net.specs.Net.{Net}
 use Rattle.net.specs.Firing.{Fires}
+use Rattle.orders.specs.declared.Logs.{Logs}
 
 -- how many steps of an order are `which`
 unfoldable pub count : ℕ → List ℕ → ℕ
@@ -52,6 +53,10 @@ always which n k = true
 
 abbrev pub logs_of : Net → List ℕ → List ℕ → Recorded
 logs_of net first second = record { net = net; first = first; second = second; may = always }
+
+-- what two lent logs record
+abbrev pub recorded : Net → Logs → Recorded
+recorded net logs = logs_of net logs.first.now logs.second.now
 
 -- each step of the order may be taken where it stands, n letters of the first log and k of the second having been read before all of it
 pub record KeptFrom (may : ℕ → ℕ → ℕ → Bool) (n k : ℕ) (order : List ℕ) : Type 0 where

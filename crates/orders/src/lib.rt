@@ -2,42 +2,48 @@
 // lengths stand here, below the search and the questions.
 #![tactic(auto)]
 
-ghost use Rattle.std.specs.Prelude.{◌≡◌, ◌≤◌, length, take};
+ghost use Rattle.std.specs.Prelude.{◌≡◌, ◌||◌, ◌≤◌, ltb, length, take};
 ghost use Rattle.orders.specs.Orders.{count};
 ghost use Rattle.orders.specs.Lengths.{long_fault};
 
 use ground::WORD_LIMIT;
-use refusals::Fault;
+use refusals::{Refusal, refuse};
 
 // The most letters of each of two logs.
 pub const LOG_LIMIT: usize = 255;
 
 // The most steps of an order.
-pub const ORDER_LIMIT: usize = 510;
+pub const ORDER_LIMIT: usize = LOG_LIMIT + LOG_LIMIT;
 
 // The letters read of one log are 0 to LOG_LIMIT: so many numbers.
-pub const READ_COUNT: usize = 256;
+pub const READ_COUNT: usize = LOG_LIMIT + 1;
 
 // The bytes of work space: one for each number of letters read of the one log and of the other.
-pub const WORK_LENGTH: usize = 65536;
+pub const WORK_LENGTH: usize = READ_COUNT * READ_COUNT;
+
+// Two logs of one line, as lent: the letters that its two recorders have recorded.
+#[derive(Clone, Copy)]
+pub struct Logs<'a> {
+    pub first: &'a [u8],
+    pub second: &'a [u8],
+}
+
+impl<'a> Logs<'a> {
+    // Whether one of them has more letters than so many.
+    fn has_over(&self, limit: usize) -> bool
+        ensures { result ≡ (ltb limit (length self.now.first.now) || ltb limit (length self.now.second.now)) }
+    {
+        limit < self.first.len() || limit < self.second.len()
+    }
+}
 
 // Refusals 4 and 15 for the lengths of two logs.
-pub fn long_fault(first: usize, second: usize) -> Fault
-    ensures { result ≡ long_fault first second }
+#[tactic(auto, unfolding(crate::specs::Lengths::long_fault))]
+pub fn long_fault(logs: &Logs) -> Result<(), Refusal>
+    ensures { result ≡ long_fault (length logs.now.first.now) (length logs.now.second.now) }
 {
-    if WORD_LIMIT < first {
-        return Fault::Faulty(4, 0);
-    }
-    if WORD_LIMIT < second {
-        return Fault::Faulty(4, 0);
-    }
-    if LOG_LIMIT < first {
-        return Fault::Faulty(15, 0);
-    }
-    if LOG_LIMIT < second {
-        return Fault::Faulty(15, 0);
-    }
-    Fault::Sound
+    refuse(logs.has_over(WORD_LIMIT), 4, 0)?;
+    refuse(logs.has_over(LOG_LIMIT), 15, 0)
 }
 
 // How many of an order's first steps take from log `which`: so many of its letters are read by then.
@@ -46,12 +52,10 @@ pub fn read_of(order: &[u8], steps: usize, which: u8) -> usize
     ensures { result ≡ count which (take steps order.now) }
 {
     let mut n: usize = 0;
-    let mut i: usize = 0;
-    while i < steps {
+    for i in 0..steps {
         if order[i] == which {
             n += 1;
         }
-        i += 1;
     }
     n
 }

@@ -14,8 +14,7 @@ use Rattle.ground.proofs.Fill.{map_at_length, map_at_at}
 use Rattle.net.specs.Net.{Net, Light}
 use Rattle.net.specs.Letter.{arcs_at, passes, after, judge_at, fired_at, Small, Played}
 use Rattle.net.specs.declared.Cause.{Cause}
-use Rattle.net.specs.declared.Letter.{Letter}
-use Rattle.net.specs.declared.Letter.TheVariants.{Passes, Stops}
+use Rattle.std.specs.Prelude.{Result, Ok, Err}
 use Rattle.net.proofs.Rows.{row_at}
 use Rattle.refusals.specs.Given.{Letters}
 use Rattle.plays.specs.Replay.{Ran, play_from, Ended}
@@ -43,14 +42,14 @@ fired_small net m t b e y s = record { at = λ p. go p (dec_lt p (length m)) }
         rw (get_or-eq_default (map_at (after (arcs_at net t).takes (arcs_at net t).puts) m) 0 {n = p} (rw (map_at_length (after (arcs_at net t).takes (arcs_at net t).puts) m) (omega arith))) zero-le
 
 -- what a letter's answer says: whether it passed, and the marking left
-passed_by : (net : Net) (t : ℕ) (m : List ℕ) (r : Letter) (m' : List ℕ) → Played (arcs_at net t) m r m' → r ≡ Passes → m' ≡ fired_at net t m
+passed_by : (net : Net) (t : ℕ) (m : List ℕ) (r : Result Unit Cause) (m' : List ℕ) → Played (arcs_at net t) m r m' → r ≡ Ok tt → m' ≡ fired_at net t m
 passed_by net t m r m' s q = go (passes (arcs_at net t) m) refl
   where
     go : (b : Bool) → passes (arcs_at net t) m ≡ b → m' ≡ fired_at net t m
     go true e = rw e at s.left
     go false e = let z : ◌≡◌ {A = ℕ} 0 1 = cc (rw e at s.answer) in absurd (omega arith)
 
-stopped_at : (net : Net) (t : ℕ) (m : List ℕ) (r : Letter) (why : Cause) (m' : List ℕ) → Played (arcs_at net t) m r m' → r ≡ Stops why → m' ≡ m
+stopped_at : (net : Net) (t : ℕ) (m : List ℕ) (r : Result Unit Cause) (why : Cause) (m' : List ℕ) → Played (arcs_at net t) m r m' → r ≡ Err why → m' ≡ m
 stopped_at net t m r why m' s q = go (passes (arcs_at net t) m) refl
   where
     go : (b : Bool) → passes (arcs_at net t) m ≡ b → m' ≡ m
@@ -58,16 +57,16 @@ stopped_at net t m r why m' s q = go (passes (arcs_at net t) m) refl
     go false e = rw e at s.left
 
 -- the next letter, by cases; k letters fired before it
-play_letter : (net : Net) (k i : ℕ) (m w : List ℕ) → i < length w → judge_at net (get_or w i 0) m ≡ Passes → play_from net k m (drop i w) ≡ play_from net (k + 1) (fired_at net (get_or w i 0) m) (drop (i + 1) w)
+play_letter : (net : Net) (k i : ℕ) (m w : List ℕ) → i < length w → judge_at net (get_or w i 0) m ≡ Ok tt → play_from net k m (drop i w) ≡ play_from net (k + 1) (fired_at net (get_or w i 0) m) (drop (i + 1) w)
 unfolding play_from
 play_letter net k i m w h e = rw (drop-cons w i 0 h, e, play_from) (ap (λ (j : ℕ). play_from net (k + 1) (fired_at net (get_or w i 0) m) (drop j w)) (sym (add-one i)))
 
-play_block : (net : Net) (k i : ℕ) (m w : List ℕ) (why : Cause) → i < length w → judge_at net (get_or w i 0) m ≡ Stops why → play_from net k m (drop i w) ≡ record { answer = Blocked k why; left = m }
+play_block : (net : Net) (k i : ℕ) (m w : List ℕ) (why : Cause) → i < length w → judge_at net (get_or w i 0) m ≡ Err why → play_from net k m (drop i w) ≡ record { answer = Blocked k why; left = m }
 unfolding play_from
 play_block net k i m w why h e = rw (drop-cons w i 0 h, e, play_from)
 
 module _ (net : Net) (n : ℕ) (m₀ w : List ℕ) (i : ℕ) (m : List ℕ) (run : Running net n m₀ w i m) where
-  pub run_passes : (r : Letter) (m' : List ℕ) → i < length w → length m₀ ≡ net.places → Light net → Played (arcs_at net (get_or w i 0)) m r m' → r ≡ Passes → Running net n m₀ w (i + 1) m'
+  pub run_passes : (r : Result Unit Cause) (m' : List ℕ) → i < length w → length m₀ ≡ net.places → Light net → Played (arcs_at net (get_or w i 0)) m r m' → r ≡ Ok tt → Running net n m₀ w (i + 1) m'
   run_passes r m' h e y s q =
       let f : m' ≡ fired_at net (get_or w i 0) m = passed_by net (get_or w i 0) m r m' s q in
       let l = fired_small net m (get_or w i 0) (tokens_after (n + i)) (run.long ∙ e) y run.small in
@@ -81,7 +80,7 @@ module _ (net : Net) (n : ℕ) (m₀ w : List ℕ) (i : ℕ) (m : List ℕ) (run
       })
 
   -- k is the position that the code gives
-  pub run_stops : (r : Letter) (why : Cause) (m' : List ℕ) (k : ℕ) → i < length w → Played (arcs_at net (get_or w i 0)) m r m' → r ≡ Stops why → k ≡ n + i → Ended net n m₀ w (Blocked k why) m'
+  pub run_stops : (r : Result Unit Cause) (why : Cause) (m' : List ℕ) (k : ℕ) → i < length w → Played (arcs_at net (get_or w i 0)) m r m' → r ≡ Err why → k ≡ n + i → Ended net n m₀ w (Blocked k why) m'
   run_stops r why m' k h s q z =
       let f : m' ≡ m = stopped_at net (get_or w i 0) m r why m' s q in
       let a : record { answer = Blocked (n + i) why; left = m } ≡ play_from net n m₀ w = sym (play_block net (n + i) i m w why h (sym s.answer ∙ q)) ∙ run.same in

@@ -2,7 +2,7 @@
 use Rattle.std.specs.Prelude.{ℕ, ◌+◌, ◌≡◌, List, [], ◌∷◌}
 use Rattle.net.specs.Net.{Net}
 use Rattle.net.specs.Letter.{judge_at, fired_at}
-use Rattle.net.specs.declared.Letter.TheVariants.{Passes, Stops}
+use Rattle.std.specs.Prelude.{Ok, Err}
 use Rattle.plays.specs.declared.Replay.{Replay}
 use Rattle.plays.specs.declared.Replay.TheVariants.{Fired, Blocked}
 
@@ -16,8 +16,8 @@ unfoldable pub play_from : Net → ℕ → List ℕ → List ℕ → Ran
 play_from net i m [] = record { answer = Fired i; left = m }
 play_from net i m (t ∷ w) =
     elim (judge_at net t m) [
-      | Passes ↦ play_from net (i + 1) (fired_at net t m) w
-      | Stops why ↦ record { answer = Blocked i why; left = m }
+      | Ok _ ↦ play_from net (i + 1) (fired_at net t m) w
+      | Err why ↦ record { answer = Blocked i why; left = m }
     ]
 
 -- the whole word was played from m, n letters having fired before

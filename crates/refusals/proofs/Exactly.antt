@@ -1,4 +1,7 @@
 -- "Exactly when": a chain of refusals is read demand by demand, for any chain and any answer. Assumes nothing.
+use Rattle.std.specs.Prelude.{Ok, Err}
+use Rattle.refusals.specs.declared.Refusal.{Refusal}
+use Rattle.refusals.specs.Given.{Answer, Fault, refusal, refused}
 use Prim.Native.Nat.{ℕ, ◌+◌, ◌*◌, ◌<◌}
 use mathlib.Core.Path.{◌≡◌, refl, sym, ap, ◌∙◌}
 use mathlib.Core.Bool.{Bool, true, false, not, ◌&&◌, ◌||◌}
@@ -20,17 +23,15 @@ use Rattle.weights.specs.Heavy.{LightAt, heavy}
 use Rattle.weights.proofs.Heavies.{light_at, at_light}
 use Rattle.refusals.specs.Given.{refuse, or_else, outside, unlike, misfit, token_bad, bad_token, weights_fault, counts_fault, loose_fault, net_fault, marking_fault, start_fault, marked_fault, word_fault, Fine, Letters}
 use Rattle.refusals.specs.First.{First, fails, holds, Given, GivenAt, Above, Counts, Lengths, FineAt, CountsFirst, LooseFirst, NetFirst, StartFirst, MarkedFirst, WordFirst}
-use Rattle.refusals.specs.declared.Fault.{Fault}
-use Rattle.refusals.specs.declared.Fault.TheVariants.{Sound, Faulty}
-use Rattle.refusals.proofs.Chains.{fault_one, not_sound, or_assoc, or-none, refuse_sound}
+use Rattle.refusals.proofs.Chains.{refused_one, not_sound, or_assoc, or-none, refuse_sound}
 use Rattle.refusals.proofs.Refusals.{inside_of, inside_is, fine_of}
 
 -- ---- one test
 -- the fault f tells of its demand: nothing where it holds, else exactly what `Tell` says
 pub record Tells (f : Fault) (Demand : Type 0) (Tell : ℕ → ℕ → Type 0) : Type 0 where
-  pub sound : f ≡ Sound → Demand
-  pub fails : (n at : ℕ) → f ≡ Faulty n at → (Demand → ⊥) × Tell n at
-  pub exact : (n at : ℕ) → (Demand → ⊥) → Tell n at → f ≡ Faulty n at
+  pub sound : f ≡ Ok tt → Demand
+  pub fails : (n at : ℕ) → f ≡ Err (refusal n at) → (Demand → ⊥) × Tell n at
+  pub exact : (n at : ℕ) → (Demand → ⊥) → Tell n at → f ≡ Err (refusal n at)
 
 -- a demand said otherwise
 pub tells_as : {f : Fault} {D E : Type 0} {Tell : ℕ → ℕ → Type 0} → (D → E) → (E → D) → Tells f D Tell → Tells f E Tell
@@ -46,7 +47,7 @@ pub tells_test : (b : Bool) (k p : ℕ) {D : Type 0} → (b ≡ false → D) →
 tells_test true k p yes_of of-yes =
     record {
       sound = λ e. not_sound k p e;
-      fails = λ n at e. let q = fault_one k p n at e in (λ d. never (of-yes d), record { number = sym q.0; position = sym q.1 });
+      fails = λ n at e. let q = refused_one k p n at e in (λ d. never (of-yes d), record { number = sym q.0; position = sym q.1 });
       exact = λ n at miss g. rw (g.number, g.position);
     }
 tells_test false k p yes_of of-yes =
@@ -72,9 +73,9 @@ tells_scan f count k {D} there back =
         hit true e miss = e
         hit false e miss = absurd (miss (there at e))
 
-    go : (n at : ℕ) → refuse (ltb (first f count) count) k (first f count) ≡ Faulty n at → Dec (first f count < count) → (((p : ℕ) → p < count → D p) → ⊥) × GivenAt k D count n at
+    go : (n at : ℕ) → refuse (ltb (first f count) count) k (first f count) ≡ Err (refusal n at) → Dec (first f count < count) → (((p : ℕ) → p < count → D p) → ⊥) × GivenAt k D count n at
     go n at e (yes h) =
-        let q = fault_one k (first f count) n at (rw (lt-ltb (first f count) count h) at e) in
+        let q = refused_one k (first f count) n at (rw (lt-ltb (first f count) count h) at e) in
         let bad : D (first f count) → ⊥ = λ d. never (sym (first_passes f count h) ∙ back (first f count) d) in (
           λ all. bad (all (first f count) h),
           record { number = sym q.0; here = rw (← q.1) h; fails = rw (← q.1) bad; lowest = λ p l. there p (first_below f count p (rw q.1 l)) },
@@ -87,9 +88,9 @@ tells_above true k p base {D} {Tell} t =
     record {
       sound = λ e. not_sound k (base + p) e;
       fails = λ n at e.
-          let q = fault_one k (base + p) n at e in
+          let q = refused_one k (base + p) n at e in
           let f = t.fails k p refl in (f.0, record { below = p; position = sym q.1; told = rw (← q.0) f.1 });
-      exact = λ n at miss g. let q = fault_one k p n g.below (t.exact n g.below miss g.told) in rw (g.position, ← q.0, ← q.1);
+      exact = λ n at miss g. let q = refused_one k p n g.below (t.exact n g.below miss g.told) in rw (g.position, ← q.0, ← q.1);
     }
 tells_above false k p base t =
     record {
@@ -101,9 +102,9 @@ tells_above false k p base t =
 -- ---- a chain
 -- the fault f is given exactly as R says
 pub record Chain (f : Fault) (R : ℕ → ℕ → Type 0) : Type 0 where
-  pub exactly : (n at : ℕ) → (f ≡ Faulty n at) ↔ R n at
+  pub exactly : (n at : ℕ) → (f ≡ Err (refusal n at)) ↔ R n at
 
-pub chain_end : Chain Sound (λ n at. ⊥)
+pub chain_end : Chain (Ok tt) (λ n at. ⊥)
 chain_end = record { exactly = λ n at. (λ e. not_sound n at (sym e), λ z. absurd z) }
 
 -- f is read as R, whatever comes next
@@ -113,20 +114,20 @@ pub record Reads (f : Fault) (R : ℕ → ℕ → Type 0 → Type 0) : Type 1 wh
 pub reads_test : {f : Fault} {D : Type 0} {Tell : ℕ → ℕ → Type 0} → Tells f D Tell → Reads f (λ n at Next. First D (Tell n at) Next)
 reads_test {f} {D} {Tell} t = record { then = λ g Next c. record { exactly = λ n at. go f refl g Next c n at } }
   where
-    go : (x : Fault) → f ≡ x → (g : Fault) (Next : ℕ → ℕ → Type 0) → Chain g Next → (n at : ℕ) → (or_else f g ≡ Faulty n at) ↔ First D (Tell n at) (Next n at)
-    go Sound e g Next c n at = rw e (λ q. holds (t.sound e) ((c.exactly n at).0 q), back)
+    go : (x : Fault) → f ≡ x → (g : Fault) (Next : ℕ → ℕ → Type 0) → Chain g Next → (n at : ℕ) → (or_else f g ≡ Err (refusal n at)) ↔ First D (Tell n at) (Next n at)
+    go (Ok _) e g Next c n at = rw e (λ q. holds (t.sound e) ((c.exactly n at).0 q), back)
       where
-        back : First D (Tell n at) (Next n at) → g ≡ Faulty n at
+        back : First D (Tell n at) (Next n at) → g ≡ Err (refusal n at)
         back (fails miss h) = absurd (miss (t.sound e))
         back (holds d h) = (c.exactly n at).1 h
-    go (Faulty k p) e g Next c n at = rw e (λ q. there (e ∙ q), λ h. sym e ∙ back h)
+    go (Err r) e g Next c n at = rw e (λ q. there (e ∙ q), λ h. sym e ∙ back h)
       where
-        there : f ≡ Faulty n at → First D (Tell n at) (Next n at)
+        there : f ≡ Err (refusal n at) → First D (Tell n at) (Next n at)
         there q = let h = t.fails n at q in fails h.0 h.1
 
-        back : First D (Tell n at) (Next n at) → f ≡ Faulty n at
+        back : First D (Tell n at) (Next n at) → f ≡ Err (refusal n at)
         back (fails miss h) = t.exact n at miss h
-        back (holds d h) = absurd ((t.fails k p e).0 d)
+        back (holds d h) = absurd ((t.fails r.number r.at e).0 d)
 
 pub reads_both : {f g : Fault} {R S : ℕ → ℕ → Type 0 → Type 0} → Reads f R → Reads g S → Reads (or_else f g) (λ n at Next. R n at (S n at Next))
 reads_both {f} {g} {R} {S} a b =
@@ -134,7 +135,7 @@ reads_both {f} {g} {R} {S} a b =
 
 -- the whole chain
 pub reads_all : {f : Fault} {R : ℕ → ℕ → Type 0 → Type 0} → Reads f R → Chain f (λ n at. R n at ⊥)
-reads_all {f} {R} a = rw (or-none f) at (a.then Sound (λ n at. ⊥) chain_end)
+reads_all {f} {R} a = rw (or-none f) at (a.then (Ok tt) (λ n at. ⊥) chain_end)
 
 -- ---- the chains that the questions share
 pub loose_reads : (net : Net) → Reads (loose_fault net) (LooseFirst net)
@@ -200,7 +201,7 @@ marking_reads caps m =
     fine_all h =
         fine_of caps m (sound (first_none (λ p. token_bad (get_or caps p 0) (get_or m p 0)) (length m) (λ p l. of_at p (h p l))))
       where
-        sound : bad_token caps m ≡ length m → marking_fault caps m ≡ Sound
+        sound : bad_token caps m ≡ length m → marking_fault caps m ≡ Ok tt
         sound e = rw (le-ltb (bad_token caps m) (length m) (omega arith))
 
     all_fine : Fine caps m → (p : ℕ) → p < length m → FineAt caps m p
@@ -231,33 +232,51 @@ word_reads T w =
 
 -- ---- an answer
 -- r is the refusal of the fault f, and no refusal where there is none
-pub record Answers {A : Type 0} (refused : ℕ → ℕ → A) (f : Fault) (r : A) : Type 0 where
-  pub given : (n at : ℕ) → f ≡ Faulty n at → r ≡ refused n at
-  pub never : f ≡ Sound → (n at : ℕ) → r ≡ refused n at → ⊥
+pub record Answers {A : Type 0} (f : Fault) (r : Answer A) : Type 0 where
+  pub given : (n at : ℕ) → f ≡ Err (refusal n at) → r ≡ refused n at
+  pub never : f ≡ Ok tt → (n at : ℕ) → r ≡ refused n at → ⊥
 
--- so it is with an answer that is made of the fault
-pub answers_of : {A : Type 0} (refused : ℕ → ℕ → A) (of : Fault → A) (f : Fault) (r : A) → r ≡ of f → ((n at : ℕ) → of (Faulty n at) ≡ refused n at) → ((n at : ℕ) → of Sound ≡ refused n at → ⊥) → Answers refused f r
-answers_of refused of f r e gives none = record { given = λ n at q. e ∙ ap of q ∙ gives n at; never = λ q n at k. none n at (sym (e ∙ ap of q) ∙ k) }
+-- so it is with an answer behind the checks that is itself no refusal
+pub answers_of : {A : Type 0} (f : Fault) (x r : Answer A) → r ≡ or_else f x → ((n at : ℕ) → f ≡ Ok tt → x ≡ refused n at → ⊥) → Answers f r
+answers_of f x r e none =
+    record {
+      given = λ n at q. e ∙ rw q;
+      never = λ q n at k. none n at q (sym (e ∙ rw q) ∙ k);
+    }
 
-module _ {A : Type 0} {refused : ℕ → ℕ → A} {f : Fault} {r : A} (a : Answers refused f r) where
-  pub fault_is : ((n at k p : ℕ) → refused n at ≡ refused k p → (n ≡ k) × (at ≡ p)) → (n at : ℕ) → r ≡ refused n at → f ≡ Faulty n at
-  fault_is one n at e = go f refl
+-- two refusals with one number and one position
+pub same_refusal : {A : Type 0} (r s : Refusal) → r.number ≡ s.number → r.at ≡ s.at → ◌≡◌ {A = Answer A} (Err r) (Err s)
+same_refusal r s e q = ap (λ (z : ℕ × ℕ). Err (refusal z.0 z.1)) (pair_is r.number s.number r.at s.at e q)
+  where
+    pair_is : (a b c d : ℕ) → a ≡ b → c ≡ d → ◌≡◌ {A = ℕ × ℕ} (a, c) (b, d)
+    pair_is a b c d e q = rw (e, q)
+
+-- ... as one that was made
+pub not_refused : {A B : Type 0} (a : A) (n at : ℕ) → Ok a ≡ refused n at → B
+not_refused a n at e = let z : ◌≡◌ {A = ℕ} 0 1 = cc in absurd (omega arith)
+
+pub answers_ok : {A : Type 0} (f : Fault) (a : A) (r : Answer A) → r ≡ or_else f (Ok a) → Answers f r
+answers_ok f a r e = answers_of f (Ok a) r e (λ n at q k. not_refused a n at k)
+
+module _ {A : Type 0} {f : Fault} {r : Answer A} (a : Answers f r) where
+  pub fault_is : (n at : ℕ) → r ≡ refused n at → f ≡ Err (refusal n at)
+  fault_is n at e = go f refl
     where
-      go : (x : Fault) → f ≡ x → f ≡ Faulty n at
-      go Sound q = absurd (a.never q n at e)
-      go (Faulty k p) q = let o = one k p n at (sym (a.given k p q) ∙ e) in q ∙ rw (o.0, o.1)
+      go : (x : Fault) → f ≡ x → f ≡ Err (refusal n at)
+      go (Ok _) q = absurd (a.never q n at e)
+      go (Err k) q = let o = refused_one k.number k.at n at (sym (a.given k.number k.at q) ∙ e) in q ∙ rw (o.0, o.1)
 
   -- a refusal is given exactly as the chain says, demand by demand
-  pub exactly_refused : {R : ℕ → ℕ → Type 0} → ((n at k p : ℕ) → refused n at ≡ refused k p → (n ≡ k) × (at ≡ p)) → Chain f R → (n at : ℕ) → (r ≡ refused n at) ↔ R n at
-  exactly_refused one c n at = (λ e. (c.exactly n at).0 (fault_is one n at e), λ h. a.given n at ((c.exactly n at).1 h))
+  pub exactly_refused : {R : ℕ → ℕ → Type 0} → Chain f R → (n at : ℕ) → (r ≡ refused n at) ↔ R n at
+  exactly_refused c n at = (λ e. (c.exactly n at).0 (fault_is n at e), λ h. a.given n at ((c.exactly n at).1 h))
 
   -- what is allowed is answered, and what is answered is allowed
-  pub is_answered : {Allowed : Type 0} → (Allowed → f ≡ Sound) → Allowed → (n at : ℕ) → r ≡ refused n at → ⊥
+  pub is_answered : {Allowed : Type 0} → (Allowed → f ≡ Ok tt) → Allowed → (n at : ℕ) → r ≡ refused n at → ⊥
   is_answered of_allowed h n at e = a.never (of_allowed h) n at e
 
-  pub is_allowed : {Allowed : Type 0} → (f ≡ Sound → Allowed) → ((n at : ℕ) → r ≡ refused n at → ⊥) → Allowed
+  pub is_allowed : {Allowed : Type 0} → (f ≡ Ok tt → Allowed) → ((n at : ℕ) → r ≡ refused n at → ⊥) → Allowed
   is_allowed {Allowed} Allowed-of none = go f refl
     where
       go : (x : Fault) → f ≡ x → Allowed
-      go Sound q = Allowed-of q
-      go (Faulty n at) q = absurd (none n at (a.given n at q))
+      go (Ok _) q = Allowed-of q
+      go (Err k) q = absurd (none k.number k.at (a.given k.number k.at q))

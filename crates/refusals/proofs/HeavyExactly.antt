@@ -1,4 +1,6 @@
 -- 18: given exactly when 1 and 2 are not and the net is not light, in each of the four chains. Assumes nothing.
+use Rattle.std.specs.Prelude.{Ok, Err}
+use Rattle.refusals.specs.Given.{Fault, refusal}
 use Prim.Native.Nat.{ℕ, ◌<◌}
 use mathlib.Core.Path.{◌≡◌, refl}
 use mathlib.Core.Bool.{Bool, true}
@@ -11,8 +13,6 @@ use Rattle.weights.specs.Heavy.{LightAt}
 use Rattle.weights.proofs.Heavies.{light_each}
 use Rattle.refusals.specs.Given.{weights_fault, counts_fault, net_fault, start_fault, marked_fault}
 use Rattle.refusals.specs.First.{First, fails, holds, GivenAt, CountsFirst, LooseFirst}
-use Rattle.refusals.specs.declared.Fault.{Fault}
-use Rattle.refusals.specs.declared.Fault.TheVariants.{Sound, Faulty}
 use Rattle.refusals.proofs.Refusals.{weights_met}
 use Rattle.refusals.proofs.Exactly.{reads_all, weights_reads, counts_reads, net_reads, start_reads, marked_reads}
 
@@ -59,24 +59,24 @@ loose_no_18 (holds p (holds t z)) = z
 
 -- 18, "after 2 and before 3": given exactly when 1 and 2 are not and a weight is over the limit; its position is the lowest transition with one
 module _ (net : Net) (fits : Bool) (at : ℕ) where
-  pub heavy_exactly : (counts_fault net fits ≡ Faulty 18 at) ↔ ((Sized net × (fits ≡ true)) × HeavyAt net at)
+  pub heavy_exactly : (counts_fault net fits ≡ Err (refusal 18 at)) ↔ ((Sized net × (fits ≡ true)) × HeavyAt net at)
   heavy_exactly =
       let c = (reads_all (counts_reads net fits {Others = fits ≡ true} (λ h. h) (λ h. h))).exactly 18 at in
       (λ e. heavy_first (λ z. z) (c.0 e), λ h. c.1 (first_heavy h))
 
-  pub heavy_net_exactly : (net_fault net fits ≡ Faulty 18 at) ↔ ((Sized net × (fits ≡ true)) × HeavyAt net at)
+  pub heavy_net_exactly : (net_fault net fits ≡ Err (refusal 18 at)) ↔ ((Sized net × (fits ≡ true)) × HeavyAt net at)
   heavy_net_exactly =
       let c = (reads_all (net_reads net fits {Others = fits ≡ true} (λ h. h) (λ h. h))).exactly 18 at in
       (λ e. heavy_first loose_no_18 (c.0 e), λ h. c.1 (first_heavy h))
 
   -- ... whatever the marking is, as long as it has a number for each place
   module _ (initial : List ℕ) where
-    pub heavy_start_exactly : (start_fault net initial fits ≡ Faulty 18 at) ↔ ((Sized net × ((length initial ≡ net.places) × (fits ≡ true))) × HeavyAt net at)
+    pub heavy_start_exactly : (start_fault net initial fits ≡ Err (refusal 18 at)) ↔ ((Sized net × ((length initial ≡ net.places) × (fits ≡ true))) × HeavyAt net at)
     heavy_start_exactly =
         let c = (reads_all (start_reads net initial fits {Others = fits ≡ true} (λ h. h) (λ h. h))).exactly 18 at in
         (λ e. heavy_first (marking_no_18 (λ z. z)) (c.0 e), λ h. c.1 (first_heavy h))
 
-    pub heavy_marked_exactly : (marked_fault net initial fits ≡ Faulty 18 at) ↔ ((Sized net × ((length initial ≡ net.places) × (fits ≡ true))) × HeavyAt net at)
+    pub heavy_marked_exactly : (marked_fault net initial fits ≡ Err (refusal 18 at)) ↔ ((Sized net × ((length initial ≡ net.places) × (fits ≡ true))) × HeavyAt net at)
     heavy_marked_exactly =
         let c = (reads_all (marked_reads net initial fits {Others = fits ≡ true} (λ h. h) (λ h. h))).exactly 18 at in
         (λ e. heavy_first (marking_no_18 loose_no_18) (c.0 e), λ h. c.1 (first_heavy h))
@@ -90,8 +90,8 @@ heavy_somewhere net sized none = go (weights_fault net) refl
     eighteen (holds w z) = absurd z
 
     go : (x : Fault) → weights_fault net ≡ x → (at : ℕ) × HeavyAt net at
-    go Sound e = absurd (none (weights_met net sized e))
-    go (Faulty n at) e = (at, eighteen (((reads_all (weights_reads net)).exactly n at).0 e))
+    go (Ok _) e = absurd (none (weights_met net sized e))
+    go (Err r) e = (r.at, eighteen (((reads_all (weights_reads net)).exactly r.number r.at).0 e))
 
 -- Told at: 18 is given with position at
 not_light : {Others : Type 0} {Told : ℕ → Type 0} (net : Net) → ((at : ℕ) → Told at ↔ ((Sized net × Others) × HeavyAt net at)) → ((at : ℕ) × Told at) ↔ ((Sized net × Others) × (Light net → ⊥))
@@ -102,15 +102,15 @@ not_light net exact = (
 
 -- so 18 is given, whatever its position, exactly when 1 and 2 are not and the net is not light
 module _ (net : Net) (fits : Bool) where
-  pub not_light_exactly : ((at : ℕ) × (counts_fault net fits ≡ Faulty 18 at)) ↔ ((Sized net × (fits ≡ true)) × (Light net → ⊥))
+  pub not_light_exactly : ((at : ℕ) × (counts_fault net fits ≡ Err (refusal 18 at))) ↔ ((Sized net × (fits ≡ true)) × (Light net → ⊥))
   not_light_exactly = not_light net (heavy_exactly net fits)
 
-  pub not_light_net_exactly : ((at : ℕ) × (net_fault net fits ≡ Faulty 18 at)) ↔ ((Sized net × (fits ≡ true)) × (Light net → ⊥))
+  pub not_light_net_exactly : ((at : ℕ) × (net_fault net fits ≡ Err (refusal 18 at))) ↔ ((Sized net × (fits ≡ true)) × (Light net → ⊥))
   not_light_net_exactly = not_light net (heavy_net_exactly net fits)
 
   module _ (initial : List ℕ) where
-    pub not_light_start_exactly : ((at : ℕ) × (start_fault net initial fits ≡ Faulty 18 at)) ↔ ((Sized net × ((length initial ≡ net.places) × (fits ≡ true))) × (Light net → ⊥))
+    pub not_light_start_exactly : ((at : ℕ) × (start_fault net initial fits ≡ Err (refusal 18 at))) ↔ ((Sized net × ((length initial ≡ net.places) × (fits ≡ true))) × (Light net → ⊥))
     not_light_start_exactly = not_light net (λ at. heavy_start_exactly net fits at initial)
 
-    pub not_light_marked_exactly : ((at : ℕ) × (marked_fault net initial fits ≡ Faulty 18 at)) ↔ ((Sized net × ((length initial ≡ net.places) × (fits ≡ true))) × (Light net → ⊥))
+    pub not_light_marked_exactly : ((at : ℕ) × (marked_fault net initial fits ≡ Err (refusal 18 at))) ↔ ((Sized net × ((length initial ≡ net.places) × (fits ≡ true))) × (Light net → ⊥))
     not_light_marked_exactly = not_light net (λ at. heavy_marked_exactly net fits at initial)

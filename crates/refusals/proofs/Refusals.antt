@@ -1,4 +1,7 @@
 -- Laws of the shared refusals: which one is given, and what holds where none is. Assumes nothing.
+use Rattle.std.specs.Prelude.{Option, MatchOption, ⊤, Ok}
+use Rattle.ground.specs.Lists.{found}
+use Rattle.refusals.specs.Given.{Fault}
 use Prim.Native.Nat.{ℕ, ◌+◌, ◌*◌, ◌≤◌, ◌<◌, zero-le}
 use mathlib.Core.Path.{◌≡◌, refl, sym, ◌∙◌}
 use mathlib.Core.Bool.{Bool, true, false, not, ◌&&◌, ◌||◌, and-false}
@@ -10,7 +13,7 @@ use lib.ListN.{length, get_or, get_or-eq_default}
 use lib.Dec.{ltb, eqb}
 use mir.Syntax.{w64}
 use mir.Val.{Fits}
-use borrow.Author.Tests.{lt-ltb, le-ltb, ltb-false, eq-eqb, ne_eqb, eqb-true, not-true, not-false}
+use borrow.Author.Tests.{lt-ltb, le-ltb, ltb-false, eq-eqb, eqb-true, not-true, not-false}
 use Rattle.ground.specs.Limits.{count_limit, token_limit}
 use Rattle.ground.proofs.Tests.{never, or-false, both_false, and-true, unlike_false, like_false}
 use Rattle.ground.proofs.Scan.{first_none, first_below, first_most}
@@ -20,9 +23,7 @@ use Rattle.wiring.proofs.Loose.{wired_places, wired_transitions}
 use Rattle.weights.specs.Heavy.{heavy, lowest_heavy}
 use Rattle.weights.proofs.Heavies.{light_of, of_light}
 use Rattle.refusals.specs.Given.{refuse, or_else, outside, unlike, misfit, sized_net, token_bad, bad_token, weights_fault, counts_fault, loose_fault, net_fault, marking_fault, start_fault, marked_fault, Fine}
-use Rattle.refusals.specs.declared.Fault.{Fault}
-use Rattle.refusals.specs.declared.Fault.TheVariants.{Sound, Faulty}
-use Rattle.refusals.proofs.Chains.{or_sound, sound_or, refuse_sound, sound_refuse, chain_first, chain_next}
+use Rattle.refusals.proofs.Chains.{or_sound, sound_or, refuse_sound, sound_refuse}
 
 pub cells_fit : (t p : ℕ) → p ≤ count_limit → t ≤ count_limit → Fits w64 (t * p)
 cells_fit t p h l = record { fits = omega (arith, mul-le-mul_right p l) }
@@ -51,70 +52,17 @@ sized_of net c l =
       noted = unlike_false _ _ z.1;
     }
 
--- which refusal of counts and lengths: a, b, d are the tests' answers
-module _ (net : Net) (fits : Bool) (a : Bool) (ea : a ≡ outside net.places) where
-  pub counts_places : a ≡ true → Faulty 1 0 ≡ counts_fault net fits
-  unfolding counts_fault
-  counts_places q = rw (sym ea ∙ q)
-
-  module _ (b : Bool) (qa : a ≡ false) (eb : b ≡ outside net.transitions) where
-    pub counts_transitions : b ≡ true → Faulty 1 0 ≡ counts_fault net fits
-    unfolding counts_fault
-    counts_transitions q = rw (sym ea ∙ qa, sym eb ∙ q)
-
-    module _ (d : Bool) (qb : b ≡ false) (ed : d ≡ misfit net) where
-      pub counts_lengths : d ≡ true → Faulty 2 0 ≡ counts_fault net fits
-      unfolding counts_fault
-      counts_lengths q = rw (sym ea ∙ qa, sym eb ∙ qb, sym ed ∙ q)
-
-      pub counts_others : d ≡ false → fits ≡ false → Faulty 2 0 ≡ counts_fault net fits
-      unfolding counts_fault
-      counts_others q h = rw (sym ea ∙ qa, sym eb ∙ qb, sym ed ∙ q, h)
-
-      pub counts_weights : (r : Fault) → d ≡ false → fits ≡ true → r ≡ weights_fault net → r ≡ counts_fault net fits
-      unfolding counts_fault
-      counts_weights r q h e = rw (sym ea ∙ qa, sym eb ∙ qb, sym ed ∙ q, h) e
-
-      pub counts_sized : d ≡ false → Sized net
-      counts_sized q = sized_of net (both_false _ _ (sym ea ∙ qa) (sym eb ∙ qb)) (sym ed ∙ q)
-
-pub ruleset counts_faults = (few_of, counts_places, counts_transitions, counts_lengths, counts_others, counts_weights)
-
--- which refusal of weights; t is what was found
-module _ (net : Net) (t : ℕ) (e : t ≡ lowest_heavy net) where
-  pub weights_heavy : t < net.transitions → Faulty 18 t ≡ weights_fault net
-  unfolding weights_fault
-  weights_heavy h = rw (← e, lt-ltb t net.transitions h)
-
-  pub weights_light : net.transitions ≤ t → Sound ≡ weights_fault net
-  unfolding weights_fault
-  weights_light h = rw (← e, le-ltb t net.transitions h)
-
-pub ruleset weights_faults = (weights_heavy, weights_light)
-
 -- no weight is refused exactly where the net is light
-pub weights_met : (net : Net) → Sized net → weights_fault net ≡ Sound → Light net
+pub weights_met : (net : Net) → Sized net → weights_fault net ≡ Ok tt → Light net
 unfolding weights_fault
 weights_met net sized e =
     let t = ltb-false (lowest_heavy net) net.transitions (refuse_sound _ 18 (lowest_heavy net) e) in
     light_of net sized (omega (arith, first_most (heavy net) net.transitions))
 
-pub met_weights : (net : Net) → Sized net → Light net → weights_fault net ≡ Sound
+pub met_weights : (net : Net) → Sized net → Light net → weights_fault net ≡ Ok tt
 unfolding weights_fault
 met_weights net sized l =
     let t = of_light net sized l in sound_refuse _ 18 (lowest_heavy net) (le-ltb (lowest_heavy net) net.transitions (omega arith))
-
--- which refusal of a marking
-module _ (caps m : List ℕ) (p : ℕ) (e : p ≡ bad_token caps m) where
-  pub marking_bad : p < length m → Faulty 3 p ≡ marking_fault caps m
-  unfolding marking_fault
-  marking_bad h = rw (← e, lt-ltb p (length m) h)
-
-  pub marking_fine : length m ≤ p → Sound ≡ marking_fault caps m
-  unfolding marking_fault
-  marking_fine h = rw (← e, le-ltb p (length m) h)
-
-pub ruleset marking_faults = (marking_bad, marking_fine)
 
 -- what holds where nothing is refused, a record for each chain, so that a demand more is a field more
 pub record CountsMet (net : Net) (fits : Bool) : Type 0 where
@@ -143,26 +91,12 @@ pub record MarkedMet (net : Net) (initial : List ℕ) (fits : Bool) : Type 0 whe
   pub fine : Fine net.caps initial
   pub wired : Wired net
 
--- the test of `Sized` as the code comes to it: a, b, d are the tests' answers
-module _ (net : Net) (a : Bool) (ea : a ≡ outside net.places) where
-  pub sized_places : a ≡ true → false ≡ sized_net net
-  sized_places q = rw (sym ea ∙ q)
-
-  module _ (b : Bool) (qa : a ≡ false) (eb : b ≡ outside net.transitions) where
-    pub sized_transitions : b ≡ true → false ≡ sized_net net
-    sized_transitions q = rw (sym ea ∙ qa, sym eb ∙ q)
-
-    pub sized_lengths : (d : Bool) → b ≡ false → d ≡ misfit net → not d ≡ sized_net net
-    sized_lengths d q ed = rw (sym ea ∙ qa, sym eb ∙ q, ed)
-
-pub ruleset sized_tests = (sized_places, sized_transitions, sized_lengths)
-
 pub sized_true : (net : Net) → sized_net net ≡ true → Sized net
 sized_true net e =
     let a = and-true (not (outside net.places || outside net.transitions)) (not (misfit net)) e in
     sized_of net (not-true _ a.0) (not-true _ a.1)
 
-pub counts_met : (net : Net) (fits : Bool) → counts_fault net fits ≡ Sound → CountsMet net fits
+pub counts_met : (net : Net) (fits : Bool) → counts_fault net fits ≡ Ok tt → CountsMet net fits
 unfolding counts_fault
 counts_met net fits e =
     let a = or_sound (refuse (outside net.places || outside net.transitions) 1 0) (or_else (refuse (misfit net || not fits) 2 0) (weights_fault net)) e in
@@ -181,14 +115,14 @@ counts_inside net s =
 lengths_like : (net : Net) → Sized net → misfit net ≡ false
 lengths_like net s = both_false _ _ (like_false _ _ s.pres) (both_false _ _ (like_false _ _ s.posts) (both_false _ _ (like_false _ _ s.capped) (like_false _ _ s.noted)))
 
-pub met_counts : (net : Net) (fits : Bool) → CountsMet net fits → counts_fault net fits ≡ Sound
+pub met_counts : (net : Net) (fits : Bool) → CountsMet net fits → counts_fault net fits ≡ Ok tt
 unfolding counts_fault
 met_counts net fits m =
     sound_or _ _ (sound_refuse _ 1 0 (counts_inside net m.sized))
     (sound_or _ _ (sound_refuse _ 2 0 (both_false _ _ (lengths_like net m.sized) (rw m.fitting))) (met_weights net m.sized m.light))
 
 -- no node is refused exactly where the net is wired
-pub loose_met : (net : Net) → loose_fault net ≡ Sound → Wired net
+pub loose_met : (net : Net) → loose_fault net ≡ Ok tt → Wired net
 unfolding loose_fault
 loose_met net e =
     let a = or_sound (refuse (ltb (lowest_loose_place net) net.places) 17 (lowest_loose_place net)) (refuse (ltb (lowest_loose_transition net) net.transitions) 17 (count_limit + lowest_loose_transition net)) e in
@@ -199,7 +133,7 @@ loose_met net e =
       transitions = (wired_transitions net).0 (omega (arith, first_most (loose_transition net) net.transitions));
     }
 
-pub met_loose : (net : Net) → Wired net → loose_fault net ≡ Sound
+pub met_loose : (net : Net) → Wired net → loose_fault net ≡ Ok tt
 unfolding loose_fault
 met_loose net w =
     let p = (wired_places net).1 w.places in
@@ -207,14 +141,14 @@ met_loose net w =
     sound_or _ _ (sound_refuse _ 17 (lowest_loose_place net) (le-ltb (lowest_loose_place net) net.places (omega arith)))
     (sound_refuse _ 17 (count_limit + lowest_loose_transition net) (le-ltb (lowest_loose_transition net) net.transitions (omega arith)))
 
-pub net_met : (net : Net) (fits : Bool) → net_fault net fits ≡ Sound → NetMet net fits
+pub net_met : (net : Net) (fits : Bool) → net_fault net fits ≡ Ok tt → NetMet net fits
 unfolding net_fault
 net_met net fits e =
     let a = or_sound (counts_fault net fits) (loose_fault net) e in
     let m = counts_met net fits a.0 in
     record { sized = m.sized; light = m.light; fitting = m.fitting; wired = loose_met net a.1 }
 
-pub met_net : (net : Net) (fits : Bool) → NetMet net fits → net_fault net fits ≡ Sound
+pub met_net : (net : Net) (fits : Bool) → NetMet net fits → net_fault net fits ≡ Ok tt
 unfolding net_fault
 met_net net fits m = sound_or _ _ (met_counts net fits (record { sized = m.sized; light = m.light; fitting = m.fitting })) (met_loose net m.wired)
 
@@ -259,30 +193,7 @@ pub marked_unsized : (net : Net) (initial : List ℕ) (fits : Bool) → sized_ne
 unfolding marked_fault
 marked_unsized net initial fits u = rw (start_unsized net initial fits u) (counts_unfit net (loose_fault net))
 
--- which refusal of counts, lengths and the initial marking
-module _ (net : Net) (initial : List ℕ) (fits : Bool) where
-  pub start_misfit : (r : Fault) → (length initial ≡ net.places → ⊥) → r ≡ counts_fault net false → r ≡ start_fault net initial fits
-  unfolding start_fault
-  start_misfit r h e = rw (ne_eqb (length initial) net.places h) (e ∙ sym (counts_unfit net (marking_fault net.caps initial)))
-
-  module _ (found : Fault) (h : length initial ≡ net.places) (e : found ≡ counts_fault net fits) where
-    same_counts : found ≡ counts_fault net (eqb (length initial) net.places && fits)
-    same_counts = rw (eq-eqb (length initial) net.places h) e
-
-    pub start_faulty : (n at : ℕ) → found ≡ Faulty n at → Faulty n at ≡ start_fault net initial fits
-    unfolding start_fault
-    start_faulty n at q = chain_first _ _ found n at same_counts q
-
-    pub start_marking : (r : Fault) → found ≡ Sound → r ≡ marking_fault net.caps initial → r ≡ start_fault net initial fits
-    unfolding start_fault
-    start_marking r q k = chain_next _ _ found r same_counts q k
-
-    pub caps_long : found ≡ Sound → length net.caps ≡ length initial
-    caps_long q = (counts_met net fits (sym e ∙ q)).sized.capped ∙ sym h
-
-pub ruleset start_faults = (start_misfit, start_faulty, start_marking)
-
-pub fine_of : (caps m : List ℕ) → marking_fault caps m ≡ Sound → Fine caps m
+pub fine_of : (caps m : List ℕ) → marking_fault caps m ≡ Ok tt → Fine caps m
 unfolding marking_fault
 fine_of caps m e =
     let x = ltb-false (bad_token caps m) (length m) (refuse_sound _ 3 (bad_token caps m) e) in
@@ -295,7 +206,7 @@ fine_of caps m e =
     go p (yes h) x = ltb-false token_limit (get_or m p 0) (each p h x).0
     go p (no n) x = rw (get_or-eq_default m 0 {n = p} (omega arith)) zero-le
 
-pub fine_is : (caps m : List ℕ) → Fine caps m → marking_fault caps m ≡ Sound
+pub fine_is : (caps m : List ℕ) → Fine caps m → marking_fault caps m ≡ Ok tt
 unfolding marking_fault
 fine_is caps m f =
     let e = first_none (λ p. token_bad (get_or caps p 0) (get_or m p 0)) (length m)
@@ -303,7 +214,7 @@ fine_is caps m f =
     sound_refuse _ 3 (bad_token caps m) (le-ltb (bad_token caps m) (length m) (omega arith))
 
 -- nothing of 1, 2, 18 and 3 is refused exactly where the net is sized and light, all lengths agree and the marking is fine
-pub start_met : (net : Net) (initial : List ℕ) (fits : Bool) → start_fault net initial fits ≡ Sound → StartMet net initial fits
+pub start_met : (net : Net) (initial : List ℕ) (fits : Bool) → start_fault net initial fits ≡ Ok tt → StartMet net initial fits
 unfolding start_fault
 start_met net initial fits e =
     let a = or_sound (counts_fault net (eqb (length initial) net.places && fits)) (marking_fault net.caps initial) e in
@@ -311,7 +222,7 @@ start_met net initial fits e =
     let f = and-true (eqb (length initial) net.places) fits c.fitting in
     record { sized = c.sized; light = c.light; marked = eqb-true _ _ f.0; fitting = f.1; fine = fine_of net.caps initial a.1 }
 
-pub met_start : (net : Net) (initial : List ℕ) (fits : Bool) → StartMet net initial fits → start_fault net initial fits ≡ Sound
+pub met_start : (net : Net) (initial : List ℕ) (fits : Bool) → StartMet net initial fits → start_fault net initial fits ≡ Ok tt
 unfolding start_fault
 met_start net initial fits m =
     sound_or _ _
@@ -319,65 +230,28 @@ met_start net initial fits m =
     (record { sized = m.sized; light = m.light; fitting = rw (eq-eqb (length initial) net.places m.marked) m.fitting }))
     (fine_is net.caps initial m.fine)
 
-pub marked_met : (net : Net) (initial : List ℕ) (fits : Bool) → marked_fault net initial fits ≡ Sound → MarkedMet net initial fits
+pub marked_met : (net : Net) (initial : List ℕ) (fits : Bool) → marked_fault net initial fits ≡ Ok tt → MarkedMet net initial fits
 unfolding marked_fault
 marked_met net initial fits e =
     let a = or_sound (start_fault net initial fits) (loose_fault net) e in
     let m = start_met net initial fits a.0 in
     record { sized = m.sized; light = m.light; marked = m.marked; fitting = m.fitting; fine = m.fine; wired = loose_met net a.1 }
 
-pub met_marked : (net : Net) (initial : List ℕ) (fits : Bool) → MarkedMet net initial fits → marked_fault net initial fits ≡ Sound
+pub met_marked : (net : Net) (initial : List ℕ) (fits : Bool) → MarkedMet net initial fits → marked_fault net initial fits ≡ Ok tt
 unfolding marked_fault
 met_marked net initial fits m =
     sound_or _ _ (met_start net initial fits (record { sized = m.sized; light = m.light; marked = m.marked; fitting = m.fitting; fine = m.fine })) (met_loose net m.wired)
 
--- which refusal of a node, from the nodes that were found
-module _ (P T p t : ℕ) where
-  pub node_place : (at : ℕ) → at ≡ p → p < P → Faulty 17 at ≡ or_else (refuse (ltb p P) 17 p) (refuse (ltb t T) 17 (count_limit + t))
-  node_place at e h = rw (e, lt-ltb p P h)
+-- a loose transition that was found is one of them
+pub loose_few : (net : Net) (o : Option ℕ) → Sized net → o ≡ found net.transitions (lowest_loose_transition net) → MatchOption o ⊤ (λ t. t ≤ count_limit)
+loose_few net o z e = rw e (go (dec_lt (lowest_loose_transition net) net.transitions))
+  where
+    go : Dec (lowest_loose_transition net < net.transitions) → MatchOption (found net.transitions (lowest_loose_transition net)) ⊤ (λ t. t ≤ count_limit)
+    go (yes h) = rw (lt-ltb _ _ h) (omega (arith, z.few_transitions))
+    go (no h) = rw (le-ltb (lowest_loose_transition net) net.transitions (omega arith)) tt
 
-  pub node_transition : (at : ℕ) → at ≡ count_limit + t → P ≤ p → t < T → Faulty 17 at ≡ or_else (refuse (ltb p P) 17 p) (refuse (ltb t T) 17 (count_limit + t))
-  node_transition at e h l = rw (e, le-ltb p P h, lt-ltb t T l)
-
-  pub node_none : P ≤ p → T ≤ t → Sound ≡ or_else (refuse (ltb p P) 17 p) (refuse (ltb t T) 17 (count_limit + t))
-  node_none h l = rw (le-ltb p P h, le-ltb t T l)
-
-pub ruleset nodes = (node_place, node_transition, node_none)
-
-pub loose_is : (net : Net) (p t : ℕ) (r : Fault) → p ≡ lowest_loose_place net → t ≡ lowest_loose_transition net → r ≡ or_else (refuse (ltb p net.places) 17 p) (refuse (ltb t net.transitions) 17 (count_limit + t)) → r ≡ loose_fault net
-unfolding loose_fault
-loose_is net p t r a b e = rw (← a, ← b) e
-
--- the lowest loose transition is none past them
-pub loose_few : (net : Net) (t : ℕ) → Sized net → t ≡ lowest_loose_transition net → (t ≤ net.transitions) × (net.transitions ≤ count_limit)
-loose_few net t z e = (rw e (first_most (loose_transition net) net.transitions), z.few_transitions)
-
--- which refusal of a net: `found` is what the code found before it looked for loose nodes
-module _ (net : Net) (fits : Bool) (found : Fault) (e : found ≡ counts_fault net fits) where
-  pub net_faulty : (n at : ℕ) → found ≡ Faulty n at → Faulty n at ≡ net_fault net fits
-  unfolding net_fault
-  net_faulty n at q = chain_first _ _ found n at e q
-
-  pub net_loose : (r : Fault) → found ≡ Sound → r ≡ loose_fault net → r ≡ net_fault net fits
-  unfolding net_fault
-  net_loose r q k = chain_next _ _ found r e q k
-
-  pub net_sized : found ≡ Sound → Sized net
-  net_sized q = (counts_met net fits (sym e ∙ q)).sized
-
-pub ruleset net_faults = (net_faulty, net_loose, net_sized)
-
--- ... and of a net and its marking
-module _ (net : Net) (initial : List ℕ) (fits : Bool) (found : Fault) (e : found ≡ start_fault net initial fits) where
-  pub marked_faulty : (n at : ℕ) → found ≡ Faulty n at → Faulty n at ≡ marked_fault net initial fits
-  unfolding marked_fault
-  marked_faulty n at q = chain_first _ _ found n at e q
-
-  pub marked_loose : (r : Fault) → found ≡ Sound → r ≡ loose_fault net → r ≡ marked_fault net initial fits
-  unfolding marked_fault
-  marked_loose r q k = chain_next _ _ found r e q k
-
-  pub marked_sized : found ≡ Sound → Sized net
-  marked_sized q = (start_met net initial fits (sym e ∙ q)).sized
-
-pub ruleset marked_faults = (marked_faulty, marked_loose, marked_sized)
+-- where counts and lengths agree, the marking is as long as the capacities
+pub start_counted : (net : Net) (initial : List ℕ) (fits : Bool) → counts_fault net (eqb (length initial) net.places && fits) ≡ Ok tt → length net.caps ≡ length initial
+start_counted net initial fits e =
+    let m = counts_met net (eqb (length initial) net.places && fits) e in
+    m.sized.capped ∙ sym (eqb-true _ _ (and-true (eqb (length initial) net.places) fits m.fitting).0)

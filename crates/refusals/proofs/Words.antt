@@ -1,15 +1,15 @@
 -- Laws of the refusals of a word: which one is given, and what holds where none is. Assumes nothing.
-use Prim.Native.Nat.{ℕ, ◌≤◌, ◌<◌}
+use Rattle.std.specs.Prelude.{Ok}
+use Prim.Native.Nat.{ℕ, ◌≤◌}
 use mathlib.Core.Path.{◌≡◌}
 use mathlib.Core.List.{List}
 use native.Mathlib.Omega.{arith}
 use lib.ListN.{length, get_or}
 use lib.Dec.{ltb, leb}
-use borrow.Author.Tests.{lt-ltb, le-ltb, ltb-false, lt-leb, leb-false}
+use borrow.Author.Tests.{le-ltb, ltb-false, lt-leb, leb-false}
 use Rattle.ground.specs.Limits.{word_limit}
 use Rattle.ground.proofs.Scan.{first_none, first_below}
 use Rattle.refusals.specs.Given.{refuse, bad_letter, word_fault, Letters}
-use Rattle.refusals.specs.declared.Fault.TheVariants.{Sound, Faulty}
 use Rattle.refusals.proofs.Chains.{or_sound, sound_or, refuse_sound, sound_refuse}
 
 -- what holds where nothing is refused
@@ -17,23 +17,9 @@ pub record WordMet (n : ℕ) (w : List ℕ) : Type 0 where
   pub short : length w ≤ word_limit
   pub letters : Letters n w
 
--- which refusal of a word
 module _ (n : ℕ) (w : List ℕ) where
-  pub word_long : word_limit < length w → Faulty 4 0 ≡ word_fault n w
-  unfolding word_fault
-  word_long h = rw (lt-ltb word_limit (length w) h)
-
-  module _ (k : ℕ) (h : length w ≤ word_limit) (e : k ≡ bad_letter n w) where
-    pub word_letter : k < length w → Faulty 5 k ≡ word_fault n w
-    unfolding word_fault
-    word_letter l = rw (le-ltb word_limit (length w) h, ← e, lt-ltb k (length w) l)
-
-    pub word_fine : length w ≤ k → Sound ≡ word_fault n w
-    unfolding word_fault
-    word_fine l = rw (le-ltb word_limit (length w) h, ← e, le-ltb k (length w) l)
-
   -- nothing of 4 and 5 is refused exactly where the word is not too long and each letter names a transition
-  pub word_met : word_fault n w ≡ Sound → WordMet n w
+  pub word_met : word_fault n w ≡ Ok tt → WordMet n w
   unfolding word_fault
   word_met e =
       let a = or_sound (refuse (ltb word_limit (length w)) 4 0) (refuse (ltb (bad_letter n w) (length w)) 5 (bad_letter n w)) e in
@@ -43,10 +29,8 @@ module _ (n : ℕ) (w : List ℕ) where
         letters = record { at = λ k h. leb-false n (get_or w k 0) (first_below (λ k. leb n (get_or w k 0)) (length w) k (omega arith)) };
       }
 
-  pub met_word : WordMet n w → word_fault n w ≡ Sound
+  pub met_word : WordMet n w → word_fault n w ≡ Ok tt
   unfolding word_fault
   met_word m =
       let e = first_none (λ k. leb n (get_or w k 0)) (length w) (λ k b. lt-leb n (get_or w k 0) (m.letters.at k b)) in
       sound_or _ _ (sound_refuse _ 4 0 (le-ltb word_limit (length w) m.short)) (sound_refuse _ 5 (bad_letter n w) (le-ltb (bad_letter n w) (length w) (omega arith)))
-
-pub ruleset word_faults = (word_long, word_letter, word_fine)

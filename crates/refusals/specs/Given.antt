@@ -1,23 +1,42 @@
 -- To be believed: what is lent, and the refusals that the entries share, "in number order": 1, 2, 18, 3 and 17 for a net and its marking, 4 and 5 for a word.
-use Rattle.std.specs.Prelude.{ℕ, ◌+◌, ◌*◌, ◌-◌, ◌≤◌, ◌<◌, Bool, true, false, not, ◌&&◌, ◌||◌, List, length, get_or, take, drop, ltb, leb, eqb}
+use Rattle.std.specs.Prelude.{ℕ, ◌+◌, ◌*◌, ◌-◌, ◌≤◌, ◌<◌, Bool, true, false, not, ◌&&◌, ◌||◌, List, length, get_or, take, drop, ltb, leb, eqb, Option, Some, None, Result, Ok, Err}
+use Rattle.refusals.specs.declared.Refusal.{Refusal}
 use Rattle.ground.specs.Limits.{count_limit, token_limit, word_limit}
 use Rattle.ground.specs.Lists.{first}
 use Rattle.net.specs.Net.{Net}
 use Rattle.net.specs.Letter.{Small}
 use Rattle.wiring.specs.Wired.{lowest_loose_place, lowest_loose_transition}
 use Rattle.weights.specs.Heavy.{lowest_heavy}
-use Rattle.refusals.specs.declared.Fault.{Fault}
-use Rattle.refusals.specs.declared.Fault.TheVariants.{Sound, Faulty}
+
+-- refusal n with its position
+abbrev pub refusal : ℕ → ℕ → Refusal
+refusal n at = record { number = n; at = at }
+
+-- what a question answers, or the refusal that it gives
+abbrev pub Answer : Type 0 → Type 0
+Answer A = Result A Refusal
+
+abbrev pub refused : {A : Type 0} → ℕ → ℕ → Answer A
+refused n at = Err (refusal n at)
+
+-- nothing is wrong, or a refusal is given
+abbrev pub Fault : Type 0
+Fault = Answer Unit
 
 -- refusal n with its position, "given exactly when" its test holds
 abbrev pub refuse : Bool → ℕ → ℕ → Fault
-refuse true n at = Faulty n at
-refuse false n at = Sound
+refuse true n at = Err (refusal n at)
+refuse false n at = Ok tt
 
--- "Checks run in number order": the first fault, else the second
-abbrev pub or_else : Fault → Fault → Fault
-or_else (Faulty n at) next = Faulty n at
-or_else Sound next = next
+-- refusal n, its position what was found, where something was
+abbrev pub refuse_found : Option ℕ → ℕ → Fault
+refuse_found (Some at) n = Err (refusal n at)
+refuse_found None n = Ok tt
+
+-- "Checks run in number order": the first fault, else what comes next, a second fault or an answer
+abbrev pub or_else : {A : Type 0} → Fault → Answer A → Answer A
+or_else (Err r) next = Err r
+or_else (Ok _) next = next
 
 -- 1: "a place or transition count outside 1..64"
 abbrev pub outside : ℕ → Bool
@@ -52,6 +71,11 @@ unfoldable pub counts_fault : Net → Bool → Fault
 counts_fault net fits =
     or_else (refuse (outside net.places || outside net.transitions) 1 0)
     (or_else (refuse (misfit net || not fits) 2 0) (weights_fault net))
+
+-- the position of a transition that was found: behind those of all places
+abbrev pub behind_places : Option ℕ → Option ℕ
+behind_places (Some t) = Some (count_limit + t)
+behind_places None = None
 
 -- 17, document 02, E4: "position the lowest loose place, else 64 plus the lowest loose transition"
 unfoldable pub loose_fault : Net → Fault

@@ -1,289 +1,204 @@
 // Inner: the refusals that every entry shares: what is wrong with a net, its marking or a word.
 #![tactic(auto)]
 
-ghost use Rattle.std.specs.Prelude.{◌≡◌, ◌+◌, ◌≤◌, leb, ltb, length};
+ghost use Rattle.std.specs.Prelude.{◌≡◌, not, ◌||◌, ◌&&◌, eqb, ◌+◌, ◌≤◌, leb, ltb, length, MatchOption, ⊤};
 ghost use Rattle.ground.specs.Limits.{count_limit};
-ghost use Rattle.net.specs.Net.{net_of, Sized};
-ghost use Rattle.refusals.specs.Given.{refuse, or_else, outside, misfit, sized_net, token_bad, bad_token, weights_fault, counts_fault, loose_fault, net_fault, marking_fault, start_fault, marked_fault, bad_letter, word_fault};
+ghost use Rattle.ground.specs.Lists.{found};
+ghost use Rattle.net.specs.Lent.{lent};
+ghost use Rattle.net.specs.Net.{Sized};
+ghost use Rattle.refusals.specs.Given.{refuse, refuse_found, or_else, outside, misfit, sized_net, token_bad, bad_token, weights_fault, counts_fault, behind_places, loose_fault, net_fault, marking_fault, start_fault, marked_fault, bad_letter, word_fault};
 
-use ground::{COUNT_LIMIT, TOKEN_LIMIT, WORD_LIMIT, Weight};
+use ground::{COUNT_LIMIT, TOKEN_LIMIT, WORD_LIMIT};
+use net::{Net, SizedNet};
 
-// Whether what was lent can be used, else a refusal's number and position.
+// Why what was lent cannot be used: a refusal's number, as the documents, the case files and the
+// interface for C have it, and its position.
 #[derive(Clone, Copy)]
-pub enum Fault {
-    Sound,
-    Faulty(u8, usize),
+pub struct Refusal {
+    pub number: u8,
+    pub at: usize,
+}
+
+// A refusal with its position, where something is wrong.
+pub fn refuse(wrong: bool, number: u8, at: usize) -> Result<(), Refusal>
+    ensures { result ≡ refuse wrong number at }
+{
+    if wrong {
+        return Err(Refusal { number, at });
+    }
+    Ok(())
+}
+
+// A refusal whose position is what was found, if something was.
+pub fn refuse_found(found: Option<usize>, number: u8) -> Result<(), Refusal>
+    ensures { result ≡ refuse_found found number }
+{
+    match found {
+        Some(at) => Err(Refusal { number, at }),
+        None => Ok(()),
+    }
 }
 
 // Refusal 1 for one count.
 pub fn is_outside(count: usize) -> bool
     ensures { result ≡ outside count }
 {
-    if count < 1 {
-        return true;
-    }
-    COUNT_LIMIT < count
+    count < 1 || COUNT_LIMIT < count
+}
+
+// Refusal 1 for the counts of a net.
+fn are_outside(net: &Net) -> bool
+    ensures { result ≡ (outside net.now.places || outside net.now.transitions) }
+{
+    is_outside(net.places) || is_outside(net.transitions)
 }
 
 // Whether a list of the net has another length than the counts say.
-fn is_misfit(
-    places: usize,
-    transitions: usize,
-    pre: &[Weight],
-    post: &[Weight],
-    caps: &[u16],
-    marks: &[u8],
-) -> bool
-    requires { (places ≤ count_limit) × (transitions ≤ count_limit) }
-    ensures { result ≡ misfit (net_of places transitions pre.now post.now caps.now marks.now) }
+fn is_misfit(net: &Net) -> bool
+    requires { (net.now.places ≤ count_limit) × (net.now.transitions ≤ count_limit) }
+    ensures { result ≡ misfit (lent net.now) }
 {
-    let cells = transitions * places;
-    if pre.len() != cells {
-        return true;
-    }
-    if post.len() != cells {
-        return true;
-    }
-    if caps.len() != places {
-        return true;
-    }
-    marks.len() != places
+    let cells = net.transitions * net.places;
+    net.pre.len() != cells
+        || net.post.len() != cells
+        || net.caps.len() != net.places
+        || net.marks.len() != net.places
+}
+
+// Refusal 2: such a list, or what else an entry is lent.
+fn are_misfits(net: &Net, fits: bool) -> bool
+    requires { (net.now.places ≤ count_limit) × (net.now.transitions ≤ count_limit) }
+    ensures { result ≡ (misfit (lent net.now) || not fits) }
+{
+    is_misfit(net) || !fits
 }
 
 // One place of a given marking has more tokens than may be given, or than its capacity.
 pub fn is_bad_token(cap: u16, tokens: u16) -> bool
     ensures { result ≡ token_bad cap tokens }
 {
-    if TOKEN_LIMIT < tokens {
-        return true;
-    }
-    cap < tokens
+    TOKEN_LIMIT < tokens || cap < tokens
 }
 
-// The lowest place with tokens that may not be given, or the number of places.
-fn bad_token(caps: &[u16], marking: &[u16]) -> usize
+// The lowest place with tokens that may not be given, if there is one.
+fn bad_token(caps: &[u16], marking: &[u16]) -> Option<usize>
     requires { length caps.now ≡ length marking.now }
-    ensures { result ≡ bad_token caps.now marking.now }
+    ensures { result ≡ found (length marking.now) (bad_token caps.now marking.now) }
 {
-    let mut p = 0;
-    while p < marking.len() {
+    for p in 0..marking.len() {
         if is_bad_token(caps[p], marking[p]) {
-            return p;
+            return Some(p);
         }
-        p += 1;
     }
-    p
+    None
 }
 
 // Whether the counts are in range and the net's lists have the lengths that they say.
-pub fn is_sized(
-    places: usize,
-    transitions: usize,
-    pre: &[Weight],
-    post: &[Weight],
-    caps: &[u16],
-    marks: &[u8],
-) -> bool
-    ensures { result ≡ sized_net (net_of places transitions pre.now post.now caps.now marks.now) }
+pub fn is_sized(net: &Net) -> bool
+    ensures { result ≡ sized_net (lent net.now) }
 {
-    if is_outside(places) {
-        return false;
-    }
-    if is_outside(transitions) {
-        return false;
-    }
-    !is_misfit(places, transitions, pre, post, caps, marks)
+    !are_outside(net) && !is_misfit(net)
 }
 
 // Refusal 18: the lowest transition with a weight over what is allowed.
-fn weights_fault(
-    places: usize,
-    transitions: usize,
-    pre: &[Weight],
-    post: &[Weight],
-    caps: &[u16],
-    marks: &[u8],
-) -> Fault
-    requires { Sized (net_of places transitions pre.now post.now caps.now marks.now) }
-    ensures { result ≡ weights_fault (net_of places transitions pre.now post.now caps.now marks.now) }
+fn weights_fault(sized: &SizedNet) -> Result<(), Refusal>
+    ensures { result ≡ weights_fault (lent sized.now.net) }
 {
-    let heavy = weights::heavy_transition(places, transitions, pre, post, caps, marks);
-    if heavy < transitions {
-        Fault::Faulty(18, heavy)
-    } else {
-        Fault::Sound
-    }
+    refuse_found(weights::heavy_transition(sized), 18)
 }
 
 // Refusals 1, 2 and 18: counts, lengths and weights. `fits` tells whether the lengths of all else that
 // an entry is lent agree with the counts, which is refusal 2 too.
-pub fn counts_fault(
-    places: usize,
-    transitions: usize,
-    pre: &[Weight],
-    post: &[Weight],
-    caps: &[u16],
-    marks: &[u8],
-    fits: bool,
-) -> Fault
-    ensures { result ≡ counts_fault (net_of places transitions pre.now post.now caps.now marks.now) fits }
+pub fn counts_fault(net: &Net, fits: bool) -> Result<(), Refusal>
+    ensures { result ≡ counts_fault (lent net.now) fits }
 {
-    if is_outside(places) {
-        return Fault::Faulty(1, 0);
-    }
-    if is_outside(transitions) {
-        return Fault::Faulty(1, 0);
-    }
-    if is_misfit(places, transitions, pre, post, caps, marks) {
-        return Fault::Faulty(2, 0);
-    }
-    if fits {
-        weights_fault(places, transitions, pre, post, caps, marks)
-    } else {
-        Fault::Faulty(2, 0)
+    refuse(are_outside(net), 1, 0)?;
+    refuse(are_misfits(net, fits), 2, 0)?;
+    weights_fault(&SizedNet { net: *net })
+}
+
+// The position of a transition that was found: behind those of all places.
+fn behind_places(found: Option<usize>) -> Option<usize>
+    requires { MatchOption found ⊤ (λ t. t ≤ count_limit) }
+    ensures { result ≡ behind_places found }
+{
+    match found {
+        Some(t) => Some(COUNT_LIMIT + t),
+        None => None,
     }
 }
 
-// Refusal 17 from what was found: the lowest loose place, else 64 and the lowest loose transition.
-fn loose_node(places: usize, transitions: usize, p: usize, t: usize) -> Fault
-    requires { (t ≤ transitions) × (transitions ≤ count_limit) }
-    ensures { result ≡ or_else (refuse (ltb p places) 17 p) (refuse (ltb t transitions) 17 (count_limit + t)) }
+// Refusal 17: the lowest place without an arc, else 64 and the lowest transition without one.
+pub fn loose_fault(sized: &SizedNet) -> Result<(), Refusal>
+    ensures { result ≡ loose_fault (lent sized.now.net) }
 {
-    let above = COUNT_LIMIT + t;
-    if p < places {
-        return Fault::Faulty(17, p);
-    }
-    if t < transitions {
-        return Fault::Faulty(17, above);
-    }
-    Fault::Sound
-}
-
-// Refusal 17: a place or a transition without an arc.
-pub fn loose_fault(
-    places: usize,
-    transitions: usize,
-    pre: &[Weight],
-    post: &[Weight],
-    caps: &[u16],
-    marks: &[u8],
-) -> Fault
-    requires { Sized (net_of places transitions pre.now post.now caps.now marks.now) }
-    ensures { result ≡ loose_fault (net_of places transitions pre.now post.now caps.now marks.now) }
-{
-    let p = wiring::loose_place(places, transitions, pre, post, caps, marks);
-    let t = wiring::loose_transition(places, transitions, pre, post, caps, marks);
-    loose_node(places, transitions, p, t)
+    refuse_found(wiring::loose_place(sized), 17)?;
+    refuse_found(behind_places(wiring::loose_transition(sized)), 17)
 }
 
 // What is wrong with a net, for questions without a marking.
-pub fn net_fault(
-    places: usize,
-    transitions: usize,
-    pre: &[Weight],
-    post: &[Weight],
-    caps: &[u16],
-    marks: &[u8],
-    fits: bool,
-) -> Fault
-    ensures { result ≡ net_fault (net_of places transitions pre.now post.now caps.now marks.now) fits }
+pub fn net_fault(net: &Net, fits: bool) -> Result<(), Refusal>
+    ensures { result ≡ net_fault (lent net.now) fits }
 {
-    let sizes = counts_fault(places, transitions, pre, post, caps, marks, fits);
-    match sizes {
-        Fault::Faulty(number, at) => Fault::Faulty(number, at),
-        Fault::Sound => loose_fault(places, transitions, pre, post, caps, marks),
-    }
+    counts_fault(net, fits)?;
+    loose_fault(&SizedNet { net: *net })
 }
 
 // Refusal 3 for a marking.
-pub fn marking_fault(caps: &[u16], marking: &[u16]) -> Fault
+pub fn marking_fault(caps: &[u16], marking: &[u16]) -> Result<(), Refusal>
     requires { length caps.now ≡ length marking.now }
     ensures { result ≡ marking_fault caps.now marking.now }
 {
-    let p = bad_token(caps, marking);
-    if p < marking.len() {
-        Fault::Faulty(3, p)
-    } else {
-        Fault::Sound
-    }
+    refuse_found(bad_token(caps, marking), 3)
+}
+
+// Whether the marking, and all else that an entry is lent, agrees with the counts.
+fn is_fitting(net: &Net, initial: &[u16], fits: bool) -> bool
+    ensures { result ≡ (eqb (length initial.now) net.now.places && fits) }
+{
+    initial.len() == net.places && fits
 }
 
 // Refusals 1, 2, 18 and 3 for a net and its initial marking, for questions whose list or target has a 3
 // of its own.
-pub fn start_fault(
-    places: usize,
-    transitions: usize,
-    pre: &[Weight],
-    post: &[Weight],
-    caps: &[u16],
-    marks: &[u8],
-    initial: &[u16],
-    fits: bool,
-) -> Fault
-    ensures { result ≡ start_fault (net_of places transitions pre.now post.now caps.now marks.now) initial.now fits }
+pub fn start_fault(net: &Net, initial: &[u16], fits: bool) -> Result<(), Refusal>
+    ensures { result ≡ start_fault (lent net.now) initial.now fits }
 {
-    if initial.len() != places {
-        return counts_fault(places, transitions, pre, post, caps, marks, false);
-    }
-    let found = counts_fault(places, transitions, pre, post, caps, marks, fits);
-    match found {
-        Fault::Faulty(number, at) => Fault::Faulty(number, at),
-        Fault::Sound => marking_fault(caps, initial),
-    }
+    counts_fault(net, is_fitting(net, initial, fits))?;
+    marking_fault(net.caps, initial)
 }
 
 // What is wrong with a net and its marking, for questions with one marking.
-pub fn marked_fault(
-    places: usize,
-    transitions: usize,
-    pre: &[Weight],
-    post: &[Weight],
-    caps: &[u16],
-    marks: &[u8],
-    initial: &[u16],
-    fits: bool,
-) -> Fault
-    ensures { result ≡ marked_fault (net_of places transitions pre.now post.now caps.now marks.now) initial.now fits }
+pub fn marked_fault(net: &Net, initial: &[u16], fits: bool) -> Result<(), Refusal>
+    ensures { result ≡ marked_fault (lent net.now) initial.now fits }
 {
-    let found = start_fault(places, transitions, pre, post, caps, marks, initial, fits);
-    match found {
-        Fault::Faulty(number, at) => Fault::Faulty(number, at),
-        Fault::Sound => loose_fault(places, transitions, pre, post, caps, marks),
-    }
+    start_fault(net, initial, fits)?;
+    loose_fault(&SizedNet { net: *net })
 }
 
 // Whether a letter names no transition.
 fn is_bad_letter(transitions: usize, t: u8) -> bool
     ensures { result ≡ leb transitions t }
 {
-    transitions <= t as usize
+    transitions <= usize::from(t)
 }
 
-// The first letter that names no transition, or the number of letters.
-fn bad_letter(transitions: usize, word: &[u8]) -> usize
-    ensures { result ≡ bad_letter transitions word.now }
+// The first letter that names no transition, if there is one.
+fn bad_letter(transitions: usize, word: &[u8]) -> Option<usize>
+    ensures { result ≡ found (length word.now) (bad_letter transitions word.now) }
 {
-    let mut k = 0;
-    while k < word.len() {
+    for k in 0..word.len() {
         if is_bad_letter(transitions, word[k]) {
-            return k;
+            return Some(k);
         }
-        k += 1;
     }
-    k
+    None
 }
 
 // Refusals 4 and 5: all letters are checked before any fires.
-pub fn word_fault(transitions: usize, word: &[u8]) -> Fault
+pub fn word_fault(transitions: usize, word: &[u8]) -> Result<(), Refusal>
     ensures { result ≡ word_fault transitions word.now }
 {
-    if WORD_LIMIT < word.len() {
-        return Fault::Faulty(4, 0);
-    }
-    let k = bad_letter(transitions, word);
-    if k < word.len() {
-        Fault::Faulty(5, k)
-    } else {
-        Fault::Sound
-    }
+    refuse(WORD_LIMIT < word.len(), 4, 0)?;
+    refuse_found(bad_letter(transitions, word), 5)
 }

@@ -10,8 +10,7 @@ use Rattle.net.specs.Net.{Net}
 use Rattle.net.specs.Firing.{Enabled, Firing, Fires, nothing, letter, Names}
 use Rattle.net.specs.Letter.{arcs_at, after, judge_at, fired_at}
 use Rattle.net.specs.declared.Cause.{Cause}
-use Rattle.net.specs.declared.Letter.{Letter}
-use Rattle.net.specs.declared.Letter.TheVariants.{Passes, Stops}
+use Rattle.std.specs.Prelude.{Result, Ok, Err}
 use Rattle.net.proofs.Judged.{enabled_of, gives_fired, names_of, passes_judged}
 use Rattle.net.proofs.Meaning.{gives_one, fires_nil, fires_cons}
 use Rattle.refusals.specs.Given.{Letters}
@@ -38,11 +37,11 @@ ending net i m (t ∷ w) h b =
     go (judge_at net t m) refl
     (ending net (i + 1) (fired_at net t m) w (map_at_length (after (arcs_at net t).takes (arcs_at net t).puts) m ∙ h) (record { at = λ k l. b.at (suc k) (suc-le-suc l) }))
   where
-    go : (l : Letter) → judge_at net t m ≡ l → Ending net (i + 1) (fired_at net t m) w (play_from net (i + 1) (fired_at net t m) w) → Ending net i m (t ∷ w) (play_from net i m (t ∷ w))
-    go Passes e r =
+    go : (l : Result Unit Cause) → judge_at net t m ≡ l → Ending net (i + 1) (fired_at net t m) w (play_from net (i + 1) (fired_at net t m) w) → Ending net i m (t ∷ w) (play_from net i m (t ∷ w))
+    go (Ok _) e r =
         let en = enabled_of net m t h (passes_judged net m t e) in
         rw (e, play_from) (ending_cons net i m (fired_at net t m) t w _ (record { named = b.at 0 (suc-le-suc zero-le); enabled = en; gives = gives_fired net m t h en }) r)
-    go (Stops why) e r =
+    go (Err why) e r =
         let q : i ≡ i + 0 = omega arith in
         rw (e, play_from) (stops 0 why (ap (λ (z : ℕ). Blocked z why) q) (suc-le-suc zero-le) nothing (names_of net m t h why e))
 

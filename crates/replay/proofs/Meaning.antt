@@ -1,4 +1,6 @@
 -- What a replay's answer means: the demands of document 01, over the published relation. Assumes nothing.
+use Rattle.std.specs.Prelude.{Ok, Err}
+use Rattle.refusals.specs.Given.{Answer, refused}
 use Prim.Native.Nat.{ℕ, ◌+◌, ◌<◌}
 use mathlib.Core.Path.{◌≡◌, sym, ap, ◌∙◌}
 use mathlib.Core.Bool.{Bool, true, ◌&&◌}
@@ -17,36 +19,32 @@ use Rattle.net.specs.Letter.{Small}
 use Rattle.net.specs.declared.Cause.{Cause}
 use Rattle.net.proofs.Judged.{named_stops}
 use Rattle.net.proofs.Meaning.{cause_apart, cause_some, deterministic, within_stays, replay_reaches}
-use Rattle.refusals.proofs.Exactly.{Answers, Chain, reads_both, reads_all, marked_reads, word_reads, fault_is, exactly_refused, is_answered, is_allowed}
-use Rattle.refusals.specs.declared.Fault.TheVariants.{Sound}
+use Rattle.refusals.proofs.Exactly.{Answers, not_refused, same_refusal, Chain, reads_both, reads_all, marked_reads, word_reads, fault_is, exactly_refused, is_answered, is_allowed}
 use Rattle.plays.specs.Replay.{play_from}
 use Rattle.replay.specs.Entry.{replay_fault, replay_of, numbers, Replayed, Allowed, Refusal, letters_fired, Longest}
 use Rattle.plays.specs.declared.Replay.{Replay}
-use Rattle.plays.specs.declared.Replay.TheVariants.{Fired, Blocked, Refused}
+use Rattle.plays.specs.declared.Replay.TheVariants.{Fired, Blocked}
 use Rattle.replay.proofs.Answers.{sane_of, sane_is}
 use Rattle.replay.proofs.Ending.{Ending, whole, stops, ending, no_more}
 
 -- `numbers` tells any two answers apart
-pub numbers_apart : (a b : Replay) → numbers a ≡ numbers b → a ≡ b
-numbers_apart (Fired n) (Fired k) e = ap Fired (cc)
-numbers_apart (Fired n) (Blocked k why) e = let z : ◌≡◌ {A = ℕ} 0 (cause_number why) = cc in absurd (cause_some why (sym z))
-numbers_apart (Fired n) (Refused k p) e = let z : ◌≡◌ {A = ℕ} 0x81 0x82 = cc in absurd (omega arith)
-numbers_apart (Blocked n why) (Fired k) e = let z : cause_number why ≡ 0 = cc in absurd (cause_some why z)
-numbers_apart (Blocked n why) (Blocked k who) e =
+pub numbers_apart : (a b : Answer Replay) → numbers a ≡ numbers b → a ≡ b
+numbers_apart (Ok (Fired n)) (Ok (Fired k)) e = let q : n ≡ k = cc in rw q
+numbers_apart (Ok (Fired n)) (Ok (Blocked k why)) e = let z : ◌≡◌ {A = ℕ} 0 (cause_number why) = cc in absurd (cause_some why (sym z))
+numbers_apart (Ok (Fired n)) (Err r) e = let z : ◌≡◌ {A = ℕ} 0x81 0x82 = cc in absurd (omega arith)
+numbers_apart (Ok (Blocked n why)) (Ok (Fired k)) e = let z : cause_number why ≡ 0 = cc in absurd (cause_some why z)
+numbers_apart (Ok (Blocked n why)) (Ok (Blocked k who)) e =
     let x : n ≡ k = cc in
     let c : cause_number why ≡ cause_number who = cc in
     let v : cause_values why ≡ cause_values who = cc in
     rw (x, cause_apart why who c v)
-numbers_apart (Blocked n why) (Refused k p) e = let z : ◌≡◌ {A = ℕ} 0x81 0x82 = cc in absurd (omega arith)
-numbers_apart (Refused n p) (Fired k) e = let z : ◌≡◌ {A = ℕ} 0x82 0x81 = cc in absurd (omega arith)
-numbers_apart (Refused n p) (Blocked k why) e = let z : ◌≡◌ {A = ℕ} 0x82 0x81 = cc in absurd (omega arith)
-numbers_apart (Refused n p) (Refused k q) e = let x : n ≡ k = cc in let y : p ≡ q = cc in cc
-
-refused_one : (n at k p : ℕ) → Refused n at ≡ Refused k p → (n ≡ k) × (at ≡ p)
-refused_one n at k p e = (cc, cc)
+numbers_apart (Ok (Blocked n why)) (Err r) e = let z : ◌≡◌ {A = ℕ} 0x81 0x82 = cc in absurd (omega arith)
+numbers_apart (Err r) (Ok (Fired k)) e = let z : ◌≡◌ {A = ℕ} 0x82 0x81 = cc in absurd (omega arith)
+numbers_apart (Err r) (Ok (Blocked k why)) e = let z : ◌≡◌ {A = ℕ} 0x82 0x81 = cc in absurd (omega arith)
+numbers_apart (Err r) (Err s) e = same_refusal r s (cc) (cc)
 
 -- the promise has one answer, and one content of the room
-pub unique : (net : Net) (initial w : List ℕ) (within : Bool) (room : List ℕ) (r r' : Replay) (m m' : List ℕ) → Replayed net initial w within room r m → Replayed net initial w within room r' m' → (r ≡ r') × (m ≡ m')
+pub unique : (net : Net) (initial w : List ℕ) (within : Bool) (room : List ℕ) (r r' : Answer Replay) (m m' : List ℕ) → Replayed net initial w within room r m → Replayed net initial w within room r' m' → (r ≡ r') × (m ≡ m')
 unique net initial w within room r r' m m' a b = (numbers_apart r r' (a.answer ∙ sym b.answer), a.left ∙ sym b.left)
 
 -- the chain of refusals, read demand by demand
@@ -62,91 +60,86 @@ read_chain net initial w within room = reads_all (reads_both (marked_reads net i
 
 module _ (net : Net) (initial w : List ℕ) (within : Bool) (room : List ℕ) where
   -- nothing is refused exactly where all that document 01 asks holds
-  allowed_of : replay_fault net initial w (eqb (length room) net.places && within) ≡ Sound → Allowed net initial w within room
+  allowed_of : replay_fault net initial w (eqb (length room) net.places && within) ≡ Ok tt → Allowed net initial w within room
   allowed_of e =
       let s = sane_of net initial w (eqb (length room) net.places && within) e in
       let f = and-true (eqb (length room) net.places) within s.fitting in
       record { sized = s.sized; light = s.light; marked = s.marked; roomy = eqb-true _ _ f.0; inside = f.1; fine = s.fine; wired = s.wired; short = s.short; letters = s.letters }
 
-  of_allowed : Allowed net initial w within room → replay_fault net initial w (eqb (length room) net.places && within) ≡ Sound
+  of_allowed : Allowed net initial w within room → replay_fault net initial w (eqb (length room) net.places && within) ≡ Ok tt
   of_allowed a =
       sane_is net initial w (eqb (length room) net.places && within)
       (record { sized = a.sized; light = a.light; marked = a.marked; fitting = rw (eq-eqb _ _ a.roomy) a.inside; fine = a.fine; wired = a.wired; short = a.short; letters = a.letters })
 
-  module _ (r : Replay) (room' : List ℕ) (p : Replayed net initial w within room r room') where
+  module _ (r : Answer Replay) (room' : List ℕ) (p : Replayed net initial w within room r room') where
     answer_is : r ≡ (replay_of net initial w within room).answer
     answer_is = numbers_apart r (replay_of net initial w within room).answer p.answer
 
     -- where nothing is refused, the answer and the room are those of the replay, which ended by the published relation
-    ended : Allowed net initial w within room → Ending net 0 initial w (record { answer = r; left = room' })
+    ended : Allowed net initial w within room → (r ≡ Ok (play_from net 0 initial w).answer) × Ending net 0 initial w (record { answer = (play_from net 0 initial w).answer; left = room' })
     ended a =
         let f = of_allowed a in
-        let x : r ≡ (play_from net 0 initial w).answer = rw f at answer_is in
         let y : room' ≡ (play_from net 0 initial w).left = rw f at p.left in
-        rw (x, y) (ending net 0 initial w a.marked a.letters)
+        (rw f at answer_is, rw y (ending net 0 initial w a.marked a.letters))
 
     -- the answer is the refusal of the first fault, and none where there is no fault
-    answers : Answers Refused (replay_fault net initial w (eqb (length room) net.places && within)) r
+    answers : Answers (replay_fault net initial w (eqb (length room) net.places && within)) r
     answers =
         record {
           given = λ n at f. answer_is ∙ rw f;
-          never = λ f n at e. never_refused n at e (ended (allowed_of f));
+          never = λ f n at e. not_refused (play_from net 0 initial w).answer n at (sym (rw f at answer_is) ∙ e);
         }
-      where
-        never_refused : (n at : ℕ) → r ≡ Refused n at → Ending net 0 initial w (record { answer = r; left = room' }) → ⊥
-        never_refused n at e (whole g h) = let z : ◌≡◌ {A = ℕ} 0 1 = cc in omega arith
-        never_refused n at e (stops k why g h i j) = let z : ◌≡◌ {A = ℕ} 0 1 = cc in omega arith
 
     -- a refusal has the number and position of the first of 01's demands that does not hold, and is given exactly then
-    pub refused_exactly : (n at : ℕ) → (r ≡ Refused n at) ↔ Refusal net initial w within room n at
-    refused_exactly = exactly_refused answers refused_one (read_chain net initial w within room)
+    pub refused_exactly : (n at : ℕ) → (r ≡ refused n at) ↔ Refusal net initial w within room n at
+    refused_exactly = exactly_refused answers (read_chain net initial w within room)
 
     -- "A refusal leaves lent memory as found"
-    pub refused_as_found : (n at : ℕ) → r ≡ Refused n at → room' ≡ room
-    refused_as_found n at e = let f = fault_is answers refused_one n at e in rw f at p.left
+    pub refused_as_found : (n at : ℕ) → r ≡ refused n at → room' ≡ room
+    refused_as_found n at e = let f = fault_is answers n at e in rw f at p.left
 
     -- a refusal is given exactly where something that document 01 asks does not hold
-    pub allowed_answered : Allowed net initial w within room → (n at : ℕ) → r ≡ Refused n at → ⊥
+    pub allowed_answered : Allowed net initial w within room → (n at : ℕ) → r ≡ refused n at → ⊥
     allowed_answered = is_answered answers of_allowed
 
-    pub answered_allowed : ((n at : ℕ) → r ≡ Refused n at → ⊥) → Allowed net initial w within room
+    pub answered_allowed : ((n at : ℕ) → r ≡ refused n at → ⊥) → Allowed net initial w within room
     answered_allowed = is_allowed answers allowed_of
 
     module _ (allowed : Allowed net initial w within room) where
       -- "fired" exactly when the whole word fires; then the room holds the marking that it fires to
-      pub fired_means : (n : ℕ) → r ≡ Fired n → (n ≡ length w) × Fires net initial w room'
+      pub fired_means : (n : ℕ) → r ≡ Ok (Fired n) → (n ≡ length w) × Fires net initial w room'
       fired_means n e = go (ended allowed)
         where
-          go : Ending net 0 initial w (record { answer = r; left = room' }) → (n ≡ length w) × Fires net initial w room'
-          go (whole f g) = (let q : n ≡ 0 + length w = cc in omega arith, g)
-          go (stops k why f h g i) = let z : ◌≡◌ {A = ℕ} 0 1 = cc in absurd (omega arith)
+          go : (r ≡ Ok (play_from net 0 initial w).answer) × Ending net 0 initial w (record { answer = (play_from net 0 initial w).answer; left = room' }) → (n ≡ length w) × Fires net initial w room'
+          go (s, whole f g) = (let q : n ≡ 0 + length w = cc in omega arith, g)
+          go (s, stops k why f h g i) = let z : ◌≡◌ {A = ℕ} 0 1 = cc in absurd (omega arith)
 
-      pub fires_fired : (m' : List ℕ) → Fires net initial w m' → (r ≡ Fired (length w)) × (room' ≡ m')
+      pub fires_fired : (m' : List ℕ) → Fires net initial w m' → (r ≡ Ok (Fired (length w))) × (room' ≡ m')
       fires_fired m' d = go (ended allowed)
         where
-          go : Ending net 0 initial w (record { answer = r; left = room' }) → (r ≡ Fired (length w)) × (room' ≡ m')
-          go (whole f g) = (let q : 0 + length w ≡ length w = omega arith in f ∙ ap Fired q, deterministic g d)
-          go (stops k why f h g i) = absurd (no_more w k h g (named_stops net room' (get_or w k 0) why i) (length w) h m' (rw take-length d))
+          go : (r ≡ Ok (play_from net 0 initial w).answer) × Ending net 0 initial w (record { answer = (play_from net 0 initial w).answer; left = room' }) → (r ≡ Ok (Fired (length w))) × (room' ≡ m')
+          go (s, whole f g) = (let q : 0 + length w ≡ length w = omega arith in s ∙ ap Ok (f ∙ ap Fired q), deterministic g d)
+          go (s, stops k why f h g i) = absurd (no_more w k h g (named_stops net room' (get_or w k 0) why i) (length w) h m' (rw take-length d))
 
       -- the count of letters fired is the length of the longest prefix that fires, and the room holds where it leads
       pub fired_longest : Longest net initial w (letters_fired r) room'
       fired_longest = go (ended allowed)
         where
-          go : Ending net 0 initial w (record { answer = r; left = room' }) → Longest net initial w (letters_fired r) room'
-          go (whole f g) =
+          go : (r ≡ Ok (play_from net 0 initial w).answer) × Ending net 0 initial w (record { answer = (play_from net 0 initial w).answer; left = room' }) → Longest net initial w (letters_fired r) room'
+          go (s, whole f g) =
               let q : 0 + length w ≡ length w = omega arith in
-              rw (f, q) (record { within = omega arith; fires = rw take-length g; more = λ j a b. absurd (omega arith) })
-          go (stops k why f h g i) =
+              rw (s, f, q) (record { within = omega arith; fires = rw take-length g; more = λ j a b. absurd (omega arith) })
+          go (s, stops k why f h g i) =
               let q : 0 + k ≡ k = omega arith in
-              rw (f, q) (record { within = omega arith; fires = g; more = λ j a b. no_more w k h g (named_stops net room' (get_or w k 0) why i) j a })
+              rw (s, f, q) (record { within = omega arith; fires = g; more = λ j a b. no_more w k h g (named_stops net room' (get_or w k 0) why i) j a })
 
       -- a block's cause is true of the marking left: the lowest short place, or, where none is short, the lowest place over
-      pub blocked_cause : (i : ℕ) (why : Cause) → r ≡ Blocked i why → (i < length w) × Names net room' (get_or w i 0) why
+      pub blocked_cause : (i : ℕ) (why : Cause) → r ≡ Ok (Blocked i why) → (i < length w) × Names net room' (get_or w i 0) why
       blocked_cause i why e = go (ended allowed)
         where
-          go : Ending net 0 initial w (record { answer = r; left = room' }) → (i < length w) × Names net room' (get_or w i 0) why
-          go (whole f g) = let z : ◌≡◌ {A = ℕ} 0 1 = cc in absurd (omega arith)
-          go (stops k u f h g n) =
+          go : (r ≡ Ok (play_from net 0 initial w).answer) × Ending net 0 initial w (record { answer = (play_from net 0 initial w).answer; left = room' }) → (i < length w) × Names net room' (get_or w i 0) why
+          go (s, whole f g) = let z : ◌≡◌ {A = ℕ} 0 1 = cc in absurd (omega arith)
+          go (s, stops k u f h g n) =
               let x : i ≡ 0 + k = cc in
               let y : why ≡ u = cc in
               let q : 0 + k ≡ k = omega arith in

@@ -3,162 +3,73 @@
 #![tactic(auto)]
 
 ghost use Rattle.std.specs.Prelude.{◌≡◌, true, ◌&&◌, eqb};
-ghost use Rattle.net.specs.Net.{net_of};
 ghost use Rattle.refusals.specs.Given.{stretch, inside};
 ghost use Rattle.replay.specs.Entry.{replay_fault, Replayed};
+ghost use Rattle.net.specs.Lent.{lent};
 
-use ground::Weight;
+use net::{Net, SizedNet};
 pub use plays::Replay;
-use refusals::Fault;
+use refusals::Refusal;
 
 // Refusals 1 to 5, 17 and 18. It is not lent the room, so a refusal cannot touch it.
-fn find_fault(
-    places: usize,
-    transitions: usize,
-    pre: &[Weight],
-    post: &[Weight],
-    caps: &[u16],
-    marks: &[u8],
-    initial: &[u16],
-    word: &[u8],
-    fits: bool,
-) -> Fault
-    ensures { result ≡ replay_fault (net_of places transitions pre.now post.now caps.now marks.now) initial.now word.now fits }
+fn find_fault(net: &Net, initial: &[u16], word: &[u8], fits: bool) -> Result<(), Refusal>
+    ensures { result ≡ replay_fault (lent net.now) initial.now word.now fits }
 {
-    let found = refusals::marked_fault(places, transitions, pre, post, caps, marks, initial, fits);
-    match found {
-        Fault::Faulty(number, at) => Fault::Faulty(number, at),
-        Fault::Sound => refusals::word_fault(transitions, word),
-    }
+    refusals::marked_fault(net, initial, fits)?;
+    refusals::word_fault(net.transitions, word)
 }
 
 // Whether the room has a number for each place, and the part's ends were inside its word.
 fn is_fitting(room: usize, places: usize, within: bool) -> bool
     ensures { result ≡ (eqb room places && within) }
 {
-    if room == places { within } else { false }
+    room == places && within
 }
 
 // The replay of a part of a word; `within` tells whether the part's ends were inside the word.
 fn replay_part(
-    places: usize,
-    transitions: usize,
-    pre: &[Weight],
-    post: &[Weight],
-    caps: &[u16],
-    marks: &[u8],
+    net: &Net,
     initial: &[u16],
     part: &[u8],
     within: bool,
     room: &mut [u32],
-) -> Replay
-    ensures { Replayed (net_of places transitions pre.now post.now caps.now marks.now) initial.now part.now within room.old result room.new }
+) -> Result<Replay, Refusal>
+    ensures { Replayed (lent net.now) initial.now part.now within room.old result room.new }
 {
-    let fits = is_fitting(room.len(), places, within);
-    let found = find_fault(
-        places,
-        transitions,
-        pre,
-        post,
-        caps,
-        marks,
-        initial,
-        part,
-        fits,
-    );
-    match found {
-        Fault::Faulty(number, at) => Replay::Refused(number, at),
-        Fault::Sound => {
-            net::load(initial, room);
-            plays::play_word(places, transitions, pre, post, caps, marks, 0, part, room)
-        }
-    }
+    let fits = is_fitting(room.len(), net.places, within);
+    find_fault(net, initial, part, fits)?;
+    let sized = SizedNet { net: *net };
+    net::load(initial, room);
+    Ok(plays::play_word(&sized, 0, part, room))
 }
 
 // The replay of a word on a net from its initial marking. The room, a number for each place,
 // holds the marking after the last letter fired; a refusal leaves it as found.
 pub fn replay_word(
-    places: usize,
-    transitions: usize,
-    pre: &[Weight],
-    post: &[Weight],
-    caps: &[u16],
-    marks: &[u8],
+    net: &Net,
     initial: &[u16],
     word: &[u8],
     room: &mut [u32],
-) -> Replay
-    ensures { Replayed (net_of places transitions pre.now post.now caps.now marks.now) initial.now word.now true room.old result room.new }
+) -> Result<Replay, Refusal>
+    ensures { Replayed (lent net.now) initial.now word.now true room.old result room.new }
 {
-    replay_part(
-        places,
-        transitions,
-        pre,
-        post,
-        caps,
-        marks,
-        initial,
-        word,
-        true,
-        room,
-    )
+    replay_part(net, initial, word, true, room)
 }
 
 // The same for the letters from number start up to number end. Positions count from the stretch's
 // first letter, and refusals 4 and 5 look at the stretch only.
 pub fn replay_stretch(
-    places: usize,
-    transitions: usize,
-    pre: &[Weight],
-    post: &[Weight],
-    caps: &[u16],
-    marks: &[u8],
+    net: &Net,
     initial: &[u16],
     word: &[u8],
     start: usize,
     end: usize,
     room: &mut [u32],
-) -> Replay
-    ensures { Replayed (net_of places transitions pre.now post.now caps.now marks.now) initial.now (stretch word.now start end) (inside word.now start end) room.old result room.new }
+) -> Result<Replay, Refusal>
+    ensures { Replayed (lent net.now) initial.now (stretch word.now start end) (inside word.now start end) room.old result room.new }
 {
-    if end < start {
-        return replay_part(
-            places,
-            transitions,
-            pre,
-            post,
-            caps,
-            marks,
-            initial,
-            word,
-            false,
-            room,
-        );
+    match word.get(start..end) {
+        Some(part) => replay_part(net, initial, part, true, room),
+        None => replay_part(net, initial, word, false, room),
     }
-    if word.len() < end {
-        return replay_part(
-            places,
-            transitions,
-            pre,
-            post,
-            caps,
-            marks,
-            initial,
-            word,
-            false,
-            room,
-        );
-    }
-    replay_part(
-        places,
-        transitions,
-        pre,
-        post,
-        caps,
-        marks,
-        initial,
-        &word[start..end],
-        true,
-        room,
-    )
 }

@@ -1,4 +1,7 @@
 -- What the promise of the program means: a whole file comes back byte by byte and nothing is told; of a refused one nothing comes back, and its verdict line is told; however the reads cut it. Assumes nothing.
+use Rattle.std.specs.Prelude.{Ok}
+use Rattle.refusals.specs.Given.{refused}
+use Rattle.refusals.proofs.Chains.{refused_one}
 use Prim.Native.Nat.{ℕ, suc, ◌≤◌}
 use mathlib.Core.Path.{◌≡◌, sym, ap, subst, ◌∙◌}
 use mathlib.Core.Bool.{false}
@@ -9,11 +12,9 @@ use lib.Seq.{sets}
 use lib.IntN.{pos, negsuc}
 use Rattle.file_put.specs.Put.{line_text}
 use Rattle.file_line.specs.declared.Reading.{Reading}
-use Rattle.file_line.specs.Read.{Rooms}
+use Rattle.file_line.specs.declared.Rooms.{Rooms}
 use Rattle.file_line.specs.Walk.{Large}
-use Rattle.file_parts.specs.declared.Case.{Case}
-use Rattle.file_parts.specs.declared.Case.TheVariants as file
-use Rattle.file_parts.specs.File.{Run, stopped, Both, both, read_of, case_of}
+use Rattle.file_parts.specs.File.{Case, Run, stopped, Both, both, read_of, case_of}
 use Rattle.file_reads.specs.declared.Input.TheVariants.{Over, Failed}
 use Rattle.file_reads.specs.Reads.{Read, State, unread, AllMore, bytes_in, read_limit, InputEnds}
 use Rattle.file_reads.proofs.Ends.{over_failed, one_end, ends_fed, zero_over, told_failed}
@@ -32,9 +33,8 @@ one_shown w told o t o' t' (a_file n e q r) (a_file n' e' q' r') = (q ∙ sym q'
 one_shown w told o t o' t' (a_file n e q r) (a_line k l e' q' r') = let z : ◌≡◌ {A = ℕ} 0 1 = cc in absurd (omega arith)
 one_shown w told o t o' t' (a_line k l e q r) (a_file n e' q' r') = let z : ◌≡◌ {A = ℕ} 0 1 = cc in absurd (omega arith)
 one_shown w told o t o' t' (a_line k l e q r) (a_line k' l' e' q' r') =
-    let a : k ≡ k' = cc in
-    let b : l ≡ l' = cc in
-    let f : refusal_bytes k l ≡ refusal_bytes k' l' = rw (a, b) in
+    let z = refused_one {A = ℕ} k l k' l' (sym e ∙ e') in
+    let f : refusal_bytes k l ≡ refusal_bytes k' l' = rw (z.0, z.1) in
     (q ∙ sym q', r.line.made ∙ ap (λ (bytes : List ℕ). sets told 0 (line_text bytes)) f ∙ sym r'.line.made)
 
 one_output : (e : State) (out told o t o' t' : List ℕ) → Output e out o told t → Output e out o' told t' → (o ≡ o') × (t ≡ t')
@@ -49,21 +49,19 @@ unique x out told o t o' t' m m' e =
     one_output m'.end out told o t o' t' (subst (λ (v : State). Output v out o told t) g m.output) m'.output
 
 -- ---- what is shown of a file
-shown_refused : (x : Rooms) (out out' told told' f : List ℕ) (n l : ℕ) → case_of (read_of x f).run ≡ file.Refused n l → Shown (file_again f x out) out' told told' → (out' ≡ out) × (told' ≡ sets told 0 (file_line f x))
+shown_refused : (x : Rooms) (out out' told told' f : List ℕ) (n l : ℕ) → case_of (read_of x f).run ≡ refused n l → Shown (file_again f x out) out' told told' → (out' ≡ out) × (told' ≡ sets told 0 (file_line f x))
 shown_refused x out out' told told' f n l w (a_file k e q t) =
     let g = (refused_same f x out n l w).0 in
     let z : ◌≡◌ {A = ℕ} 0 1 = cc in
     absurd (omega arith)
 shown_refused x out out' told told' f n l w (a_line k i e q t) =
     let g = refused_same f x out n l w in
-    let h = g.0 in
-    let a : k ≡ n = cc in
-    let b : i ≡ l = cc in
-    let d : refusal_bytes k i ≡ refusal_bytes n l = rw (a, b) in
+    let z = refused_one {A = ℕ} k i n l (sym e ∙ g.0) in
+    let d : refusal_bytes k i ≡ refusal_bytes n l = rw (z.0, z.1) in
     (q ∙ g.1, t.line.made ∙ ap (λ (bytes : List ℕ). sets told 0 (line_text bytes)) d ∙ ap (λ (c : Case). sets told 0 (line_for c (read_of x f).rooms)) (sym w))
 
 module _ (x : Rooms) (large : Large x) (out : List ℕ) (roomy : file_limit ≤ length out) (out' told told' : List ℕ) (f : List ℕ) where
-  shown_whole : (s : Reading) → case_of (read_of x f).run ≡ file.Whole s → Shown (file_again f x out) out' told told' → (out' ≡ sets out 0 f) × (told' ≡ told)
+  shown_whole : (s : Reading) → case_of (read_of x f).run ≡ Ok s → Shown (file_again f x out) out' told told' → (out' ≡ sets out 0 f) × (told' ≡ told)
   shown_whole s w (a_file n e q t) = (q ∙ (same_bytes f x large out s w roomy).1, t)
   shown_whole s w (a_line n l e q t) =
       let g = (same_bytes f x large out s w roomy).0 in
@@ -135,9 +133,9 @@ module _ (x : Rooms) (out out' told told' : List ℕ) (m : Made x out out' told 
       ended_again = subst (λ (g : List ℕ). Shown (file_again g x out) out' told told') b (over_again (zero_over _ _ _ before last q z m.input.ended))
 
       -- a whole file comes back, byte by byte, and nothing is told
-      pub whole_file : (s : Reading) → case_of (read_of x f).run ≡ file.Whole s → (out' ≡ sets out 0 f) × (told' ≡ told)
+      pub whole_file : (s : Reading) → case_of (read_of x f).run ≡ Ok s → (out' ≡ sets out 0 f) × (told' ≡ told)
       whole_file s w = shown_whole x large out roomy out' told told' f s w ended_again
 
       -- of a refused one nothing comes back, and its verdict line is told
-      pub refused_file : (n l : ℕ) → case_of (read_of x f).run ≡ file.Refused n l → (out' ≡ out) × (told' ≡ sets told 0 (file_line f x))
+      pub refused_file : (n l : ℕ) → case_of (read_of x f).run ≡ refused n l → (out' ≡ out) × (told' ≡ sets told 0 (file_line f x))
       refused_file n l w = shown_refused x out out' told told' f n l w ended_again

@@ -5,8 +5,6 @@
 
 ghost use Rattle.std.specs.Prelude.{◌≤◌, length, OnOk, take};
 ghost use Rattle.std.specs.Io.KnownBytes.{Appends};
-ghost use Rattle.file_line.specs.Read.{rooms};
-ghost use Rattle.file_line.specs.Walk.{Large};
 ghost use Rattle.file_out.specs.Length.{file_limit};
 ghost use Rattle.file_parts.specs.File.{case_of};
 ghost use Rattle.file_parts.specs.Held.{abs, Sound};
@@ -15,12 +13,11 @@ ghost use Rattle.file_again.specs.Again.{again_for};
 ghost use Rattle.rewrite.specs.Made.{refusal_bytes, Line, Shown, Made, Given, Answered};
 
 use file_input::{Failure, Source};
-use file_line::{CELL_LIMIT, Reading};
+use file_line::{Reading, Rooms};
 use file_out::FILE_LIMIT;
 use file_parts::Held;
 use file_reads::Input;
-use file_write::WriteCase;
-use ground::{COUNT_LIMIT, WORD_LIMIT, Weight};
+use refusals::Refusal;
 use std::io::{Read, Write};
 use std::process::ExitCode;
 use verdict_text::ANSWER_LIMIT;
@@ -35,11 +32,11 @@ fn give<W: Write>(output: &mut W, out: &[u8], n: usize) -> Result<(), Failure>
 
 // A refusal's line is made in the room told, and written to standard error. If it cannot be written there is nowhere
 // left to say so, and the program ends as it would have.
-fn tell<E: Write>(errors: &mut E, number: u8, line: usize, told: &mut [u8])
+fn tell<E: Write>(errors: &mut E, why: Refusal, told: &mut [u8])
     requires { answer_limit ≤ length told.old }
-    ensures { Line told.old (refusal_bytes number line) told.new }
+    ensures { Line told.old (refusal_bytes why.number why.at) told.new }
 {
-    let n = verdict_text::write_refused(told, number, line);
+    let n = verdict_text::write_refused(told, why);
     let _ = errors.write_all(&told[..n]);
 }
 
@@ -48,81 +45,55 @@ fn show<W: Write, E: Write>(
     output: &mut W,
     errors: &mut E,
     h: Held,
-    caps: &[u16],
-    marks: &[u8],
-    initial: &[u16],
-    pre: &[Weight],
-    post: &[Weight],
-    word: &[u8],
+    rooms: &Rooms,
     out: &mut [u8],
     told: &mut [u8],
 ) -> Result<(), Failure>
-    requires { (Sound h) × (Large (rooms caps.now marks.now initial.now pre.now post.now word.now)) × (answer_limit ≤ length told.old) }
-    ensures shown { Shown (again_for (case_of (abs h)) (rooms caps.now marks.now initial.now pre.now post.now word.now) out.old) out.new told.old told.new }
-    ensures given { OnOk result (Given (again_for (case_of (abs h)) (rooms caps.now marks.now initial.now pre.now post.now word.now) out.old)
-        (W.contents output.old) (W.contents output.new)) }
+    requires { (Sound h) × (answer_limit ≤ length told.old) }
+    ensures shown { Shown (again_for (case_of (abs h)) rooms.now out.old) out.new told.old told.new }
+    ensures given { OnOk result (Given (again_for (case_of (abs h)) rooms.now out.old) (W.contents output.old) (W.contents output.new)) }
 {
-    let again = file_again::rewrite_held(h, caps, marks, initial, pre, post, word, out);
-    match again {
-        WriteCase::Written(n) => give(output, out, n),
-        WriteCase::Refused(number, line) => {
-            tell(errors, number, line, told);
+    match file_again::rewrite_held(h, rooms, out) {
+        Ok(n) => give(output, out, n),
+        Err(why) => {
+            tell(errors, why, told);
             Ok(())
         }
     }
 }
 
-// The whole program, over rooms that are large enough for any file and for any line.
+// The whole program, over rooms for any file, and rooms that are large enough for what is written of it.
 fn answer<R: Read + Drop, W: Write, E: Write>(
     source: &mut Source<R>,
     output: &mut W,
     errors: &mut E,
-    caps: &mut [u16],
-    marks: &mut [u8],
-    initial: &mut [u16],
-    pre: &mut [Weight],
-    post: &mut [Weight],
-    word: &mut [u8],
+    rooms: &mut Rooms,
     out: &mut [u8],
     told: &mut [u8],
 ) -> Result<(), Failure>
-    requires { (Large (rooms caps.old marks.old initial.old pre.old post.old word.old)) × (file_limit ≤ length out.old) × (answer_limit ≤ length told.old) }
-    ensures made { Made (rooms caps.old marks.old initial.old pre.old post.old word.old) out.old out.new told.old told.new }
-    ensures ok { OnOk result (Answered (rooms caps.old marks.old initial.old pre.old post.old word.old) out.old out.new told.old told.new
-        (W.contents output.old) (W.contents output.new)) }
+    requires { (file_limit ≤ length out.old) × (answer_limit ≤ length told.old) }
+    ensures made { Made rooms.old out.old out.new told.old told.new }
+    ensures ok { OnOk result (Answered rooms.old out.old out.new told.old told.new (W.contents output.old) (W.contents output.new)) }
 {
     let s = Reading::new();
     let h = file_parts::cleared(s);
-    let f = file_input::read_all(source, h, caps, marks, initial, pre, post, word);
-    let input = f.input;
-    match input {
+    let f = file_input::read_all(source, h, rooms);
+    match f.input {
         Input::Failed => Err(source.failure()),
-        _ => show(
-            output, errors, f.held, caps, marks, initial, pre, post, word, out, told,
-        ),
+        _ => show(output, errors, f.held, rooms, out, told),
     }
 }
 
 // Makes the rooms of the largest sizes; the rest is done in rooms that are lent. A failure is told, and is the exit status.
 fn main(rt: HostRuntime) -> ExitCode {
-    let mut caps = [0u16; COUNT_LIMIT];
-    let mut marks = [0u8; COUNT_LIMIT];
-    let mut initial = [0u16; COUNT_LIMIT];
-    let mut pre = [0u16; CELL_LIMIT];
-    let mut post = [0u16; CELL_LIMIT];
-    let mut word = [0u8; WORD_LIMIT];
+    let mut rooms = Rooms::new();
     let mut out = [0u8; FILE_LIMIT];
     let mut told = [0u8; ANSWER_LIMIT];
     let ended = answer(
         &mut Source::new(rt.stdin()),
         &mut rt.stdout(),
         &mut rt.stderr(),
-        &mut caps,
-        &mut marks,
-        &mut initial,
-        &mut pre,
-        &mut post,
-        &mut word,
+        &mut rooms,
         &mut out,
         &mut told,
     );

@@ -1,4 +1,6 @@
 -- A log in parts, cut in any way, is the log in one part, and agrees with the replay of the whole. Assumes nothing.
+use Rattle.std.specs.Prelude.{Ok, Err}
+use Rattle.refusals.specs.Given.{Answer, Fault, refused}
 use Prim.Native.Nat.{ℕ, ◌≤◌}
 use mathlib.Core.Path.{◌≡◌, refl, sym, ap, subst, ◌∙◌}
 use mathlib.Core.Bool.{Bool, true, false, cond, ◌&&◌}
@@ -16,8 +18,7 @@ use Rattle.net.specs.declared.Cause.{Cause}
 use Rattle.net.specs.declared.Cause.TheVariants.{Short, Over}
 use Rattle.net.proofs.Meaning.{cause_some}
 use Rattle.refusals.specs.Given.{Letters}
-use Rattle.refusals.specs.declared.Fault.{Fault}
-use Rattle.refusals.specs.declared.Fault.TheVariants.{Sound, Faulty}
+use Rattle.refusals.proofs.Exactly as law
 use Rattle.plays.specs.Replay.{play_from}
 use Rattle.plays.specs.declared.Replay.{Replay}
 use Rattle.plays.specs.declared.Replay.TheVariants as replay
@@ -31,10 +32,10 @@ use Rattle.running.specs.Cutting as cut
 use Rattle.running.specs.Cutting.{Slotted, fed_all, Calls, no_call, then_call, Agrees}
 use Rattle.running.specs.declared.Running.{Running}
 use Rattle.running.specs.declared.Part.{Part}
-use Rattle.running.specs.declared.Part.TheVariants.{Fired, Blocked, Refused}
+use Rattle.running.specs.declared.Part.TheVariants.{Fired, Blocked}
 use Rattle.running.specs.declared.Fed.{Fed}
 use Rattle.running.proofs.Parts.{sound_allowed}
-use Rattle.running.proofs.Exactly.{allowed_answered, start_sound, answered_allowed, play_refuses}
+use Rattle.running.proofs.Exactly.{allowed_answered, start_sound, answered_allowed}
 use Rattle.running.proofs.TwoParts.{front_here, front_behind, front_own, allowed_front, advanced, next, stuck, fed_stuck, fed_fires, fed_stops, room, left_places, next_held, rest_allowed, two_parts}
 
 -- ---- what a part does not change
@@ -46,15 +47,14 @@ after_part net s w Q same fires blocks = faulty (part_fault net s w) refl
     went : Allowed net s w → (r : Replay) → Q (went_on s (next net s w) r).state
     went a (replay.Fired n) = fires a n
     went a (replay.Blocked n why) = blocks a n why
-    went a (replay.Refused n at) = same
 
     held_or : Allowed net s w → (b : Bool) → Q (cond b (held_block s) (played_on net s w)).state
     held_or a true = same
     held_or a false = went a (play_from net s.fired (held net s) w).answer
 
     faulty : (f : Fault) → part_fault net s w ≡ f → Q (fed_by f net s w).state
-    faulty Sound e = held_or (sound_allowed net s w e) (is_blocked s.blocked)
-    faulty (Faulty n at) e = same
+    faulty (Ok _) e = held_or (sound_allowed net s w e) (is_blocked s.blocked)
+    faulty (Err r) e = same
 
 -- "slots past P .. stay", whatever the part and the net
 pub tail_stays : (net : Net) (s : Running) (w : List ℕ) → Slotted s → drop net.places (fed_of net s w).state.marking ≡ drop net.places s.marking
@@ -81,25 +81,24 @@ tails_stay net f (v ∷ vs) slots =
 Told : Fed → Type 0
 Told g = (g ≡ held_block g.state) × (is_blocked g.state.blocked ≡ true)
 
-block_told : (net : Net) (s : Running) (w : List ℕ) (c n p : ℕ) → (fed_of net s w).answer ≡ Blocked c n p → Told (fed_of net s w)
+block_told : (net : Net) (s : Running) (w : List ℕ) (c n p : ℕ) → (fed_of net s w).answer ≡ Ok (Blocked c n p) → Told (fed_of net s w)
 unfolding fed_of Told
 block_told net s w c n p = faulty (part_fault net s w)
   where
-    went : (r : Replay) → (went_on s (next net s w) r).answer ≡ Blocked c n p → Told (went_on s (next net s w) r)
+    went : (r : Replay) → (went_on s (next net s w) r).answer ≡ Ok (Blocked c n p) → Told (went_on s (next net s w) r)
     went (replay.Fired k) e = let z : ◌≡◌ {A = ℕ} 0 1 = cc in absurd (omega arith)
     went (replay.Blocked k why) e = (refl, rw (ne_eqb (cause_number why) 0 (cause_some why)))
-    went (replay.Refused k at) e = let z : ◌≡◌ {A = ℕ} 0 1 = cc in absurd (omega arith)
 
-    held_or : (b : Bool) → is_blocked s.blocked ≡ b → (cond b (held_block s) (played_on net s w)).answer ≡ Blocked c n p → Told (cond b (held_block s) (played_on net s w))
+    held_or : (b : Bool) → is_blocked s.blocked ≡ b → (cond b (held_block s) (played_on net s w)).answer ≡ Ok (Blocked c n p) → Told (cond b (held_block s) (played_on net s w))
     held_or true q e = (refl, q)
     held_or false q e = went (play_from net s.fired (held net s) w).answer e
 
-    faulty : (f : Fault) → (fed_by f net s w).answer ≡ Blocked c n p → Told (fed_by f net s w)
-    faulty Sound e = held_or (is_blocked s.blocked) refl e
-    faulty (Faulty k at) e = let z : ◌≡◌ {A = ℕ} 0 1 = cc in absurd (omega arith)
+    faulty : (f : Fault) → (fed_by f net s w).answer ≡ Ok (Blocked c n p) → Told (fed_by f net s w)
+    faulty (Ok _) e = held_or (is_blocked s.blocked) refl e
+    faulty (Err r) e = law.not_refused (Blocked c n p) r.number r.at (sym e)
 
 -- "After a block each later part gets the same block and changes nothing", unless it is refused
-pub block_stays : (net : Net) (s : Running) (w : List ℕ) (c n p : ℕ) → (fed_of net s w).answer ≡ Blocked c n p → (v : List ℕ) → ((k at : ℕ) → (fed_of net (fed_of net s w).state v).answer ≡ Refused k at → ⊥) → fed_of net (fed_of net s w).state v ≡ fed_of net s w
+pub block_stays : (net : Net) (s : Running) (w : List ℕ) (c n p : ℕ) → (fed_of net s w).answer ≡ Ok (Blocked c n p) → (v : List ℕ) → ((k at : ℕ) → (fed_of net (fed_of net s w).state v).answer ≡ refused k at → ⊥) → fed_of net (fed_of net s w).state v ≡ fed_of net s w
 unfolding Told
 block_stays net s w c n p e v none =
     let t = block_told net s w c n p e in
@@ -113,8 +112,8 @@ unfolding fed_of
 block_keeps net s v q = go (part_fault net s v)
   where
     go : (f : Fault) → (fed_by f net s v).state ≡ s
-    go Sound = rw q
-    go (Faulty n at) = refl
+    go (Ok _) = rw q
+    go (Err r) = refl
 
 pub block_holds : (net : Net) (f : Fed) (parts : List (List ℕ)) → is_blocked f.state.blocked ≡ true → (fed_all net f parts).state ≡ f.state
 unfolding fed_all
@@ -149,7 +148,7 @@ module _ (net : Net) (initial : List ℕ) (a : StartAllowed net initial) where
   pub fresh_held : held net (fresh initial) ≡ initial
   fresh_held = front_here net.places empty initial (omega (arith, table_length {A = ℕ} (λ k. 0) count_limit, a.sized.few_places)) a.marked
 
-  pub start_is : start_of net initial ≡ record { state = (fresh initial); answer = Fired 0 }
+  pub start_is : start_of net initial ≡ record { state = (fresh initial); answer = Ok (Fired 0) }
   unfolding start_of
   start_is = rw (start_sound net initial a)
 
@@ -175,26 +174,25 @@ module _ (net : Net) (initial : List ℕ) (a : StartAllowed net initial) where
     fresh_once =
         let b : Allowed net (fresh initial) [] = allowed_front net (fresh initial) [] w fresh_allowed in
         fed_fires net (fresh initial) [] b refl 0 refl
-        ∙ ap (λ (l : List ℕ). record { state = advanced (fresh initial) l 0; answer = Fired 0 }) (front_own net.places (fresh initial).marking (room net (fresh initial) [] b fresh_slotted))
+        ∙ ap (λ (l : List ℕ). record { state = advanced (fresh initial) l 0; answer = Ok (Fired 0) }) (front_own net.places (fresh initial).marking (room net (fresh initial) [] b fresh_slotted))
         ∙ sym start_is
 
 -- ---- a part that is played agrees with the replay from the state's marking
 module _ (net : Net) (s : Running) (w : List ℕ) (a : Allowed net s w) (slots : Slotted s) (q : s.blocked ≡ 0) where
-  pub part_agrees : Agrees net (fed_of net s w) (play_from net s.fired (held net s) w).answer (play_from net s.fired (held net s) w).left
+  pub part_agrees : Agrees net (fed_of net s w) (Ok (play_from net s.fired (held net s) w).answer) (play_from net s.fired (held net s) w).left
   part_agrees = go (play_from net s.fired (held net s) w).answer refl
     where
-      go : (r : Replay) → (play_from net s.fired (held net s) w).answer ≡ r → Agrees net (fed_of net s w) r (play_from net s.fired (held net s) w).left
+      go : (r : Replay) → (play_from net s.fired (held net s) w).answer ≡ r → Agrees net (fed_of net s w) (Ok r) (play_from net s.fired (held net s) w).left
       go (replay.Fired n) e = rw (fed_fires net s w a q n e) (record { answer = refl; marking = next_held net s w a slots; fired = refl; block = q })
       go (replay.Blocked n why) e =
           rw (fed_stops net s w a q n why e) (record { answer = told why; marking = next_held net s w a slots; fired = refl; block = (refl, refl, refl) })
         where
-          told : (why : Cause) → numbers (blocked_at (next net s w) n why).answer ≡ entry.numbers (replay.Blocked n why)
+          told : (why : Cause) → numbers (blocked_at (next net s w) n why).answer ≡ entry.numbers (Ok (replay.Blocked n why))
           told (Short p) = refl
           told (Over p) = refl
-      go (replay.Refused n at) e = absurd (play_refuses net s.fired (held net s) w n at e)
 
 -- ---- calls, one for each part, come to the same
-pub calls_fed : (net : Net) {s s' : Running} {r r' : Part} {parts : List (List ℕ)} → Calls net s r parts s' r' → record { state = s'; answer = r' } ≡ fed_all net (record { state = s; answer = r }) parts
+pub calls_fed : (net : Net) {s s' : Running} {r r' : Answer Part} {parts : List (List ℕ)} → Calls net s r parts s' r' → record { state = s'; answer = r' } ≡ fed_all net (record { state = s; answer = r }) parts
 unfolding fed_all
 calls_fed net no_call = refl
 calls_fed net {s} {s'} {r} {r'} (then_call {s₁ = s₁} {r₁ = r₁} {u = u} {us = us} p c) =
@@ -211,7 +209,7 @@ module _ (net : Net) (initial : List ℕ) (a : StartAllowed net initial) (parts 
       rw (start_is net initial a) (rw (fresh_once net initial a (cut.whole parts) short letters ∙ start_is net initial a) at (all_parts net (fresh initial) [] parts b (fresh_slotted net initial a)))
 
   -- none of it is refused
-  pub not_refused : (n at : ℕ) → (fed_all net (start_of net initial) parts).answer ≡ Refused n at → ⊥
+  pub not_refused : (n at : ℕ) → (fed_all net (start_of net initial) parts).answer ≡ refused n at → ⊥
   not_refused n at e =
       let s : Running = fresh initial in
       let b = fresh_allowed net initial a (cut.whole parts) short letters in
@@ -219,24 +217,24 @@ module _ (net : Net) (initial : List ℕ) (a : StartAllowed net initial) (parts 
       (rw (one_part, start_is net initial a) at e)
 
   -- the last state and answer agree with the replay of the whole
-  pub cutting_plays : Agrees net (fed_all net (start_of net initial) parts) (play_from net 0 initial (cut.whole parts)).answer (play_from net 0 initial (cut.whole parts)).left
+  pub cutting_plays : Agrees net (fed_all net (start_of net initial) parts) (Ok (play_from net 0 initial (cut.whole parts)).answer) (play_from net 0 initial (cut.whole parts)).left
   cutting_plays =
       let s : Running = fresh initial in
       let b = fresh_allowed net initial a (cut.whole parts) short letters in
-      subst (λ (m : List ℕ). Agrees net (fed_all net (start_of net initial) parts) (play_from net 0 m (cut.whole parts)).answer (play_from net 0 m (cut.whole parts)).left) (fresh_held net initial a)
+      subst (λ (m : List ℕ). Agrees net (fed_all net (start_of net initial) parts) (Ok (play_from net 0 m (cut.whole parts)).answer) (play_from net 0 m (cut.whole parts)).left) (fresh_held net initial a)
       (rw (one_part, start_is net initial a) (part_agrees net s (cut.whole parts) b (fresh_slotted net initial a) refl))
 
   -- "the last state agrees with replaying the whole": r and m are what `replay_word` answers and leaves
-  pub any_cutting : (room : List ℕ) (r : Replay) (m : List ℕ) → length room ≡ net.places → Replayed net initial (cut.whole parts) true room r m → Agrees net (fed_all net (start_of net initial) parts) r m
+  pub any_cutting : (room : List ℕ) (r : Answer Replay) (m : List ℕ) → length room ≡ net.places → Replayed net initial (cut.whole parts) true room r m → Agrees net (fed_all net (start_of net initial) parts) r m
   any_cutting room r m l p =
-      let f : replay_fault net initial (cut.whole parts) (eqb (length room) net.places && true) ≡ Sound = sane_is net initial (cut.whole parts) (eqb (length room) net.places && true)
+      let f : replay_fault net initial (cut.whole parts) (eqb (length room) net.places && true) ≡ Ok tt = sane_is net initial (cut.whole parts) (eqb (length room) net.places && true)
       (record { sized = a.sized; light = a.light; marked = a.marked; fitting = rw (eq-eqb (length room) net.places l); fine = a.fine; wired = a.wired; short = short; letters = letters }) in
-      let x : r ≡ (play_from net 0 initial (cut.whole parts)).answer = replayed.numbers_apart r _ (rw f at p.answer) in
+      let x : r ≡ Ok (play_from net 0 initial (cut.whole parts)).answer = replayed.numbers_apart r _ (rw f at p.answer) in
       let y : m ≡ (play_from net 0 initial (cut.whole parts)).left = rw f at p.left in
       rw (x, y) cutting_plays
 
   -- so with calls that keep their promise, begun with what `start_replay` gave
-  pub calls_agree : (f : Fed) → f ≡ start_of net initial → (s : Running) (x : Part) → Calls net f.state f.answer parts s x → (room : List ℕ) (r : Replay) (m : List ℕ) → length room ≡ net.places → Replayed net initial (cut.whole parts) true room r m → Agrees net (record { state = s; answer = x }) r m
+  pub calls_agree : (f : Fed) → f ≡ start_of net initial → (s : Running) (x : Answer Part) → Calls net f.state f.answer parts s x → (room : List ℕ) (r : Answer Replay) (m : List ℕ) → length room ≡ net.places → Replayed net initial (cut.whole parts) true room r m → Agrees net (record { state = s; answer = x }) r m
   calls_agree f e s x c room r m l p =
       subst (λ (g : Fed). Agrees net g r m) (sym (calls_fed net c ∙ ap (λ (g : Fed). fed_all net g parts) e)) (any_cutting room r m l p)
 

@@ -1,8 +1,10 @@
 -- The refusals of a part and of the start, exactly: each is given when its demand is the first that does not hold, and changes nothing. Assumes nothing.
+use Rattle.std.specs.Prelude.{Ok, Err}
+use Rattle.refusals.specs.Given.{Answer, Fault, refused, or_else}
 use Prim.Native.Nat.{ℕ, ◌+◌, ◌≤◌, ◌<◌}
 use mathlib.Core.Path.{◌≡◌, refl, sym, ap, ◌∙◌}
 use mathlib.Core.Bool.{Bool, true, false, ◌&&◌, cond}
-use mathlib.Core.List.{List, [], ◌∷◌}
+use mathlib.Core.List.{List}
 use mathlib.Core.Logic.{◌↔◌}
 use native.Mathlib.Omega.{arith}
 use native.Mathlib.Decide.{dec_lt}
@@ -14,42 +16,36 @@ use Rattle.ground.specs.Limits.{no_capacity, word_limit, tokens_after}
 use Rattle.ground.proofs.Tests.{both_false}
 use Rattle.ground.proofs.Scan.{first_none}
 use Rattle.net.specs.Net.{Net}
-use Rattle.net.specs.Letter.{arcs_at, passes, fired_at}
 use Rattle.refusals.specs.Given.{marked_fault, bad_letter, Letters}
 use Rattle.refusals.specs.First.{First, Given, GivenAt, LooseFirst, CountsFirst}
-use Rattle.refusals.specs.declared.Fault.{Fault}
-use Rattle.refusals.specs.declared.Fault.TheVariants.{Sound, Faulty}
 use Rattle.refusals.proofs.Chains.{sound_or, sound_refuse}
 use Rattle.refusals.proofs.Refusals.{marked_met, met_marked, met_counts, met_loose}
-use Rattle.refusals.proofs.Exactly.{Answers, answers_of, Chain, Reads, reads_test, reads_both, reads_all, tells_as, tells_test, tells_scan, counts_reads, loose_reads, marked_reads, fault_is, exactly_refused, is_answered, is_allowed}
-use Rattle.plays.specs.Replay.{Ran, play_from}
+use Rattle.refusals.proofs.Exactly.{Answers, answers_of, answers_ok, not_refused, same_refusal, Chain, Reads, reads_test, reads_both, reads_all, tells_as, tells_test, tells_scan, counts_reads, loose_reads, marked_reads, fault_is, exactly_refused, is_answered, is_allowed}
+use Rattle.plays.specs.Replay.{play_from}
 use Rattle.plays.specs.declared.Replay.{Replay}
 use Rattle.plays.specs.declared.Replay.TheVariants as replay
 use Rattle.running.specs.State.{held, is_blocked, tokens_over, bad_tokens, tokens_fault, state_fault, letters_fault, block_fault, part_fault, went_on, played_on, held_block, fed_by, fed_of}
 use Rattle.running.specs.Entry.{started_by, start_of, StartAllowed, StartRefusal, numbers, Promised, TokensAt, Allowed, Refusal}
 use Rattle.running.specs.declared.Running.{Running}
 use Rattle.running.specs.declared.Part.{Part}
-use Rattle.running.specs.declared.Part.TheVariants.{Fired, Blocked, Refused}
+use Rattle.running.specs.declared.Part.TheVariants.{Fired, Blocked}
 use Rattle.running.specs.declared.Fed.{Fed}
-use Rattle.running.proofs.Parts.{tokens_at_lem, sound_allowed, next_passes, next_stops}
+use Rattle.running.proofs.Parts.{tokens_at_lem, sound_allowed}
 
 -- `numbers` tells any two answers apart
-pub numbers_apart : (a b : Part) → numbers a ≡ numbers b → a ≡ b
-numbers_apart (Fired n) (Fired k) e = ap Fired (cc)
-numbers_apart (Fired n) (Blocked d k p) e = let z : ◌≡◌ {A = ℕ} 0 1 = cc in absurd (omega arith)
-numbers_apart (Fired n) (Refused k p) e = let z : ◌≡◌ {A = ℕ} 0x81 0x82 = cc in absurd (omega arith)
-numbers_apart (Blocked c n q) (Fired k) e = let z : ◌≡◌ {A = ℕ} 0 1 = cc in absurd (omega arith)
-numbers_apart (Blocked c n q) (Blocked d k p) e = let x : c ≡ d = cc in let y : n ≡ k = cc in let z : q ≡ p = cc in rw (x, y, z)
-numbers_apart (Blocked c n q) (Refused k p) e = let z : ◌≡◌ {A = ℕ} 0x81 0x82 = cc in absurd (omega arith)
-numbers_apart (Refused n p) (Fired k) e = let z : ◌≡◌ {A = ℕ} 0x82 0x81 = cc in absurd (omega arith)
-numbers_apart (Refused n p) (Blocked d k q) e = let z : ◌≡◌ {A = ℕ} 0x82 0x81 = cc in absurd (omega arith)
-numbers_apart (Refused n p) (Refused k q) e = let x : n ≡ k = cc in let y : p ≡ q = cc in cc
-
-refused_one : (n at k p : ℕ) → Refused n at ≡ Refused k p → (n ≡ k) × (at ≡ p)
-refused_one n at k p e = (cc, cc)
+pub numbers_apart : (a b : Answer Part) → numbers a ≡ numbers b → a ≡ b
+numbers_apart (Ok (Fired n)) (Ok (Fired k)) e = ap (λ (i : ℕ). Ok (Fired i)) (cc)
+numbers_apart (Ok (Fired n)) (Ok (Blocked d k p)) e = let z : ◌≡◌ {A = ℕ} 0 1 = cc in absurd (omega arith)
+numbers_apart (Ok (Fired n)) (Err k) e = let z : ◌≡◌ {A = ℕ} 0x81 0x82 = cc in absurd (omega arith)
+numbers_apart (Ok (Blocked c n q)) (Ok (Fired k)) e = let z : ◌≡◌ {A = ℕ} 0 1 = cc in absurd (omega arith)
+numbers_apart (Ok (Blocked c n q)) (Ok (Blocked d k p)) e = let x : c ≡ d = cc in let y : n ≡ k = cc in let z : q ≡ p = cc in rw (x, y, z)
+numbers_apart (Ok (Blocked c n q)) (Err k) e = let z : ◌≡◌ {A = ℕ} 0x81 0x82 = cc in absurd (omega arith)
+numbers_apart (Err r) (Ok (Fired k)) e = let z : ◌≡◌ {A = ℕ} 0x82 0x81 = cc in absurd (omega arith)
+numbers_apart (Err r) (Ok (Blocked d k q)) e = let z : ◌≡◌ {A = ℕ} 0x82 0x81 = cc in absurd (omega arith)
+numbers_apart (Err r) (Err k) e = same_refusal r k (cc) (cc)
 
 -- ---- a part's promise has one state and one answer; by value too
-pub unique : (net : Net) (s : Running) (w : List ℕ) (s' s'' : Running) (r r' : Part) → Promised net s w s' r → Promised net s w s'' r' → (s' ≡ s'') × (r ≡ r')
+pub unique : (net : Net) (s : Running) (w : List ℕ) (s' s'' : Running) (r r' : Answer Part) → Promised net s w s' r → Promised net s w s'' r' → (s' ≡ s'') × (r ≡ r')
 unique net s w s' s'' r r' a b = (a.0 ∙ sym b.0, a.1 ∙ sym b.1)
 
 pub unique_value : (net : Net) (s : Running) (w : List ℕ) (f f' : Fed) → f ≡ fed_of net s w → f' ≡ fed_of net s w → f ≡ f'
@@ -104,111 +100,106 @@ read_chain net s w =
     reads_all (reads_both (state_reads net s) (reads_both (letters_reads net.transitions s.fired w) (block_reads net.places s.blocked s.place)))
 
 -- nothing is refused exactly where all that is asked holds
-met_tokens : (net : Net) (s : Running) → ((p : ℕ) → p < net.places → TokensAt net s p) → tokens_fault net.places net.caps s.fired s.marking ≡ Sound
+met_tokens : (net : Net) (s : Running) → ((p : ℕ) → p < net.places → TokensAt net s p) → tokens_fault net.places net.caps s.fired s.marking ≡ Ok tt
 unfolding tokens_fault
 met_tokens net s h =
     let e = first_none (λ p. tokens_over s.fired (get_or net.caps p 0) (get_or s.marking p 0)) net.places (λ p l. at_tokens net s p (h p l)) in
     sound_refuse _ 3 _ (le-ltb (bad_tokens net.places net.caps s.fired s.marking) net.places (omega arith))
 
-met_letters : (T fired : ℕ) (w : List ℕ) → fired + length w ≤ word_limit → Letters T w → letters_fault T fired w ≡ Sound
+met_letters : (T fired : ℕ) (w : List ℕ) → fired + length w ≤ word_limit → Letters T w → letters_fault T fired w ≡ Ok tt
 unfolding letters_fault
 met_letters T fired w h l =
     let e = first_none (λ k. leb T (get_or w k 0)) (length w) (λ k b. lt-leb T (get_or w k 0) (l.at k b)) in
     sound_or _ _ (sound_refuse _ 4 0 (le-ltb word_limit (fired + length w) h)) (sound_refuse _ 5 (bad_letter T w) (le-ltb (bad_letter T w) (length w) (omega arith)))
 
-met_block : (P blocked place : ℕ) → (is_blocked blocked ≡ true → place < P) → block_fault P blocked place ≡ Sound
+met_block : (P blocked place : ℕ) → (is_blocked blocked ≡ true → place < P) → block_fault P blocked place ≡ Ok tt
 unfolding block_fault
 met_block P blocked place h = sound_refuse _ 13 0 (placed_is P blocked place h)
 
-pub allowed_sound : (net : Net) (s : Running) (w : List ℕ) → Allowed net s w → part_fault net s w ≡ Sound
+pub allowed_sound : (net : Net) (s : Running) (w : List ℕ) → Allowed net s w → part_fault net s w ≡ Ok tt
 unfolding part_fault state_fault
 allowed_sound net s w a =
     sound_or _ _
     (sound_or _ _ (met_counts net true (record { sized = a.sized; light = a.light; fitting = refl })) (sound_or _ _ (met_tokens net s a.tokens) (met_loose net a.wired)))
     (sound_or _ _ (met_letters net.transitions s.fired w a.short a.letters) (met_block net.places s.blocked s.place a.placed))
 
--- ---- a part that is played is not refused
-pub play_refuses : (net : Net) (i : ℕ) (m w : List ℕ) (n at : ℕ) → (play_from net i m w).answer ≡ replay.Refused n at → ⊥
-unfolding play_from
-play_refuses net i m [] n at e = let z : ◌≡◌ {A = ℕ} 0 1 = cc in omega arith
-play_refuses net i m (t ∷ w) n at e = go (passes (arcs_at net t) m) refl (play_refuses net (i + 1) (fired_at net t m) w n at)
-  where
-    go : (b : Bool) → passes (arcs_at net t) m ≡ b → ((play_from net (i + 1) (fired_at net t m) w).answer ≡ replay.Refused n at → ⊥) → ⊥
-    go true q ih = ih (sym (ap (λ (z : Ran). z.answer) (next_passes net i t m w q)) ∙ e)
-    go false q ih = let f = sym (ap (λ (z : Ran). z.answer) (next_stops net i t m w q)) ∙ e in let z : ◌≡◌ {A = ℕ} 0 1 = cc in omega arith
-
 -- the answer by the fault
 module _ (net : Net) (s : Running) (w : List ℕ) where
-  not_refused : (n at : ℕ) → (fed_by Sound net s w).answer ≡ Refused n at → ⊥
-  not_refused n at = held_or (is_blocked s.blocked)
+  none_refused : (n at : ℕ) → (fed_by (Ok tt) net s w).answer ≡ refused n at → ⊥
+  none_refused n at = held_or (is_blocked s.blocked)
     where
-      went : (x : Replay) (m : List ℕ) → (play_from net s.fired (held net s) w).answer ≡ x → (went_on s m x).answer ≡ Refused n at → ⊥
-      went (replay.Fired k) m q e = let z : ◌≡◌ {A = ℕ} 0 1 = cc in omega arith
-      went (replay.Blocked k why) m q e = let z : ◌≡◌ {A = ℕ} 0 1 = cc in omega arith
-      went (replay.Refused k p) m q e = play_refuses net s.fired (held net s) w k p q
+      went : (x : Replay) (m : List ℕ) → (went_on s m x).answer ≡ refused n at → ⊥
+      went (replay.Fired k) m e = not_refused _ n at e
+      went (replay.Blocked k why) m e = not_refused _ n at e
 
-      held_or : (b : Bool) → (cond b (held_block s) (played_on net s w)).answer ≡ Refused n at → ⊥
-      held_or true e = let z : ◌≡◌ {A = ℕ} 0 1 = cc in omega arith
-      held_or false e = went (play_from net s.fired (held net s) w).answer (sets s.marking 0 (play_from net s.fired (held net s) w).left) refl e
+      held_or : (b : Bool) → (cond b (held_block s) (played_on net s w)).answer ≡ refused n at → ⊥
+      held_or true e = not_refused _ n at e
+      held_or false e = went (play_from net s.fired (held net s) w).answer (sets s.marking 0 (play_from net s.fired (held net s) w).left) e
 
-  module _ (s' : Running) (r : Part) (p : Promised net s w s' r) where
-    answers : Answers Refused (part_fault net s w) r
+  fed_or : (f : Fault) → (fed_by f net s w).answer ≡ or_else f (fed_by (Ok tt) net s w).answer
+  fed_or (Ok _) = refl
+  fed_or (Err r) = refl
+
+  module _ (s' : Running) (r : Answer Part) (p : Promised net s w s' r) where
+    answers : Answers (part_fault net s w) r
     unfolding fed_of
-    answers = answers_of Refused (λ (f : Fault). (fed_by f net s w).answer) (part_fault net s w) r p.1 (λ n at. refl) not_refused
+    answers = answers_of (part_fault net s w) (fed_by (Ok tt) net s w).answer r (p.1 ∙ fed_or (part_fault net s w)) (λ n at q. none_refused n at)
 
     -- a refusal has the number and position of the first demand that does not hold, and is given exactly then
-    pub refused_exactly : (n at : ℕ) → (r ≡ Refused n at) ↔ Refusal net s w n at
-    refused_exactly = exactly_refused answers refused_one (read_chain net s w)
+    pub refused_exactly : (n at : ℕ) → (r ≡ refused n at) ↔ Refusal net s w n at
+    refused_exactly = exactly_refused answers (read_chain net s w)
 
     -- it changes nothing
-    pub refused_as_found : (n at : ℕ) → r ≡ Refused n at → s' ≡ s
+    pub refused_as_found : (n at : ℕ) → r ≡ refused n at → s' ≡ s
     unfolding fed_of
-    refused_as_found n at e = let f = fault_is answers refused_one n at e in p.0 ∙ ap (λ (x : Fault). (fed_by x net s w).state) f
+    refused_as_found n at e = let f = fault_is answers n at e in p.0 ∙ ap (λ (x : Fault). (fed_by x net s w).state) f
 
     -- a refusal is given exactly where something that is asked does not hold
-    pub allowed_answered : Allowed net s w → (n at : ℕ) → r ≡ Refused n at → ⊥
+    pub allowed_answered : Allowed net s w → (n at : ℕ) → r ≡ refused n at → ⊥
     allowed_answered = is_answered answers (allowed_sound net s w)
 
-    pub answered_allowed : ((n at : ℕ) → r ≡ Refused n at → ⊥) → Allowed net s w
+    pub answered_allowed : ((n at : ℕ) → r ≡ refused n at → ⊥) → Allowed net s w
     answered_allowed = is_allowed answers (sound_allowed net s w)
 
-    pub refused_unless : (Allowed net s w → ⊥) → (n : ℕ) × (at : ℕ) × (r ≡ Refused n at)
+    pub refused_unless : (Allowed net s w → ⊥) → (n : ℕ) × (at : ℕ) × (r ≡ refused n at)
     refused_unless h = go (part_fault net s w) refl
       where
-        go : (f : Fault) → part_fault net s w ≡ f → (n : ℕ) × (at : ℕ) × (r ≡ Refused n at)
-        go Sound e = absurd (h (sound_allowed net s w e))
-        go (Faulty n at) e = (n, at, answers.given n at e)
+        go : (f : Fault) → part_fault net s w ≡ f → (n : ℕ) × (at : ℕ) × (r ≡ refused n at)
+        go (Ok _) e = absurd (h (sound_allowed net s w e))
+        go (Err r) e = (r.number, r.at, answers.given r.number r.at e)
 
     -- "A part with a wrong letter is refused, blocked or not."
-    pub wrong_letter : (Letters net.transitions w → ⊥) → (n : ℕ) × (at : ℕ) × (r ≡ Refused n at)
+    pub wrong_letter : (Letters net.transitions w → ⊥) → (n : ℕ) × (at : ℕ) × (r ≡ refused n at)
     wrong_letter h = refused_unless (λ a. h a.letters)
 
 -- ---- the start
 module _ (net : Net) (initial : List ℕ) where
-  pub start_sound : StartAllowed net initial → marked_fault net initial true ≡ Sound
+  pub start_sound : StartAllowed net initial → marked_fault net initial true ≡ Ok tt
   start_sound a =
       met_marked net initial true (record { sized = a.sized; light = a.light; marked = a.marked; fitting = refl; fine = a.fine; wired = a.wired })
 
-  sound_start : marked_fault net initial true ≡ Sound → StartAllowed net initial
+  sound_start : marked_fault net initial true ≡ Ok tt → StartAllowed net initial
   sound_start e =
       let m = marked_met net initial true e in
       record { sized = m.sized; light = m.light; marked = m.marked; fine = m.fine; wired = m.wired }
 
   module _ (f : Fed) (p : f ≡ start_of net initial) where
-    start_answers : Answers Refused (marked_fault net initial true) f.answer
+    start_answers : Answers (marked_fault net initial true) f.answer
     unfolding start_of
-    start_answers =
-        answers_of Refused (λ (x : Fault). (started_by x initial).answer) (marked_fault net initial true) f.answer (ap (λ (z : Fed). z.answer) p) (λ n at. refl)
-        (λ n at e. let z : ◌≡◌ {A = ℕ} 0 1 = cc in omega arith)
+    start_answers = answers_ok (marked_fault net initial true) (Fired 0) f.answer (ap (λ (z : Fed). z.answer) p ∙ started (marked_fault net initial true))
+      where
+        started : (x : Fault) → (started_by x initial).answer ≡ or_else x (Ok (Fired 0))
+        started (Ok _) = refl
+        started (Err r) = refl
 
-    pub start_refused_exactly : (n at : ℕ) → (f.answer ≡ Refused n at) ↔ StartRefusal net initial n at
+    pub start_refused_exactly : (n at : ℕ) → (f.answer ≡ refused n at) ↔ StartRefusal net initial n at
     start_refused_exactly =
-        exactly_refused start_answers refused_one (reads_all (marked_reads net initial true {Others = true ≡ true} (λ h. h) (λ h. h)))
+        exactly_refused start_answers (reads_all (marked_reads net initial true {Others = true ≡ true} (λ h. h) (λ h. h)))
 
-    pub start_allowed_answered : StartAllowed net initial → (n at : ℕ) → f.answer ≡ Refused n at → ⊥
+    pub start_allowed_answered : StartAllowed net initial → (n at : ℕ) → f.answer ≡ refused n at → ⊥
     start_allowed_answered = is_answered start_answers start_sound
 
-    pub start_answered_allowed : ((n at : ℕ) → f.answer ≡ Refused n at → ⊥) → StartAllowed net initial
+    pub start_answered_allowed : ((n at : ℕ) → f.answer ≡ refused n at → ⊥) → StartAllowed net initial
     start_answered_allowed = is_allowed start_answers sound_start
 
 pub start_unique : (net : Net) (initial : List ℕ) (f f' : Fed) → f ≡ start_of net initial → f' ≡ start_of net initial → f ≡ f'

@@ -1,11 +1,10 @@
 -- Laws of the front of a lent room: a part of it is lent on, and what stands behind it stays. Assumes nothing.
 use Prim.Native.Nat.{ℕ, ◌+◌, ◌≤◌}
 use mathlib.Core.Path.{◌≡◌, sym, ◌∙◌}
-use mathlib.Core.List.{List, map, ◌++◌}
+use mathlib.Core.List.{List, ◌++◌}
 use native.Mathlib.Omega.{arith}
-use lib.ListN.{length, take, drop, length-map}
+use lib.ListN.{length, take, drop}
 use lib.Seq.{length-take-le, sets, sets-eq}
-use Rattle.ground.specs.Limits.{count_limit}
 
 module _ (n : ℕ) (l : List ℕ) (h : n ≤ length l) where
   pub front_long : length (take n l) ≡ n
@@ -20,9 +19,3 @@ module _ (n : ℕ) (l : List ℕ) (h : n ≤ length l) where
       let k : length vs ≡ n = rw q at (e ∙ front_long) in
       let z : 0 + length vs ≡ n = omega arith in
       rw (q, sets-eq vs l 0 (omega arith), z)
-
-pub ruleset fronts = (front_long, long_front, front_set)
-
--- a state has room for every place: as the array's own fact says it
-pub all_slots : (l : List ℕ) → length (map (λ (v : ℕ). v) l) ≡ count_limit → count_limit ≤ length l
-all_slots l e = omega (arith, length-map l (λ (v : ℕ). v))

@@ -1,4 +1,6 @@
 -- Marks that are alike change no part's answer and no state (document 02, E5; `uncapped_plain` and `marks_alike` of crate net say which are). Assumes nothing.
+use Rattle.std.specs.Prelude.{Ok, Err}
+use Rattle.refusals.specs.Given.{Fault}
 use Prim.Native.Nat.{ℕ}
 use mathlib.Core.Path.{◌≡◌, refl, ap, ◌∙◌}
 use mathlib.Core.Bool.{true, cond}
@@ -7,8 +9,6 @@ use lib.Seq.{sets}
 use Rattle.net.specs.Net.{Net}
 use Rattle.net.specs.Marks.{remarked, MarksAlike}
 use Rattle.refusals.proofs.Marks.{remarked_counts, remarked_loose, remarked_marked}
-use Rattle.refusals.specs.declared.Fault.{Fault}
-use Rattle.refusals.specs.declared.Fault.TheVariants.{Sound, Faulty}
 use Rattle.plays.specs.Replay.{Ran}
 use Rattle.replay.proofs.Marks.{same_play}
 use Rattle.running.specs.State.{held, is_blocked, state_fault, part_fault, went_on, played_on, held_block, fed_by, fed_of}
@@ -25,8 +25,8 @@ module _ (net : Net) (marks : List ℕ) (alike : MarksAlike net.caps net.marks m
       ap (λ (z : Ran). went_on s (sets s.marking 0 z.left) z.answer) (same_play net marks alike s.fired (held net s) w)
 
   same_fed : (f : Fault) (s : Running) (w : List ℕ) → fed_by f net s w ≡ fed_by f (remarked net marks) s w
-  same_fed Sound s w = ap (cond (is_blocked s.blocked) (held_block s)) (same_played s w)
-  same_fed (Faulty n at) s w = refl
+  same_fed (Ok _) s w = ap (cond (is_blocked s.blocked) (held_block s)) (same_played s w)
+  same_fed (Err r) s w = refl
 
   pub part_alike : (s : Running) (w : List ℕ) → fed_of net s w ≡ fed_of (remarked net marks) s w
   unfolding fed_of

@@ -1,12 +1,14 @@
 -- Laws of a part: what holds where nothing is refused, and the state and the answer that it leads to. Assumes nothing.
+use Rattle.std.specs.Prelude.{Ok}
+use Rattle.refusals.specs.Given.{Fault}
 use Prim.Native.Nat.{ℕ, ◌+◌, ◌^◌, ◌≤◌, ◌<◌, zero-le}
-use mathlib.Core.Path.{◌≡◌, refl, sym, subst, ◌∙◌}
+use mathlib.Core.Path.{◌≡◌, refl, sym, subst}
 use mathlib.Core.Bool.{Bool, true, false, ◌&&◌, cond}
 use mathlib.Core.List.{List, [], ◌∷◌}
 use native.Mathlib.Omega.{arith}
 use native.Mathlib.Decide.{dec_lt}
 use lib.ListN.{length, get_or, length-take, get_or-eq_default}
-use lib.Seq.{get_or-take, sets}
+use lib.Seq.{get_or-take}
 use lib.Dec.{ltb, leb}
 use borrow.Author.Tests.{lt-ltb, ltb-false, leb-false, eq-eqb, ne_eqb}
 use Rattle.ground.specs.Limits.{count_limit, no_capacity, word_limit, tokens_after}
@@ -15,21 +17,17 @@ use Rattle.ground.proofs.Scan.{first_below, first_most}
 use Rattle.ground.proofs.Fill.{map_at_length}
 use Rattle.net.specs.Net.{Net}
 use Rattle.net.specs.Letter.{Small, arcs_at, passes, after, fired_at, short, over, lowest_short, lowest_over, cause}
-use Rattle.net.specs.declared.Cause.{Cause}
 use Rattle.net.specs.declared.Cause.TheVariants.{Short, Over}
 use Rattle.refusals.specs.Given.{refuse, or_else, counts_fault, loose_fault, bad_letter, Letters}
-use Rattle.refusals.specs.declared.Fault.{Fault}
-use Rattle.refusals.specs.declared.Fault.TheVariants.{Sound, Faulty}
 use Rattle.refusals.proofs.Chains.{or_sound, refuse_sound}
 use Rattle.refusals.proofs.Refusals.{counts_met, loose_met}
 use Rattle.plays.specs.Replay.{Ran, play_from}
 use Rattle.plays.specs.declared.Replay.{Replay}
 use Rattle.plays.specs.declared.Replay.TheVariants as replay
-use Rattle.running.specs.State.{held, is_blocked, tokens_over, bad_tokens, tokens_fault, state_fault, letters_fault, block_fault, part_fault, cause_place, blocked_at, went_on, played_on, held_block, fed_of}
+use Rattle.running.specs.State.{held, is_blocked, tokens_over, bad_tokens, tokens_fault, state_fault, letters_fault, block_fault, part_fault, cause_place, played_on, held_block, fed_of}
 use Rattle.running.specs.Entry.{TokensAt, Allowed}
 use Rattle.running.specs.Walk.{Brief}
 use Rattle.running.specs.declared.Running.{Running}
-use Rattle.running.specs.declared.Part.TheVariants.{Fired, Blocked, Refused}
 use Rattle.running.specs.declared.Fed.{Fed}
 
 -- what holds where nothing is refused, chain by chain
@@ -41,24 +39,24 @@ tokens_at_lem net s p e =
       within = λ c. ltb-false (get_or net.caps p 0) (get_or s.marking p 0) (rw (lt-ltb (get_or net.caps p 0) no_capacity c) at o.1);
     }
 
-tokens_met : (net : Net) (s : Running) → tokens_fault net.places net.caps s.fired s.marking ≡ Sound → (p : ℕ) → p < net.places → TokensAt net s p
+tokens_met : (net : Net) (s : Running) → tokens_fault net.places net.caps s.fired s.marking ≡ Ok tt → (p : ℕ) → p < net.places → TokensAt net s p
 unfolding tokens_fault
 tokens_met net s e p h =
     let x = ltb-false (bad_tokens net.places net.caps s.fired s.marking) net.places (refuse_sound _ 3 _ e) in
     tokens_at_lem net s p (first_below (λ p. tokens_over s.fired (get_or net.caps p 0) (get_or s.marking p 0)) net.places p (omega arith))
 
-letters_met : (T fired : ℕ) (w : List ℕ) → letters_fault T fired w ≡ Sound → (fired + length w ≤ word_limit) × Letters T w
+letters_met : (T fired : ℕ) (w : List ℕ) → letters_fault T fired w ≡ Ok tt → (fired + length w ≤ word_limit) × Letters T w
 unfolding letters_fault
 letters_met T fired w e =
     let a = or_sound (refuse (ltb word_limit (fired + length w)) 4 0) (refuse (ltb (bad_letter T w) (length w)) 5 (bad_letter T w)) e in
     let x = ltb-false (bad_letter T w) (length w) (refuse_sound _ 5 (bad_letter T w) a.1) in
     (ltb-false word_limit (fired + length w) (refuse_sound _ 4 0 a.0), record { at = λ k h. leb-false T (get_or w k 0) (first_below (λ k. leb T (get_or w k 0)) (length w) k (omega arith)) })
 
-block_met : (P blocked place : ℕ) → block_fault P blocked place ≡ Sound → is_blocked blocked ≡ true → place < P
+block_met : (P blocked place : ℕ) → block_fault P blocked place ≡ Ok tt → is_blocked blocked ≡ true → place < P
 unfolding block_fault
 block_met P blocked place e q = leb-false P place (rw q at (refuse_sound (is_blocked blocked && leb P place) 13 0 e))
 
-pub sound_allowed : (net : Net) (s : Running) (w : List ℕ) → part_fault net s w ≡ Sound → Allowed net s w
+pub sound_allowed : (net : Net) (s : Running) (w : List ℕ) → part_fault net s w ≡ Ok tt → Allowed net s w
 unfolding part_fault state_fault
 sound_allowed net s w e =
     let a = or_sound (or_else (counts_fault net true) (or_else (tokens_fault net.places net.caps s.fired s.marking) (loose_fault net))) _ e in
@@ -119,61 +117,12 @@ module _ (net : Net) (s : Running) (w : List ℕ) (ran : Replay) (e : ran ≡ (p
       let z = a.sized.few_places in
       rw e (play_brief net s.fired (held net s) w (rw length-take (omega arith)) a.short)
 
-  pub ran_on : (m : List ℕ) (r : Fed) → r ≡ went_on s m ran → m ≡ sets s.marking 0 (play_from net s.fired (held net s) w).left → r ≡ played_on net s w
-  ran_on m r q l = rw (l, e) at q
-
--- a block's number and place, by its cause
-module _ (why : Cause) (p : ℕ) where
-  pub short_brief : cause_place why < 2 ^ 32 → why ≡ Short p → p < 2 ^ 32
-  short_brief h e = rw e at h
-
-  pub over_brief : cause_place why < 2 ^ 32 → why ≡ Over p → p < 2 ^ 32
-  over_brief h e = rw e at h
-
-  module _ (m : List ℕ) (n : ℕ) where
-    pub block_short : why ≡ Short p → record { state = record { marking = m; fired = n; position = n; place = p; blocked = 1 }; answer = Blocked 1 n p } ≡ blocked_at m n why
-    block_short e = rw e
-
-    pub block_over : why ≡ Over p → record { state = record { marking = m; fired = n; position = n; place = p; blocked = 2 }; answer = Blocked 2 n p } ≡ blocked_at m n why
-    block_over e = rw e
-
-pub ruleset blocks = (short_brief, over_brief, block_short, block_over)
-
--- the state and the answer after a part that was played
-module _ (ran : Replay) where
-  pub fired_brief : (n : ℕ) → Brief ran → ran ≡ replay.Fired n → n < 2 ^ 32
-  fired_brief n b e = rw e at b
-
-  pub block_brief : (n : ℕ) (why : Cause) → Brief ran → ran ≡ replay.Blocked n why → Brief (replay.Blocked n why)
-  block_brief n why b e = rw e at b
-
-  module _ (s : Running) (m : List ℕ) where
-    pub went_fired : (n : ℕ) → ran ≡ replay.Fired n → record { state = record { marking = m; fired = n; position = s.position; place = s.place; blocked = s.blocked }; answer = Fired n } ≡ went_on s m ran
-    went_fired n e = rw e
-
-    pub went_blocked : (n : ℕ) (why : Cause) (r : Fed) → ran ≡ replay.Blocked n why → r ≡ blocked_at m n why → r ≡ went_on s m ran
-    went_blocked n why r e q = rw e q
-
-    pub went_refused : (n at : ℕ) → ran ≡ replay.Refused n at → record { state = s; answer = Refused n at } ≡ went_on s m ran
-    went_refused n at e = rw e
-
-pub ruleset goings = (fired_brief, block_brief, went_fired, went_blocked, went_refused)
-
 -- what a part makes of a state; `found` is what the code found of its refusals
 module _ (net : Net) (s : Running) (w : List ℕ) (found : Fault) (e : found ≡ part_fault net s w) where
-  pub fed_refused : (n at : ℕ) → found ≡ Faulty n at → record { state = s; answer = Refused n at } ≡ fed_of net s w
-  unfolding fed_of
-  fed_refused n at q = rw (← e, q)
-
-  pub fed_sound : found ≡ Sound → part_fault net s w ≡ Sound
-  fed_sound q = sym e ∙ q
-
-  pub fed_played : (r : Fed) → found ≡ Sound → s.blocked ≡ 0 → r ≡ played_on net s w → r ≡ fed_of net s w
+  pub fed_played : (r : Fed) → found ≡ Ok tt → s.blocked ≡ 0 → r ≡ played_on net s w → r ≡ fed_of net s w
   unfolding fed_of
   fed_played r q b k = rw (← e, q, eq-eqb s.blocked 0 b) k
 
-  pub fed_held : (r : Fed) → found ≡ Sound → (s.blocked ≡ 0 → ⊥) → r ≡ held_block s → r ≡ fed_of net s w
+  pub fed_held : (r : Fed) → found ≡ Ok tt → (s.blocked ≡ 0 → ⊥) → r ≡ held_block s → r ≡ fed_of net s w
   unfolding fed_of
   fed_held r q b k = rw (← e, q, ne_eqb s.blocked 0 b) k
-
-pub ruleset feeds = (fed_refused, fed_sound, fed_played, fed_held)

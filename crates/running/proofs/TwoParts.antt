@@ -1,4 +1,5 @@
 -- A part that is allowed, played; and two parts one after the other are one part. Assumes nothing.
+use Rattle.std.specs.Prelude.{Ok}
 use Prim.Native.Nat.{ℕ, ◌+◌, ◌≤◌, ◌<◌}
 use mathlib.Core.Path.{◌≡◌, refl, sym, ap, ◌∙◌}
 use mathlib.Core.Bool.{Bool, true, false}
@@ -17,7 +18,6 @@ use Rattle.net.specs.declared.Cause.{Cause}
 use Rattle.net.specs.declared.Cause.TheVariants.{Short, Over}
 use Rattle.net.proofs.Meaning.{cause_some, within_stays, word_small}
 use Rattle.refusals.specs.Given.{Letters}
-use Rattle.refusals.specs.declared.Fault.TheVariants.{Sound}
 use Rattle.plays.specs.Replay.{Ran, play_from}
 use Rattle.plays.specs.declared.Replay.{Replay}
 use Rattle.plays.specs.declared.Replay.TheVariants as replay
@@ -29,7 +29,7 @@ use Rattle.running.specs.declared.Running.{Running}
 use Rattle.running.specs.declared.Part.TheVariants.{Fired}
 use Rattle.running.proofs.Fronts.{front_long, front_set}
 use Rattle.running.proofs.Parts.{held_small, next_passes, next_stops, fed_played, fed_held}
-use Rattle.running.proofs.Exactly.{allowed_sound, play_refuses}
+use Rattle.running.proofs.Exactly.{allowed_sound}
 
 -- ---- the replay of a word that is put together of two
 pub play_fired : (net : Net) (n : ℕ) (m u w : List ℕ) (k : ℕ) → (play_from net n m u).answer ≡ replay.Fired k → play_from net n m (u ++ w) ≡ play_from net k (play_from net n m u).left w
@@ -127,13 +127,13 @@ stuck blocked e = eqb-false blocked 0 (not-true (eqb blocked 0) e)
 
 module _ (net : Net) (s : Running) (w : List ℕ) (a : Allowed net s w) where
   pub fed_stuck : (s.blocked ≡ 0 → ⊥) → fed_of net s w ≡ held_block s
-  fed_stuck n = sym (fed_held net s w Sound (sym (allowed_sound net s w a)) (held_block s) refl n refl)
+  fed_stuck n = sym (fed_held net s w (Ok tt) (sym (allowed_sound net s w a)) (held_block s) refl n refl)
 
   pub fed_free : s.blocked ≡ 0 → fed_of net s w ≡ played_on net s w
-  fed_free q = sym (fed_played net s w Sound (sym (allowed_sound net s w a)) (played_on net s w) refl q refl)
+  fed_free q = sym (fed_played net s w (Ok tt) (sym (allowed_sound net s w a)) (played_on net s w) refl q refl)
 
   module _ (q : s.blocked ≡ 0) where
-    pub fed_fires : (k : ℕ) → (play_from net s.fired (held net s) w).answer ≡ replay.Fired k → fed_of net s w ≡ record { state = advanced s (next net s w) k; answer = Fired k }
+    pub fed_fires : (k : ℕ) → (play_from net s.fired (held net s) w).answer ≡ replay.Fired k → fed_of net s w ≡ record { state = advanced s (next net s w) k; answer = Ok (Fired k) }
     fed_fires k e = fed_free q ∙ ap (went_on s (next net s w)) e
 
     pub fed_stops : (k : ℕ) (why : Cause) → (play_from net s.fired (held net s) w).answer ≡ replay.Blocked k why → fed_of net s w ≡ blocked_at (next net s w) k why
@@ -219,10 +219,9 @@ module _ (net : Net) (s : Running) (u w : List ℕ) (a : Allowed net s (u ++ w))
   pub two_parts : fed_of net (fed_of net s u).state w ≡ fed_of net s (u ++ w)
   two_parts = go (is_blocked s.blocked) refl rest_allowed
     where
-      same_went : (r : Replay) (m m' : List ℕ) (k : ℕ) → m ≡ m' → ((n at : ℕ) → r ≡ replay.Refused n at → ⊥) → went_on (advanced s (next net s u) k) m r ≡ went_on s m' r
-      same_went (replay.Fired n) m m' k e none = rw e
-      same_went (replay.Blocked n why) m m' k e none = rw e
-      same_went (replay.Refused n at) m m' k e none = absurd (none n at refl)
+      same_went : (r : Replay) (m m' : List ℕ) (k : ℕ) → m ≡ m' → went_on (advanced s (next net s u) k) m r ≡ went_on s m' r
+      same_went (replay.Fired n) m m' k e = rw e
+      same_went (replay.Blocked n why) m m' k e = rw e
 
       moved : s.blocked ≡ 0 → Ending net s.fired (held net s) u (play_from net s.fired (held net s) u) → Allowed net (fed_of net s u).state w → fed_of net (fed_of net s u).state w ≡ fed_of net s (u ++ w)
       moved q (whole e f) b =
@@ -236,7 +235,6 @@ module _ (net : Net) (s : Running) (u w : List ℕ) (a : Allowed net s (u ++ w))
           rw g (fed_free net s₁ w b₁ q
           ∙ same_went (play_from net k (held net s₁) w).answer (next net s₁ w) (next net s (u ++ w)) k
           (ap (λ (z : Ran). sets (next net s u) 0 z.left) y ∙ front_again net.places s.marking (play_from net s.fired (held net s) u).left (play_from net s.fired (held net s) (u ++ w)).left (room net s u front slots) l l₁)
-          (play_refuses net k (held net s₁) w)
           ∙ ap (λ (z : Ran). went_on s (next net s (u ++ w)) z.answer) y
           ∙ sym (fed_free net s (u ++ w) a q))
       moved q (stops k why e h f n) b =

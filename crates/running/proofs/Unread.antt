@@ -1,4 +1,6 @@
 -- "slots past P aren't read": what stands in them changes no answer, and nothing of the state but themselves. Assumes nothing.
+use Rattle.std.specs.Prelude.{Ok, Err}
+use Rattle.refusals.specs.Given.{Fault}
 use Prim.Native.Nat.{ℕ, zero, suc, ◌<◌, zero-le, suc-le-suc}
 use mathlib.Core.Path.{◌≡◌, refl, sym, ap, ◌∙◌}
 use mathlib.Core.Bool.{Bool, true, false, cond}
@@ -8,8 +10,6 @@ use lib.Seq.{get_or-take}
 use Rattle.ground.specs.Limits.{count_limit}
 use Rattle.ground.specs.Lists.{first}
 use Rattle.net.specs.Net.{Net}
-use Rattle.refusals.specs.declared.Fault.{Fault}
-use Rattle.refusals.specs.declared.Fault.TheVariants.{Sound, Faulty}
 use Rattle.plays.specs.Replay.{play_from}
 use Rattle.plays.specs.declared.Replay.{Replay}
 use Rattle.plays.specs.declared.Replay.TheVariants as replay
@@ -54,7 +54,6 @@ module _ (net : Net) (s : Running) (l : List ℕ) (same : take net.places l ≡ 
       went : (r : Replay) (m m' : List ℕ) → take net.places m ≡ take net.places m' → Alike net (went_on (marked s l) m r) (went_on s m' r)
       went (replay.Fired n) m m' e = record { answer = refl; marking = e; fired = refl; position = refl; place = refl; blocked = refl }
       went (replay.Blocked n why) m m' e = record { answer = refl; marking = e; fired = refl; position = refl; place = refl; blocked = refl }
-      went (replay.Refused n at) m m' e = record { answer = refl; marking = same; fired = refl; position = refl; place = refl; blocked = refl }
 
       played : Allowed net s w → Allowed net (marked s l) w → Alike net (played_on net (marked s l) w) (played_on net s w)
       played a b =
@@ -67,6 +66,6 @@ module _ (net : Net) (s : Running) (l : List ℕ) (same : take net.places l ≡ 
       held_or a b false = played a b
 
       faulty : (f : Fault) → part_fault net s w ≡ f → Alike net (fed_by (part_fault net (marked s l) w) net (marked s l) w) (fed_by (part_fault net s w) net s w)
-      faulty Sound e =
+      faulty (Ok _) e =
           rw (same_fault w, e) (held_or (sound_allowed net s w e) (sound_allowed net (marked s l) w (same_fault w ∙ e)) (is_blocked s.blocked))
-      faulty (Faulty n at) e = rw (same_fault w, e) (record { answer = refl; marking = same; fired = refl; position = refl; place = refl; blocked = refl })
+      faulty (Err r) e = rw (same_fault w, e) (record { answer = refl; marking = same; fired = refl; position = refl; place = refl; blocked = refl })

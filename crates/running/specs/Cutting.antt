@@ -1,11 +1,12 @@
 -- To be believed: a log in parts: document 02, E7: "For any cutting, empty parts allowed, with valid letters and 65,535 in all, the last state agrees with replaying the whole."
-use Rattle.std.specs.Prelude.{ℕ, ◌+◌, ◌<◌, ◌≡◌, List, [], ◌∷◌, ◌++◌, length, get_or}
+use Rattle.refusals.specs.Given.{Answer}
+use Rattle.std.specs.Prelude.{Ok, Err, ℕ, ◌+◌, ◌<◌, ◌≡◌, List, [], ◌∷◌, ◌++◌, length, get_or}
 use Rattle.ground.specs.Limits.{count_limit}
 use Rattle.net.specs.Net.{Net}
 use Rattle.net.specs.Firing.{Names, cause_number}
 use Rattle.net.specs.declared.Cause.{Cause}
 use Rattle.plays.specs.declared.Replay.{Replay}
-use Rattle.plays.specs.declared.Replay.TheVariants.{Fired, Blocked, Refused}
+use Rattle.plays.specs.declared.Replay.TheVariants.{Fired, Blocked}
 use Rattle.replay.specs.Entry as replay
 use Rattle.replay.specs.Entry.{Longest}
 use Rattle.running.specs.State.{held, cause_place, fed_of}
@@ -29,18 +30,18 @@ fed_all net f [] = f
 fed_all net f (u ∷ us) = fed_all net (fed_of net f.state u) us
 
 -- calls that keep their promise, one for each part, on one state: s and r before the first of them, s' and r' after the last
-pub data Calls (net : Net) : Running → Part → List (List ℕ) → Running → Part → Type 0 where
-  no_call : {s : Running} {r : Part} → Calls net s r [] s r
-  then_call : {s s₁ s' : Running} {r r₁ r' : Part} {u : List ℕ} {us : List (List ℕ)} → Promised net s u s₁ r₁ → Calls net s₁ r₁ us s' r' → Calls net s r (u ∷ us) s' r'
+pub data Calls (net : Net) : Running → Answer Part → List (List ℕ) → Running → Answer Part → Type 0 where
+  no_call : {s : Running} {r : Answer Part} → Calls net s r [] s r
+  then_call : {s s₁ s' : Running} {r r₁ r' : Answer Part} {u : List ℕ} {us : List (List ℕ)} → Promised net s u s₁ r₁ → Calls net s₁ r₁ us s' r' → Calls net s r (u ∷ us) s' r'
 
 -- a state holds the block of a replay's answer, or none
-abbrev pub HoldsBlock : Running → Replay → Type 0
-HoldsBlock s (Fired n) = s.blocked ≡ 0
-HoldsBlock s (Blocked n why) = (s.blocked ≡ cause_number why) × (s.position ≡ n) × (s.place ≡ cause_place why)
-HoldsBlock s (Refused n at) = ⊥
+abbrev pub HoldsBlock : Running → Answer Replay → Type 0
+HoldsBlock s (Ok (Fired n)) = s.blocked ≡ 0
+HoldsBlock s (Ok (Blocked n why)) = (s.blocked ≡ cause_number why) × (s.position ≡ n) × (s.place ≡ cause_place why)
+HoldsBlock s (Err r) = ⊥
 
 -- a state and an answer agree with a replay's answer and the marking that it left
-pub record Agrees (net : Net) (f : Fed) (r : Replay) (m : List ℕ) : Type 0 where
+pub record Agrees (net : Net) (f : Fed) (r : Answer Replay) (m : List ℕ) : Type 0 where
   pub answer : numbers f.answer ≡ replay.numbers r
   pub marking : held net f.state ≡ m
   pub fired : f.state.fired ≡ replay.letters_fired r

@@ -1,4 +1,6 @@
 -- To be believed: the public running replay: its state before the first part, what a part promises, and all that it is asked.
+use Rattle.std.specs.Prelude.{Ok, Err}
+use Rattle.refusals.specs.Given.{Answer, Fault}
 use Rattle.std.specs.Prelude.{ℕ, ◌+◌, ◌≤◌, ◌<◌, ◌≡◌, true, List, [], ◌∷◌, length, get_or}
 use Rattle.std.proofs.lemmas.List.Edits.{sets}
 use Rattle.ground.specs.Limits.{count_limit, word_limit, tokens_after}
@@ -7,12 +9,10 @@ use Rattle.net.specs.Net.{Net, Sized, Light, capacity, Capped}
 use Rattle.wiring.specs.Wired.{Wired}
 use Rattle.refusals.specs.Given.{marked_fault, Fine, Letters}
 use Rattle.refusals.specs.First.{First, Given, GivenAt, CountsFirst, LooseFirst, MarkedFirst}
-use Rattle.refusals.specs.declared.Fault.{Fault}
-use Rattle.refusals.specs.declared.Fault.TheVariants.{Sound, Faulty}
 use Rattle.running.specs.State.{is_blocked, fed_of}
 use Rattle.running.specs.declared.Running.{Running}
 use Rattle.running.specs.declared.Part.{Part}
-use Rattle.running.specs.declared.Part.TheVariants.{Fired, Blocked, Refused}
+use Rattle.running.specs.declared.Part.TheVariants.{Fired, Blocked}
 use Rattle.running.specs.declared.Fed.{Fed}
 
 -- the state before the first letter, with a marking
@@ -25,8 +25,8 @@ empty = table (λ k. 0) count_limit
 
 -- 1, 2, 18, 3 and 17, or the state before the first part: the initial marking, and 0 past it
 abbrev pub started_by : Fault → List ℕ → Fed
-started_by (Faulty n at) initial = record { state = fresh_at empty; answer = Refused n at }
-started_by Sound initial = record { state = fresh_at (sets empty 0 initial); answer = Fired 0 }
+started_by (Err r) initial = record { state = fresh_at empty; answer = Err r }
+started_by (Ok _) initial = record { state = fresh_at (sets empty 0 initial); answer = Ok (Fired 0) }
 
 unfoldable pub start_of : Net → List ℕ → Fed
 start_of net initial = started_by (marked_fault net initial true) initial
@@ -44,13 +44,13 @@ abbrev pub StartRefusal : Net → List ℕ → ℕ → ℕ → Type 0
 StartRefusal net initial n at = MarkedFirst net initial (true ≡ true) n at ⊥
 
 -- document 01's numbers for each case, as a replay's
-abbrev pub numbers : Part → List ℕ
-numbers (Fired n) = 0x81 ∷ 0 ∷ n ∷ []
-numbers (Blocked c n p) = 0x81 ∷ c ∷ n ∷ p ∷ []
-numbers (Refused n at) = 0x82 ∷ n ∷ at ∷ []
+abbrev pub numbers : Answer Part → List ℕ
+numbers (Ok (Fired n)) = 0x81 ∷ 0 ∷ n ∷ []
+numbers (Ok (Blocked c n p)) = 0x81 ∷ c ∷ n ∷ p ∷ []
+numbers (Err r) = 0x82 ∷ r.number ∷ r.at ∷ []
 
 -- what a part promises of the lent state at its end and of its answer
-abbrev pub Promised : Net → Running → List ℕ → Running → Part → Type 0
+abbrev pub Promised : Net → Running → List ℕ → Running → Answer Part → Type 0
 Promised net s w s' r = (s' ≡ (fed_of net s w).state) × (r ≡ (fed_of net s w).answer)
 
 -- 3 unless at each place: no more tokens than so many letters can have led to, nor than its capacity

@@ -1,4 +1,6 @@
 -- To be believed: document 02, E7: "Keep a running replay, with the marking, the letters fired and whether it is blocked, changed in place by each part."
+use Rattle.std.specs.Prelude.{Ok, Err}
+use Rattle.refusals.specs.Given.{Fault}
 use Rattle.std.specs.Prelude.{ℕ, ◌+◌, Bool, true, cond, not, ◌&&◌, ◌||◌, List, length, get_or, take, ltb, leb, eqb}
 use Rattle.std.proofs.lemmas.List.Edits.{sets}
 use Rattle.ground.specs.Limits.{no_capacity, word_limit, tokens_after}
@@ -8,13 +10,11 @@ use Rattle.net.specs.declared.Cause.{Cause}
 use Rattle.net.specs.declared.Cause.TheVariants.{Short, Over}
 use Rattle.net.specs.Firing.{cause_number}
 use Rattle.refusals.specs.Given.{refuse, or_else, counts_fault, loose_fault, bad_letter}
-use Rattle.refusals.specs.declared.Fault.{Fault}
-use Rattle.refusals.specs.declared.Fault.TheVariants.{Sound, Faulty}
 use Rattle.plays.specs.Replay.{play_from}
 use Rattle.plays.specs.declared.Replay.{Replay}
 use Rattle.plays.specs.declared.Replay.TheVariants as replay
 use Rattle.running.specs.declared.Running.{Running}
-use Rattle.running.specs.declared.Part.TheVariants.{Fired, Blocked, Refused}
+use Rattle.running.specs.declared.Part.TheVariants.{Fired, Blocked}
 use Rattle.running.specs.declared.Fed.{Fed}
 
 -- the marking that a state holds for a net: "slots past P aren't read"
@@ -65,7 +65,7 @@ abbrev pub blocked_at : List ℕ → ℕ → Cause → Fed
 blocked_at marking n why =
     record {
       state = record { marking = marking; fired = n; position = n; place = cause_place why; blocked = cause_number why };
-      answer = Blocked (cause_number why) n (cause_place why);
+      answer = Ok (Blocked (cause_number why) n (cause_place why));
     }
 
 -- the state and the answer after a part that was played: `marking` is what it led to; the numbers of a block stay where there is none
@@ -73,10 +73,9 @@ abbrev pub went_on : Running → List ℕ → Replay → Fed
 went_on s marking (replay.Fired n) =
     record {
       state = record { marking = marking; fired = n; position = s.position; place = s.place; blocked = s.blocked };
-      answer = Fired n;
+      answer = Ok (Fired n);
     }
 went_on s marking (replay.Blocked n why) = blocked_at marking n why
-went_on s marking (replay.Refused n at) = record { state = s; answer = Refused n at }
 
 -- "slots past P .. stay"
 abbrev pub played_on : Net → Running → List ℕ → Fed
@@ -85,13 +84,13 @@ played_on net s w =
 
 -- "After a block each later part gets the same block and changes nothing"; "handed back as it stands"
 abbrev pub held_block : Running → Fed
-held_block s = record { state = s; answer = Blocked s.blocked s.position s.place }
+held_block s = record { state = s; answer = Ok (Blocked s.blocked s.position s.place) }
 
 -- what a part makes of a state: refused, and nothing is changed; else the block that it holds; else the part is played, its first letter having the number
 -- of the letters fired before
 abbrev pub fed_by : Fault → Net → Running → List ℕ → Fed
-fed_by (Faulty n at) net s w = record { state = s; answer = Refused n at }
-fed_by Sound net s w = cond (is_blocked s.blocked) (held_block s) (played_on net s w)
+fed_by (Err r) net s w = record { state = s; answer = Err r }
+fed_by (Ok _) net s w = cond (is_blocked s.blocked) (held_block s) (played_on net s w)
 
 unfoldable pub fed_of : Net → Running → List ℕ → Fed
 fed_of net s w = fed_by (part_fault net s w) net s w

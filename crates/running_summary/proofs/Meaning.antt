@@ -1,4 +1,6 @@
 -- A part against its summary: it fires exactly where the state's tokens suffice for the summary, and then leads to tokens plus change. Assumes nothing.
+use Rattle.std.specs.Prelude.{Ok}
+use Rattle.refusals.specs.Given.{Answer}
 use Prim.Native.Nat.{ℕ, ◌+◌, ◌<◌}
 use mathlib.Core.Path.{◌≡◌, sym, ap, ◌∙◌}
 use mathlib.Core.List.{List}
@@ -35,15 +37,15 @@ module _ (net : Net) (s : Running) (w : List ℕ) (a : Allowed net s w) (slots :
       fits_fires net w (held net s) (held_within net s w a slots).long a.letters
       (λ p h. let t = rw (← held_at net s p h) at (k.at p h) in (t.covers, t.keeps))
 
-  module _ (q : s.blocked ≡ 0) (s' : Running) (r : Part) (p : Promised net s w s' r) where
+  module _ (q : s.blocked ≡ 0) (s' : Running) (r : Answer Part) (p : Promised net s w s' r) where
     -- fired exactly where a summary asked would say yes
-    pub part_suffices : (r ≡ Fired (s.fired + length w)) ↔ SufficesPart net s w
+    pub part_suffices : (r ≡ Ok (Fired (s.fired + length w))) ↔ SufficesPart net s w
     part_suffices =
         let f = fires_exactly net s w a slots q s' r p in
         (λ e. let g = f.0 e in fires_suffices g.0 g.1, λ k. f.1 (suffices_fires k))
 
     -- and then the state has what it would say of the end
-    pub part_ends : (n : ℕ) → r ≡ Fired n → (k : ℕ) → k < net.places → pos (get_or s'.marking k 0) ≡ pos (get_or s.marking k 0) +ℤ change (letter_at net k) w
+    pub part_ends : (n : ℕ) → r ≡ Ok (Fired n) → (k : ℕ) → k < net.places → pos (get_or s'.marking k 0) ≡ pos (get_or s.marking k 0) +ℤ change (letter_at net k) w
     part_ends n e k h =
         ap pos (sym (held_at net s' k h)) ∙ ends_at (fired_means net s w a slots q s' r p n e).1 k h
         ∙ ap (λ (x : ℕ). pos x +ℤ change (letter_at net k) w) (held_at net s k h)

@@ -1,9 +1,10 @@
 -- The twelve samples, proved by computing, and what some of them mean.
+use Rattle.std.specs.Prelude.{Ok}
+use Rattle.refusals.proofs.Exactly.{not_refused}
 use Prim.Native.Nat.{ℕ, ◌≤◌}
 use mathlib.Core.Path.{◌≡◌, refl}
 use mathlib.Core.Bool.{true}
 use mathlib.Core.List.{List, [], ◌∷◌, map}
-use native.Mathlib.Omega.{arith}
 use lib.IntN.{pos}
 use Rattle.ground.specs.Lists.{first, tally, most, map_at, table}
 use Rattle.net.specs.Net.{leaves_first, in_force, tokens}
@@ -47,23 +48,23 @@ twelve a b c = refl
 
 -- ---- what some of them mean in the published definitions, by the theorems of their crates
 -- sample 1: the word fires letter by letter, to that marking
-replayed_1 : Replayed net initial (0 ∷ 1 ∷ 0 ∷ 1 ∷ []) true (0 ∷ 0 ∷ 0 ∷ []) (Fired 4) (1 ∷ 0 ∷ 4 ∷ [])
+replayed_1 : Replayed net initial (0 ∷ 1 ∷ 0 ∷ 1 ∷ []) true (0 ∷ 0 ∷ 0 ∷ []) (Ok (Fired 4)) (1 ∷ 0 ∷ 4 ∷ [])
 unfolding first tally map_at leaves_first heavy weights_fault counts_fault loose_fault loose_place loose_transition net_fault marking_fault start_fault marked_fault word_fault play_from replay_fault
 replayed_1 = record { answer = refl; left = refl }
 
 pub sample_fires : Fires net initial (0 ∷ 1 ∷ 0 ∷ 1 ∷ []) (1 ∷ 0 ∷ 4 ∷ [])
 sample_fires =
-    let a = replay.answered_allowed _ _ _ _ _ _ _ replayed_1 (λ n at e. let z : ◌≡◌ {A = ℕ} 0 1 = cc in omega arith) in
+    let a = replay.answered_allowed _ _ _ _ _ _ _ replayed_1 (λ n at e. not_refused (Fired 4) n at e) in
     (replay.fired_means _ _ _ _ _ _ _ replayed_1 a 4 refl).1
 
 -- sample 2: letter 5 is transition 1; at the marking left no place is short for it, and place 2 is the lowest over
-replayed_2 : Replayed net initial (0 ∷ 1 ∷ 0 ∷ 1 ∷ 0 ∷ 1 ∷ []) true (0 ∷ 0 ∷ 0 ∷ []) (Blocked 5 (Over 2)) (0 ∷ 1 ∷ 4 ∷ [])
+replayed_2 : Replayed net initial (0 ∷ 1 ∷ 0 ∷ 1 ∷ 0 ∷ 1 ∷ []) true (0 ∷ 0 ∷ 0 ∷ []) (Ok (Blocked 5 (Over 2))) (0 ∷ 1 ∷ 4 ∷ [])
 unfolding first tally map_at leaves_first heavy weights_fault counts_fault loose_fault loose_place loose_transition net_fault marking_fault start_fault marked_fault word_fault play_from replay_fault
 replayed_2 = record { answer = refl; left = refl }
 
 pub sample_blocked : Names net (0 ∷ 1 ∷ 4 ∷ []) 1 (Over 2)
 sample_blocked =
-    let a = replay.answered_allowed _ _ _ _ _ _ _ replayed_2 (λ n at e. let z : ◌≡◌ {A = ℕ} 0 1 = cc in omega arith) in
+    let a = replay.answered_allowed _ _ _ _ _ _ _ replayed_2 (λ n at e. not_refused (Blocked 5 (Over 2)) n at e) in
     (replay.blocked_cause _ _ _ _ _ _ _ replayed_2 a 5 (Over 2) refl).1
 
 -- sample 8: place 0 holds at most 1 in every reachable marking
@@ -83,4 +84,4 @@ sample_trap = (trap_accepted net (1 ∷ 1 ∷ 0 ∷ []) (allowed_of net (1 ∷ 1
 -- sample 12: no reachable marking has a token in place 0 and one in place 1
 pub sample_cover : Coverable net initial (1 ∷ 1 ∷ 0 ∷ []) → ⊥
 unfolding first tally table heavy weights_fault counts_fault loose_fault loose_place loose_transition net_fault marking_fault start_fault marked_fault some none target_fault first_bad entry_fault size_fault list_fault claim_of matches results_of looked_of absent given_fault list_of
-sample_cover = shown_never_covered net initial cover_sample (1 ∷ 1 ∷ 0 ∷ []) claim.Shown refl refl
+sample_cover = shown_never_covered net initial cover_sample (1 ∷ 1 ∷ 0 ∷ []) (Ok claim.Shown) refl refl

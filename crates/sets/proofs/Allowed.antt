@@ -1,4 +1,5 @@
 -- Nothing is refused exactly where all that 01 asks holds, and a refusal is the first demand's that does not. Assumes nothing.
+use Rattle.std.specs.Prelude.{Ok}
 use Prim.Native.Nat.{ℕ, ◌≤◌, ◌<◌}
 use mathlib.Core.Path.{◌≡◌, sym, ◌∙◌}
 use mathlib.Core.Bool.{false}
@@ -12,7 +13,6 @@ use Rattle.ground.proofs.Tests.{never}
 use Rattle.ground.proofs.Scan.{first_below, first_passes}
 use Rattle.net.specs.Net.{Net}
 use Rattle.refusals.specs.Given.{refuse, net_fault}
-use Rattle.refusals.specs.declared.Fault.TheVariants.{Sound}
 use Rattle.refusals.proofs.Chains.{or_sound, sound_or, refuse_sound, sound_refuse}
 use Rattle.refusals.proofs.Refusals.{net_met, met_net}
 use Rattle.refusals.proofs.Exactly.{Chain, reads_both, reads_test, reads_all, tells_test, net_reads}
@@ -39,14 +39,14 @@ module _ (s : List ℕ) where
       go (no h) = absurd (some (λ p. out (omega arith) p (dec_lt p (length s))))
 
 module _ (net : Net) (s : List ℕ) where
-  pub allowed_of : set_fault net s ≡ Sound → Allowed net s
+  pub allowed_of : set_fault net s ≡ Ok tt → Allowed net s
   unfolding set_fault
   allowed_of e =
       let a = or_sound (net_fault net (eqb (length s) net.places)) (refuse (no_places s) 8 0) e in
       let m = net_met net (eqb (length s) net.places) a.0 in
       record { sized = m.sized; light = m.light; long = eqb-true (length s) net.places m.fitting; wired = m.wired; some = some_of s (refuse_sound (no_places s) 8 0 a.1) }
 
-  pub of_allowed : Allowed net s → set_fault net s ≡ Sound
+  pub of_allowed : Allowed net s → set_fault net s ≡ Ok tt
   unfolding set_fault
   of_allowed a =
       sound_or (net_fault net (eqb (length s) net.places)) (refuse (no_places s) 8 0)

@@ -1,4 +1,6 @@
 -- What the answers for sets mean, by the published definitions of firing, siphons and traps. Assumes nothing.
+use Rattle.std.specs.Prelude.{Ok}
+use Rattle.refusals.specs.Given.{Answer}
 use Prim.Native.Nat.{ℕ, ◌≤◌, ◌<◌}
 use mathlib.Core.Path.{◌≡◌, refl, sym, ap, ◌∙◌}
 use mathlib.Core.Bool.{Bool, true, false, not}
@@ -18,6 +20,7 @@ use Rattle.net.proofs.Meaning.{gives_plain, kept}
 use Rattle.sets.specs.Sets.{In, Some, PutsInto, TakesFrom, Siphon, Trap, SiphonFails, TrapFails, Marked, Unmarked}
 use Rattle.sets.specs.Allowed.{Allowed}
 use Rattle.sets.specs.Answer.{meets, touches, escapes, lowest_escape, turned, judged_set, siphon_of, trap_of}
+use Rattle.sets.specs.declared.SetAnswer.{SetAnswer}
 use Rattle.sets.specs.declared.SetAnswer.TheVariants.{Yes, No}
 use Rattle.sets.proofs.Allowed.{of_allowed}
 
@@ -99,24 +102,28 @@ module _ (net : Net) (s : List ℕ) (long : length s ≡ net.places) where
           rw (← k) (record { here = h; one = x.0; other = x.1; lowest = λ u l. closed_of net s long u (first_below (escapes net s) net.transitions u l) })
       go e false q = let z : Yes ≡ No t = rw q at e in let k : ◌≡◌ {A = ℕ} 0 1 = cc in absurd (omega arith)
 
+-- the answer that was judged is given
+given : {P : Type 0} (a b : SetAnswer) (r : Answer SetAnswer) → r ≡ Ok a → ((a ≡ b) ↔ P) → (r ≡ Ok b) ↔ P
+given a b r e f = (λ q. f.0 (let z : ◌≡◌ {A = Answer SetAnswer} (Ok a) (Ok b) = sym e ∙ q in cc), λ p. e ∙ ap Ok (f.1 p))
+
 module _ (net : Net) (s : List ℕ) (ok : Allowed net s) where
-  siphon_is : siphon_of net s ≡ judged_set net s
+  siphon_is : siphon_of net s ≡ Ok (judged_set net s)
   siphon_is = rw (of_allowed net s ok)
 
-  pub siphon_accepted : (siphon_of net s ≡ Yes) ↔ Siphon net s
-  siphon_accepted = rw siphon_is (judged_yes net s ok.long)
+  pub siphon_accepted : (siphon_of net s ≡ Ok Yes) ↔ Siphon net s
+  siphon_accepted = given (judged_set net s) Yes (siphon_of net s) siphon_is (judged_yes net s ok.long)
 
-  pub siphon_fails_at : (t : ℕ) → (siphon_of net s ≡ No t) ↔ SiphonFails net s t
-  siphon_fails_at t = rw siphon_is (judged_no net s ok.long t)
+  pub siphon_fails_at : (t : ℕ) → (siphon_of net s ≡ Ok (No t)) ↔ SiphonFails net s t
+  siphon_fails_at t = given (judged_set net s) (No t) (siphon_of net s) siphon_is (judged_no net s ok.long t)
 
-  trap_is : trap_of net s ≡ judged_set (turned net) s
+  trap_is : trap_of net s ≡ Ok (judged_set (turned net) s)
   trap_is = rw (of_allowed net s ok)
 
-  pub trap_accepted : (trap_of net s ≡ Yes) ↔ Trap net s
-  trap_accepted = rw trap_is (judged_yes (turned net) s ok.long)
+  pub trap_accepted : (trap_of net s ≡ Ok Yes) ↔ Trap net s
+  trap_accepted = given (judged_set (turned net) s) Yes (trap_of net s) trap_is (judged_yes (turned net) s ok.long)
 
-  pub trap_fails_at : (t : ℕ) → (trap_of net s ≡ No t) ↔ TrapFails net s t
-  trap_fails_at t = rw trap_is (judged_no (turned net) s ok.long t)
+  pub trap_fails_at : (t : ℕ) → (trap_of net s ≡ Ok (No t)) ↔ TrapFails net s t
+  trap_fails_at t = given (judged_set (turned net) s) (No t) (trap_of net s) trap_is (judged_no (turned net) s ok.long t)
 
 -- ---- "An unmarked siphon stays unmarked and a marked trap stays marked, weights and capacities included."
 pub siphon_stays_empty : {net : Net} {s m w m' : List ℕ} → Siphon net s → Fires net m w m' → Unmarked net s m → Unmarked net s m'

@@ -1,26 +1,19 @@
--- Laws of the tests and answers for sets, from what the code has found. Assumes nothing.
-use Prim.Native.Nat.{ℕ, ◌≤◌, ◌<◌}
-use mathlib.Core.Path.{◌≡◌, sym}
-use mathlib.Core.Bool.{Bool, true, false, not}
+-- Laws of the tests for sets, and of a net with its arcs turned round. Assumes nothing.
+use Prim.Native.Nat.{ℕ, ◌+◌, ◌*◌, ◌≤◌, ◌<◌}
+use mathlib.Core.Path.{◌≡◌, sym, ap}
+use mathlib.Core.Bool.{Bool, true, false}
 use mathlib.Core.List.{List}
-use lib.ListN.{length, get_or}
+use native.Mathlib.Decide.{dec_lt}
+use native.Mathlib.Omega.{arith}
+use lib.ListN.{length, get_or, get_or-eq_default}
 use lib.Dec.{ltb}
-use borrow.Author.Tests.{lt-ltb, le-ltb, le-leb, lt-leb}
+use borrow.Author.Tests.{lt-ltb, le-ltb}
+use Rattle.ground.specs.Lists.{first}
 use Rattle.ground.proofs.Scan.{Below, scan_hit, scan_end}
-use Rattle.net.specs.Net.{Net, Pre, Post, Sized}
-use Rattle.refusals.specs.declared.Fault.{Fault}
-use Rattle.refusals.specs.declared.Fault.TheVariants.{Sound, Faulty}
-use Rattle.sets.specs.Answer.{meets, touches, escapes, lowest_escape, turned, lowest_member, no_places, judged_set, set_answer, set_numbers}
-use Rattle.sets.specs.declared.SetAnswer.{SetAnswer}
-use Rattle.sets.specs.declared.SetAnswer.TheVariants.{Yes, No, Refused}
-
--- one place
-module _ (weight member : ℕ) where
-  pub meets_in : (r : Bool) → 0 < member → r ≡ ltb 0 weight → r ≡ meets weight member
-  meets_in r h e = rw (lt-ltb 0 member h) e
-
-  pub meets_out : member ≤ 0 → false ≡ meets weight member
-  meets_out h = rw (le-ltb 0 member h)
+use Rattle.net.specs.Net.{Net, Sized}
+use Rattle.net.specs.Letter.{row}
+use Rattle.net.proofs.Rows.{row_at}
+use Rattle.sets.specs.Answer.{meets, touches, turned}
 
 -- a row: p is where the scan is, r the test's answer there
 module _ (weight : ℕ → ℕ) (s : List ℕ) (p : ℕ) (lo : Below (λ p. meets (weight p) (get_or s p 0)) p) where
@@ -36,49 +29,16 @@ module _ (weight : ℕ → ℕ) (s : List ℕ) (p : ℕ) (lo : Below (λ p. meet
       let f = scan_end (λ p. meets (weight p) (get_or s p 0)) (length s) p lo h l in
       rw (← f) (sym (le-ltb p (length s) l))
 
-pub ruleset touching = (meets_in, meets_out, touch_hit, touch_none)
+pub ruleset touching = (touch_hit, touch_none)
 
--- a transition: a and b tell whether it puts into the set, and takes from it
-module _ (net : Net) (s : List ℕ) (t : ℕ) (a b : Bool) (ea : a ≡ touches s (λ p. Post net p t)) where
-  pub escape_asked : a ≡ true → b ≡ touches s (λ p. Pre net p t) → not b ≡ escapes net s t
-  unfolding escapes
-  escape_asked q eb = rw (← ea, q, ← eb)
-
-  pub escape_none : a ≡ false → false ≡ escapes net s t
-  unfolding escapes
-  escape_none q = rw (← ea, q)
-
-pub ruleset escaping = (escape_asked, escape_none)
-
--- whether a set has a place, from the lowest one that was found
-module _ (s : List ℕ) (k : ℕ) (e : k ≡ lowest_member s) where
-  pub some_found : k < length s → no_places s ≡ false
-  some_found h = rw (← e) (lt-leb (length s) k h)
-
-  pub none_found : length s ≤ k → no_places s ≡ true
-  none_found h = rw (← e) (le-leb (length s) k h)
-
-pub ruleset places_found = (some_found, none_found)
-
--- what is judged, from the transition that was found
-module _ (net : Net) (s : List ℕ) (t : ℕ) (et : t ≡ lowest_escape net s) where
-  pub set_no : t < net.transitions → No t ≡ judged_set net s
-  set_no h = rw (← et, lt-ltb t net.transitions h)
-
-  pub set_yes : net.transitions ≤ t → Yes ≡ judged_set net s
-  set_yes h = rw (← et, le-ltb t net.transitions h)
-
-pub ruleset judgings = (set_no, set_yes)
-
--- which answer, from the fault that was found
-module _ (f found : Fault) (e : found ≡ f) (judged : SetAnswer) where
-  pub set_refused : (n at : ℕ) → found ≡ Faulty n at → set_numbers (Refused n at) ≡ set_numbers (set_answer f judged)
-  set_refused n at q = rw (← e, q)
-
-  pub set_judged : (r : SetAnswer) → found ≡ Sound → r ≡ judged → set_numbers r ≡ set_numbers (set_answer f judged)
-  set_judged r q k = rw (← e, q, k)
-
-pub ruleset set_answers = (set_refused, set_judged)
+-- a transition's row touches the set as its weights in the table do: behind the places there is no member
+pub row_touches : (n t : ℕ) (l s : List ℕ) → length s ≡ n → touches s (λ p. get_or (row n t l) p 0) ≡ touches s (λ p. get_or l (t * n + p) 0)
+unfolding touches
+row_touches n t l s e = ap (λ (f : ℕ → Bool). ltb (first f (length s)) (length s)) (λ j p. same p (dec_lt p n) j)
+  where
+    same : (p : ℕ) → Dec (p < n) → meets (get_or (row n t l) p 0) (get_or s p 0) ≡ meets (get_or l (t * n + p) 0) (get_or s p 0)
+    same p (yes h) = rw (row_at n t l p h)
+    same p (no h) = rw (get_or-eq_default s 0 {n = p} (omega (arith, e)))
 
 -- a net stays sized with its arcs turned round
 pub turned_sized : (net : Net) → Sized net → Sized (turned net)

@@ -1,13 +1,13 @@
 -- To be believed: the answers for a siphon and a trap, by tests on one place's numbers and then by number of the transition. proofs/Meaning.antt shows that
 -- they say what is published.
+use Rattle.std.specs.Prelude.{Ok, Err}
+use Rattle.refusals.specs.Given.{Answer, Fault}
 use Rattle.std.specs.Prelude.{ℕ, Bool, not, cond, ◌&&◌, List, [], ◌∷◌, length, get_or, ltb, leb, eqb}
 use Rattle.ground.specs.Lists.{first}
 use Rattle.net.specs.Net.{Net, net_of, Pre, Post}
 use Rattle.refusals.specs.Given.{refuse, or_else, net_fault}
-use Rattle.refusals.specs.declared.Fault.{Fault}
-use Rattle.refusals.specs.declared.Fault.TheVariants.{Sound, Faulty}
 use Rattle.sets.specs.declared.SetAnswer.{SetAnswer}
-use Rattle.sets.specs.declared.SetAnswer.TheVariants.{Yes, No, Refused}
+use Rattle.sets.specs.declared.SetAnswer.TheVariants.{Yes, No}
 
 -- a place in the set has an arc
 abbrev pub meets : ℕ → ℕ → Bool
@@ -46,19 +46,15 @@ abbrev pub judged_set : Net → List ℕ → SetAnswer
 judged_set net s = cond (ltb (lowest_escape net s) net.transitions) (No (lowest_escape net s)) Yes
 
 -- a fault refuses
-abbrev pub set_answer : Fault → SetAnswer → SetAnswer
-set_answer (Faulty n at) judged = Refused n at
-set_answer Sound judged = judged
-
-abbrev pub siphon_of : Net → List ℕ → SetAnswer
-siphon_of net s = set_answer (set_fault net s) (judged_set net s)
+abbrev pub siphon_of : Net → List ℕ → Answer SetAnswer
+siphon_of net s = or_else (set_fault net s) (Ok (judged_set net s))
 
 -- a trap is judged as a siphon of the net with all arcs turned round
-abbrev pub trap_of : Net → List ℕ → SetAnswer
-trap_of net s = set_answer (set_fault net s) (judged_set (turned net) s)
+abbrev pub trap_of : Net → List ℕ → Answer SetAnswer
+trap_of net s = or_else (set_fault net s) (Ok (judged_set (turned net) s))
 
 -- the numbers for each case: 81 00 (yes); 81 01 and the transition; 82, a refusal's number and position
-abbrev pub set_numbers : SetAnswer → List ℕ
-set_numbers Yes = 0x81 ∷ 0 ∷ []
-set_numbers (No t) = 0x81 ∷ 1 ∷ t ∷ []
-set_numbers (Refused n at) = 0x82 ∷ n ∷ at ∷ []
+abbrev pub set_numbers : Answer SetAnswer → List ℕ
+set_numbers (Ok Yes) = 0x81 ∷ 0 ∷ []
+set_numbers (Ok (No t)) = 0x81 ∷ 1 ∷ t ∷ []
+set_numbers (Err r) = 0x82 ∷ r.number ∷ r.at ∷ []

@@ -8,9 +8,9 @@ use Rattle.net.specs.Net.{Net}
 use Rattle.net.specs.Marks.{remarked, MarksAlike}
 use Rattle.refusals.specs.Given.{stretch, inside}
 use Rattle.refusals.proofs.Marks.{remarked_net}
-use Rattle.summary_form.specs.Summary.{summed, Answers}
-use Rattle.summary_form.specs.declared.Summed.{Summed}
-use Rattle.summary_form.proofs.Answers.{answers_is}
+use Rattle.refusals.specs.Given.{Answer, Fault, or_else}
+use Rattle.std.specs.Prelude.{Ok}
+use Rattle.summary_form.specs.declared.Summary.{Summary}
 use Rattle.summary_form.proofs.Marks.{summary_alike}
 use Rattle.summary.specs.Entry.{part_fault, word_answer}
 
@@ -20,11 +20,11 @@ module _ (net : Net) (marks : List ℕ) (alike : MarksAlike net.caps net.marks m
   same_fault w within = rw (remarked_net net marks alike.long within)
 
   same_answer : (w : List ℕ) (within : Bool) → word_answer net w within ≡ word_answer (remarked net marks) w within
-  same_answer w within = ap₂ summed (same_fault w within) (summary_alike net marks alike w)
+  same_answer w within = ap₂ (λ (f : Fault) (s : Summary). or_else f (Ok s)) (same_fault w within) (summary_alike net marks alike w)
 
   -- two summaries that differ in the marks only are one, and so are two refusals
-  pub word_alike : (w : List ℕ) (r r' : Summed) → Answers (word_answer net w true) r → Answers (word_answer (remarked net marks) w true) r' → r ≡ r'
-  word_alike w r r' a b = answers_is _ r a ∙ same_answer w true ∙ sym (answers_is _ r' b)
+  pub word_alike : (w : List ℕ) (r r' : Answer Summary) → r ≡ word_answer net w true → r' ≡ word_answer (remarked net marks) w true → r ≡ r'
+  word_alike w r r' a b = a ∙ same_answer w true ∙ sym b
 
-  pub stretch_alike : (w : List ℕ) (i j : ℕ) (r r' : Summed) → Answers (word_answer net (stretch w i j) (inside w i j)) r → Answers (word_answer (remarked net marks) (stretch w i j) (inside w i j)) r' → r ≡ r'
-  stretch_alike w i j r r' a b = answers_is _ r a ∙ same_answer (stretch w i j) (inside w i j) ∙ sym (answers_is _ r' b)
+  pub stretch_alike : (w : List ℕ) (i j : ℕ) (r r' : Answer Summary) → r ≡ word_answer net (stretch w i j) (inside w i j) → r' ≡ word_answer (remarked net marks) (stretch w i j) (inside w i j) → r ≡ r'
+  stretch_alike w i j r r' a b = a ∙ same_answer (stretch w i j) (inside w i j) ∙ sym b

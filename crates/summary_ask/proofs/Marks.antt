@@ -1,5 +1,7 @@
 -- Asking a summary looks at no mark, since these have gone into the summary: of two lists of marks with one length either gives the same answer (document
 -- 02, E5). Assumes nothing.
+use Rattle.refusals.specs.Given.{Fault}
+use Rattle.refusals.specs.Given.{Answer}
 use Prim.Native.Nat.{ℕ}
 use mathlib.Core.Path.{◌≡◌, sym, ap, ◌∙◌}
 use mathlib.Core.Bool.{◌&&◌}
@@ -9,7 +11,6 @@ use lib.Dec.{eqb}
 use Rattle.net.specs.Net.{Net}
 use Rattle.net.specs.Marks.{remarked}
 use Rattle.refusals.specs.Given.{refuse, or_else, outside}
-use Rattle.refusals.specs.declared.Fault.{Fault}
 use Rattle.refusals.proofs.Marks.{remarked_marked}
 use Rattle.summary_form.specs.Summary.{shape_fault}
 use Rattle.summary_form.specs.declared.Summary.{Summary}
@@ -26,7 +27,7 @@ module _ (net : Net) (marks : List ℕ) (long : length marks ≡ length net.mark
       (remarked_marked net marks long m (eqb (length room) net.places && eqb s.places net.places))
 
   -- two askings that differ in the marks only have one answer, and one content of the room
-  pub ask_alike : (r r' : Asked) (l l' : List ℕ) → Replied net m s room r l → Replied (remarked net marks) m s room r' l' → (r ≡ r') × (l ≡ l')
+  pub ask_alike : (r r' : Answer Asked) (l l' : List ℕ) → Replied net m s room r l → Replied (remarked net marks) m s room r' l' → (r ≡ r') × (l ≡ l')
   ask_alike r r' l l' a b =
       let e = sym same_answer in
       ask_unique net m s room r r' l l' a

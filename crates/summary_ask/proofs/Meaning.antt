@@ -1,4 +1,6 @@
 -- What a summary asked means: demand 3 of document 01, over the published relation. Assumes nothing.
+use Rattle.std.specs.Prelude.{Ok}
+use Rattle.refusals.specs.Given.{Answer}
 use Prim.Native.Nat.{ℕ, ◌<◌}
 use mathlib.Core.Path.{◌≡◌, refl, sym, ap, ◌∙◌}
 use mathlib.Core.Bool.{true}
@@ -37,7 +39,7 @@ use Rattle.summary_form.proofs.Meaning.{climb_by_mark, slot_here, word_well_form
 use Rattle.summary_form.proofs.Fits.{fires_fits, fits_fires}
 
 -- ---- the promise has one answer, and one content of the room
-pub ask_unique : (net : Net) (m : List ℕ) (s : Summary) (room : List ℕ) (r r' : Asked) (l l' : List ℕ) → Replied net m s room r l → Replied net m s room r' l' → (r ≡ r') × (l ≡ l')
+pub ask_unique : (net : Net) (m : List ℕ) (s : Summary) (room : List ℕ) (r r' : Answer Asked) (l l' : List ℕ) → Replied net m s room r l → Replied net m s room r' l' → (r ≡ r') × (l ≡ l')
 ask_unique net m s room r r' l l' a b = (asked_apart r r' (a.answer ∙ sym b.answer), a.left ∙ sym b.left)
 
 -- ---- demand 3
@@ -53,17 +55,17 @@ fires_ends f p h = ends_at f p h
 
 -- ---- asking
 -- of any summary: yes exactly where the arithmetic holds, and then the room has marking plus change; a no leaves the room
-module _ (net : Net) (m : List ℕ) (s : Summary) (room : List ℕ) (allowed : AskAllowed net m s room) (r : Asked) (room' : List ℕ) (p : Replied net m s room r room') where
-  pub ask_yes : (r ≡ Yes) ↔ Suffices s.slots net.caps m
+module _ (net : Net) (m : List ℕ) (s : Summary) (room : List ℕ) (allowed : AskAllowed net m s room) (r : Answer Asked) (room' : List ℕ) (p : Replied net m s room r room') where
+  pub ask_yes : (r ≡ Ok Yes) ↔ Suffices s.slots net.caps m
   ask_yes =
       let j = slots_asked net m s room allowed r room' p in
       (λ e. (yes_means s.slots net.caps m room r room' j e).0, means_yes s.slots net.caps m room r room' j)
 
-  pub ask_left : r ≡ Yes → room' ≡ ends s.slots m
+  pub ask_left : r ≡ Ok Yes → room' ≡ ends s.slots m
   ask_left e = (yes_means s.slots net.caps m room r room' (slots_asked net m s room allowed r room' p) e).1
 
   -- in signed numbers
-  pub ask_ends : r ≡ Yes → (k : ℕ) → k < net.places → pos (tokens room' k) ≡ pos (tokens m k) +ℤ (get_or s.slots k nil).change
+  pub ask_ends : r ≡ Ok Yes → (k : ℕ) → k < net.places → pos (tokens room' k) ≡ pos (tokens m k) +ℤ (get_or s.slots k nil).change
   ask_ends e k h =
       let y = yes_means s.slots net.caps m room r room' (slots_asked net m s room allowed r room' p) e in
       let l : k < length m = omega (arith, allowed.marked) in
@@ -75,7 +77,7 @@ module _ (net : Net) (m : List ℕ) (s : Summary) (room : List ℕ) (allowed : A
       let d = w.down in
       parts_eq (pos (tokens room' k)) (pos (tokens m k) +ℤ c) (omega (arith, up_sum (pos (tokens m k)) c)) (omega (arith, dn_sum (pos (tokens m k)) c))
 
-  pub ask_no : r ≡ No → room' ≡ room
+  pub ask_no : r ≡ Ok No → room' ≡ room
   ask_no e = (no_means s.slots net.caps m room r room' (slots_asked net m s room allowed r room' p) e).0
 
 -- of a word's summary: yes exactly where the word fires, with the same end marking
@@ -119,25 +121,25 @@ module _ (net : Net) (m w room : List ℕ) (allowed : Allowed net m w true room)
       ∙ ap (λ (s : Slot). end_at s (get_or m p 0)) (slot_is p l)
       ∙ omega (arith, up_sum (pos (get_or m p 0)) (change (letter_at net p) w), ap up (ends_at f p l)))
 
-  module _ (r : Asked) (room' : List ℕ) (p : Replied net m (summary_of net w) room r room') where
-    pub ask_fires : r ≡ Yes → Fires net m w room'
+  module _ (r : Answer Asked) (room' : List ℕ) (p : Replied net m (summary_of net w) room r room') where
+    pub ask_fires : r ≡ Ok Yes → Fires net m w room'
     ask_fires e =
         let k = word_suffices ((ask_yes net m (summary_of net w) room ask_allowed r room' p).0 e) in
         let f = (fires_iff net w m within_given allowed.letters).1 k in
         rw (ask_left net m (summary_of net w) room ask_allowed r room' p e ∙ ends_is f.0 f.1) f.1
 
-    pub fires_ask : (m' : List ℕ) → Fires net m w m' → (r ≡ Yes) × (room' ≡ m')
+    pub fires_ask : (m' : List ℕ) → Fires net m w m' → (r ≡ Ok Yes) × (room' ≡ m')
     fires_ask m' f =
         let y = (ask_yes net m (summary_of net w) room ask_allowed r room' p).1 (suffices_word ((fires_iff net w m within_given allowed.letters).0 (m', f))) in
         (y, ask_left net m (summary_of net w) room ask_allowed r room' p y ∙ ends_is m' f)
 
     -- `ask_summary` of `summary_word` answers yes exactly where `replay_word` answers fired, with the same end marking
-    module _ (x : Replay) (left : List ℕ) (q : Replayed net m w true room x left) where
-      pub ask_replays : (r ≡ Yes) ↔ (x ≡ Fired (length w))
+    module _ (x : Answer Replay) (left : List ℕ) (q : Replayed net m w true room x left) where
+      pub ask_replays : (r ≡ Ok Yes) ↔ (x ≡ Ok (Fired (length w)))
       ask_replays = (
         λ e. (fires_fired net m w true room x left q allowed room' (ask_fires e)).0,
         λ e. (fires_ask left (fired_means net m w true room x left q allowed (length w) e).1).0,
       )
 
-      pub ask_replays_left : r ≡ Yes → room' ≡ left
+      pub ask_replays_left : r ≡ Ok Yes → room' ≡ left
       ask_replays_left e = sym (fires_fired net m w true room x left q allowed room' (ask_fires e)).1

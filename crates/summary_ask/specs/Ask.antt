@@ -1,21 +1,21 @@
 -- To be believed: "A summary asked against a marking answers yes with the end marking, or no, which leaves the room for the end marking untouched.
 -- For a summary no word produced, only the arithmetic holds": the answer is said of the summary's numbers alone.
+use Rattle.std.specs.Prelude.{Ok, Err}
+use Rattle.refusals.specs.Given.{Answer, Fault}
 use Rattle.std.specs.Prelude.{ℕ, ◌<◌, ◌≡◌, Bool, cond, ◌&&◌, List, [], ◌∷◌, length, eqb, leb}
 use Rattle.net.specs.Net.{Net, capacity, tokens}
 use Rattle.refusals.specs.Given.{refuse, or_else, outside, marked_fault}
-use Rattle.refusals.specs.declared.Fault.{Fault}
-use Rattle.refusals.specs.declared.Fault.TheVariants.{Sound, Faulty}
 use Rattle.summary_place.specs.Place.{letter_at, need, published_climb}
 use Rattle.summary_asked.specs.Asked.{lowest_no, ends, SufficesAt}
 use Rattle.summary_place.specs.declared.Slot.{Slot}
 use Rattle.summary_form.specs.Summary.{shape_fault}
 use Rattle.summary_form.specs.declared.Summary.{Summary}
 use Rattle.summary_ask.specs.declared.Asked.{Asked}
-use Rattle.summary_ask.specs.declared.Asked.TheVariants.{Yes, No, Refused}
+use Rattle.summary_ask.specs.declared.Asked.TheVariants.{Yes, No}
 
 -- an answer, and the room left
 pub record Reply : Type 0 where
-  pub answer : Asked
+  pub answer : Answer Asked
   pub left : List ℕ
 
 -- 1 for the summary's own place count; 1, 2, 18, 3 and 17 for the net and the marking, with the room's length and the summary's place count; then 6
@@ -30,25 +30,25 @@ says_yes slots caps m = leb (length m) (lowest_no slots caps m)
 
 -- the answer of the slots, and the room
 abbrev pub slots_reply : List Slot → List ℕ → List ℕ → List ℕ → Reply
-slots_reply slots caps m room = cond (says_yes slots caps m) (record { answer = Yes; left = ends slots m }) (record { answer = No; left = room })
+slots_reply slots caps m room = cond (says_yes slots caps m) (record { answer = Ok Yes; left = ends slots m }) (record { answer = Ok No; left = room })
 
 -- "A refusal leaves lent memory as found."
 abbrev pub replied : Fault → Reply → List ℕ → Reply
-replied Sound reply room = reply
-replied (Faulty n at) reply room = record { answer = Refused n at; left = room }
+replied (Ok _) reply room = reply
+replied (Err r) reply room = record { answer = Err r; left = room }
 
 abbrev pub ask_answer : Net → List ℕ → Summary → List ℕ → Reply
 ask_answer net m s room =
     replied (ask_fault net m s (eqb (length room) net.places)) (slots_reply s.slots net.caps m room) room
 
 -- document 01's numbers for each case: 81 00 yes, 81 01 no; 82, a refusal's number and position
-abbrev pub asked_numbers : Asked → List ℕ
-asked_numbers Yes = 0x81 ∷ 0 ∷ []
-asked_numbers No = 0x81 ∷ 1 ∷ []
-asked_numbers (Refused n at) = 0x82 ∷ n ∷ at ∷ []
+abbrev pub asked_numbers : Answer Asked → List ℕ
+asked_numbers (Ok Yes) = 0x81 ∷ 0 ∷ []
+asked_numbers (Ok No) = 0x81 ∷ 1 ∷ []
+asked_numbers (Err r) = 0x82 ∷ r.number ∷ r.at ∷ []
 
 -- what is promised of the answer r and of the room at its end
-pub record Replied (net : Net) (m : List ℕ) (s : Summary) (room : List ℕ) (r : Asked) (room' : List ℕ) : Type 0 where
+pub record Replied (net : Net) (m : List ℕ) (s : Summary) (room : List ℕ) (r : Answer Asked) (room' : List ℕ) : Type 0 where
   pub answer : asked_numbers r ≡ asked_numbers (ask_answer net m s room).answer
   pub left : room' ≡ (ask_answer net m s room).left
 

@@ -1,4 +1,5 @@
 -- Laws of a well-formed summary: as the code tests it and as published; of a word, and empty. Assumes nothing.
+use Rattle.std.specs.Prelude.{Ok}
 use Prim.Native.Nat.{ℕ, ◌+◌, ◌*◌, ◌≤◌, ◌<◌, zero-le}
 use mathlib.Core.Path.{◌≡◌}
 use mathlib.Core.Bool.{Bool, true, false, cond}
@@ -13,7 +14,6 @@ use Rattle.ground.specs.Limits.{count_limit, weight_limit, word_limit}
 use Rattle.ground.proofs.Fill.{table_length, table_at}
 use Rattle.ground.proofs.Parts.{parts_eq, le_pos, neg_le}
 use Rattle.net.specs.Net.{Net, Light}
-use Rattle.refusals.specs.declared.Fault.TheVariants.{Sound}
 use Rattle.summary_place.specs.Place.{letter_at}
 use Rattle.summary_place.specs.Slots.{nil, slot_of, slot_at}
 use Rattle.summary_place.specs.Walk.{Well}
@@ -64,18 +64,18 @@ module _ (s : Summary) (p : ℕ) where
       go (no h) = let o : s.places ≤ p = omega arith in rw (le-ltb p s.places o, f.past o) (nil_well 0)
 
 -- nothing is refused by 6 exactly where the summary is well formed as published
-pub formed_of_lem : (s : Summary) → shape_fault s ≡ Sound → WellFormed s
+pub formed_of_lem : (s : Summary) → shape_fault s ≡ Ok tt → WellFormed s
 formed_of_lem s e =
     let a = shape_sound s e in
     record { few = a.0; slots = record { each = λ p l. formed_at s p (wells_of s.places (weight_limit * s.letters) s.slots a.1 p l) } }
 
-pub of_formed : (s : Summary) → WellFormed s → shape_fault s ≡ Sound
+pub of_formed : (s : Summary) → WellFormed s → shape_fault s ≡ Ok tt
 of_formed s f = sound_shape s f.few (λ p l. at_formed s p (f.slots.each p l))
 
 -- a summary as the code holds one: 64 slots, well formed
 pub record Shaped (s : Summary) : Type 0 where
   pub slots : length s.slots ≡ count_limit
-  pub shaped : shape_fault s ≡ Sound
+  pub shaped : shape_fault s ≡ Ok tt
 
 pub wells_at : (s : Summary) → Shaped s → (p : ℕ) → p < count_limit → Well (bound s.places s.letters p) (get_or s.slots p nil)
 wells_at s f p h = wells_of s.places (weight_limit * s.letters) s.slots (shape_sound s f.shaped).1 p h

@@ -1,7 +1,6 @@
 pub mod Shapes
 pub mod Places
 pub mod Formed
-pub mod Answers
 pub mod Meaning
 pub mod Exactly
 pub mod Marks

@@ -1,4 +1,5 @@
 -- What a summary means: its numbers are the published ones, and it is well formed exactly where refusal 6 is not given. Assumes nothing.
+use Rattle.std.specs.Prelude.{Ok}
 use Prim.Native.Nat.{ℕ, ◌-◌, ◌*◌, ◌≤◌, ◌<◌}
 use mathlib.Core.Path.{◌≡◌, refl, sym, ap, ◌∙◌}
 use mathlib.Core.Bool.{Bool, true, false, cond}
@@ -16,7 +17,6 @@ use Rattle.ground.specs.Lists.{most}
 use Rattle.ground.proofs.Fill.{table_length, table_at}
 use Rattle.net.specs.Net.{Net, Pre, Post, capacity, Capped, mark, Pocket, in_force, Light, Sized}
 use Rattle.net.proofs.Rule.{leaves_plain, leaves_pocket, force_capped, force_uncapped}
-use Rattle.refusals.specs.declared.Fault.TheVariants.{Sound}
 use Rattle.summary_place.specs.Place.{Move, letter_at, need, climb, change, prefix_climb, pocket_climb, published_climb}
 use Rattle.summary_place.specs.Slots.{nil, slot_of, slot_at, slots_of}
 use Rattle.summary_place.specs.declared.Slot.{Slot}
@@ -97,7 +97,7 @@ empty_word net = λ i. record { places = net.places; letters = 0; slots = same i
 
 -- ---- well formed
 -- refusal 6 is not given exactly where a summary is well formed as published
-pub well_formed_iff : (s : Summary) → (shape_fault s ≡ Sound) ↔ WellFormed s
+pub well_formed_iff : (s : Summary) → (shape_fault s ≡ Ok tt) ↔ WellFormed s
 well_formed_iff s = (formed_of_lem s, of_formed s)
 
 -- "so every stored summary stays well formed" (document 02, E6): what is well formed by one limit of weights is so by every larger one
@@ -114,7 +114,7 @@ still_well_formed a b h s w = record { few = w.few; slots = record { each = λ p
     formed p f = record { at = λ k. well (get_or s.slots p nil) (f.at k); past = f.past }
 
 -- so one that was stored under any limit up to the one of now, as 01's is, is not refused with 6
-pub stored_stays : (limit : ℕ) → limit ≤ weight_limit → (s : Summary) → WellFormedBy limit s → shape_fault s ≡ Sound
+pub stored_stays : (limit : ℕ) → limit ≤ weight_limit → (s : Summary) → WellFormedBy limit s → shape_fault s ≡ Ok tt
 stored_stays limit h s w = of_formed s (still_well_formed limit weight_limit h s w)
 
 pub word_well_formed : (net : Net) (w : List ℕ) → Sized net → Light net → length w ≤ word_limit → Held net.places (summary_of net w)

@@ -1,16 +1,13 @@
 -- To be believed: the summary of a word, the empty summary, and when a summary is well formed (document 01, "Summaries").
+use Rattle.std.specs.Prelude.{Ok, Err}
+use Rattle.refusals.specs.Given.{Answer, Fault}
 use Rattle.std.specs.Prelude.{ℕ, ◌*◌, ◌≤◌, ◌<◌, ◌≡◌, List, [], ◌∷◌, length, get_or, replicate, ltb, pos, neg_ℤ, ◌≤ℤ◌}
 use Rattle.ground.specs.Limits.{count_limit, weight_limit, word_limit}
 use Rattle.net.specs.Net.{Net}
 use Rattle.refusals.specs.Given.{refuse, or_else}
-use Rattle.refusals.specs.declared.Fault.{Fault}
-use Rattle.refusals.specs.declared.Fault.TheVariants.{Sound, Faulty}
 use Rattle.summary_place.specs.Slots.{nil, slots_of, bad_slot}
 use Rattle.summary_place.specs.declared.Slot.{Slot}
 use Rattle.summary_form.specs.declared.Summary.{Summary}
-use Rattle.summary_form.specs.declared.Made.{Made}
-use Rattle.summary_form.specs.declared.Made.TheVariants.{Done, Refused}
-use Rattle.summary_form.specs.declared.Summed.{Summed}
 
 -- "A summary holds the place count, the length n, and these three per place."
 abbrev pub summary_of : Net → List ℕ → Summary
@@ -20,28 +17,10 @@ summary_of net w = record { places = net.places; letters = length w; slots = slo
 abbrev pub empty_summary : ℕ → Summary
 empty_summary P = record { places = P; letters = 0; slots = replicate count_limit nil }
 
--- a refusal, which comes with the empty summary of no places
-abbrev pub refusal : ℕ → ℕ → Summed
-refusal n at = record { answer = Refused n at; summary = empty_summary 0 }
-
--- a summary that was made
-abbrev pub made : Summary → Summed
-made s = record { answer = Done; summary = s }
-
--- an answer: a summary, or where something was at fault a refusal
-abbrev pub summed : Fault → Summary → Summed
-summed Sound s = made s
-summed (Faulty n at) s = refusal n at
-
--- document 01's numbers for each case: 81 00; 82, a refusal's number and position
-abbrev pub made_numbers : Made → List ℕ
-made_numbers Done = 0x81 ∷ 0 ∷ []
-made_numbers (Refused n at) = 0x82 ∷ n ∷ at ∷ []
-
--- what is promised of an answer r, where x is the answer
-pub record Answers (x r : Summed) : Type 0 where
-  pub answer : made_numbers r.answer ≡ made_numbers x.answer
-  pub summary : r.summary ≡ x.summary
+-- document 01's numbers for each case of an answer that carries a summary: 81 00; 82, a refusal's number and position
+abbrev pub made_numbers : Answer Summary → List ℕ
+made_numbers (Ok s) = 0x81 ∷ 0 ∷ []
+made_numbers (Err r) = 0x82 ∷ r.number ∷ r.at ∷ []
 
 -- 6: "a summary isn't well formed"; position "0 if n is too large, else the lowest place or slot"
 abbrev pub bad_of : Summary → ℕ

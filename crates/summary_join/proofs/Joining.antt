@@ -1,53 +1,23 @@
 -- Laws of the refusals of a join: which one is given, and that none is exactly where the two summaries may be joined. Assumes nothing.
-use Prim.Native.Nat.{ℕ, ◌+◌, ◌≤◌, ◌<◌}
-use mathlib.Core.Path.{◌≡◌, sym, ◌∙◌}
-use mathlib.Core.Bool.{Bool, true, false, ◌||◌}
-use native.Mathlib.Omega.{arith}
+use Rattle.std.specs.Prelude.{Ok, Err}
+use Rattle.refusals.specs.Given.{refusal}
+use Prim.Native.Nat.{◌+◌, ◌<◌}
+use mathlib.Core.Path.{◌≡◌}
+use mathlib.Core.Bool.{◌||◌}
 use lib.Dec.{ltb}
-use mir.Syntax.{w32}
-use mir.Val.{Fits}
-use borrow.Author.Tests.{lt-ltb, le-ltb, ltb-false, eq-eqb, ne_eqb}
+use borrow.Author.Tests.{lt-ltb, le-ltb, ltb-false, eq-eqb}
 use Rattle.ground.specs.Limits.{word_limit}
 use Rattle.ground.proofs.Tests.{or-false, both_false, unlike_false, like_false}
-use Rattle.refusals.specs.Given.{refuse, or_else, outside, unlike}
-use Rattle.refusals.specs.declared.Fault.{Fault}
-use Rattle.refusals.specs.declared.Fault.TheVariants.{Sound, Faulty}
+use Rattle.refusals.specs.Given.{refuse, outside, unlike}
 use Rattle.refusals.proofs.Chains.{or_sound, sound_or, refuse_sound, sound_refuse}
 use Rattle.summary_form.specs.Summary.{shape_fault, WellFormed, Count}
 use Rattle.summary_join.specs.Join.{later_fault, join_fault}
 use Rattle.summary_join.specs.Allowed.{JoinAllowed}
 use Rattle.summary_form.specs.declared.Summary.{Summary}
-use Rattle.summary_form.proofs.Shapes.{shape_few}
 use Rattle.summary_form.proofs.Formed.{formed_of_lem, of_formed, count_of, of_count}
 
--- the letters of two summaries, the second as found, together
-pub both_fit : (b : Summary) (found : Fault) (n : ℕ) → found ≡ shape_fault b → found ≡ Sound → n ≤ word_limit → Fits w32 (n + b.letters)
-both_fit b found n e q h = record { fits = omega (arith, shape_few b found e q) }
-
--- which refusal of a join: x and y are the tests of the two place counts; where these are in range and alike, the rest decides
-module _ (a b : Summary) (x : Bool) (ex : x ≡ outside a.places) where
-  pub join_count : x ≡ true → Faulty 1 0 ≡ join_fault a b
-  unfolding join_fault
-  join_count q = rw (sym ex ∙ q)
-
-  module _ (y : Bool) (qx : x ≡ false) (ey : y ≡ outside b.places) where
-    pub join_count_2 : y ≡ true → Faulty 1 0 ≡ join_fault a b
-    unfolding join_fault
-    join_count_2 q = rw (sym ex ∙ qx, sym ey ∙ q)
-
-    module _ (qy : y ≡ false) where
-      pub join_unlike : (a.places ≡ b.places → ⊥) → Faulty 2 0 ≡ join_fault a b
-      unfolding join_fault
-      join_unlike h = rw (sym ex ∙ qx, sym ey ∙ qy, ne_eqb a.places b.places h)
-
-      pub join_like : (r : Fault) → a.places ≡ b.places → r ≡ or_else (shape_fault a) (later_fault a.letters b) → r ≡ join_fault a b
-      unfolding join_fault
-      join_like r h k = rw (sym ex ∙ qx, sym ey ∙ qy, eq-eqb a.places b.places h) k
-
-pub ruleset join_faults = (join_count, join_count_2, join_unlike, join_like)
-
 -- nothing is refused exactly where two summaries may be joined
-pub join_allowed_of : (a b : Summary) → join_fault a b ≡ Sound → JoinAllowed a b
+pub join_allowed_of : (a b : Summary) → join_fault a b ≡ Ok tt → JoinAllowed a b
 unfolding join_fault later_fault
 join_allowed_of a b e =
     let p = or_sound (refuse (outside a.places || outside b.places) 1 0) _ e in
@@ -64,7 +34,7 @@ join_allowed_of a b e =
       few = ltb-false _ _ (refuse_sound _ 7 0 t.1);
     }
 
-pub of_join_allowed : (a b : Summary) → JoinAllowed a b → join_fault a b ≡ Sound
+pub of_join_allowed : (a b : Summary) → JoinAllowed a b → join_fault a b ≡ Ok tt
 unfolding join_fault later_fault
 of_join_allowed a b j =
     sound_or _ _ (sound_refuse _ 1 0 (both_false _ _ (of_count a.places j.first_count) (of_count b.places j.second_count)))
@@ -72,7 +42,7 @@ of_join_allowed a b j =
     (sound_or _ _ (of_formed a j.first_formed) (sound_or _ _ (of_formed b j.second_formed) (sound_refuse _ 7 0 (le-ltb word_limit (a.letters + b.letters) j.few)))))
 
 -- lengths that are too large together are the last thing that is looked at
-pub over_joined : (a b : Summary) → Count a.places → Count b.places → a.places ≡ b.places → WellFormed a → WellFormed b → word_limit < a.letters + b.letters → join_fault a b ≡ Faulty 7 0
+pub over_joined : (a b : Summary) → Count a.places → Count b.places → a.places ≡ b.places → WellFormed a → WellFormed b → word_limit < a.letters + b.letters → join_fault a b ≡ Err (refusal 7 0)
 unfolding join_fault later_fault
 over_joined a b x y e p q h =
     rw (of_count a.places x, of_count b.places y, eq-eqb a.places b.places e, of_formed a p, of_formed b q, lt-ltb word_limit (a.letters + b.letters) h)

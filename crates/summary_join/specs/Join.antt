@@ -1,14 +1,11 @@
 -- To be believed: the join of two summaries, with its refusals "in number order": 1, 2, 6, 7; for one number the first summary before the second.
-use Rattle.std.specs.Prelude.{ℕ, ◌+◌, ◌||◌, ltb}
+use Rattle.refusals.specs.Given.{Answer, Fault}
+use Rattle.std.specs.Prelude.{Ok, Err, ℕ, ◌+◌, ◌||◌, ltb}
 use Rattle.ground.specs.Limits.{word_limit}
 use Rattle.refusals.specs.Given.{refuse, or_else, outside, unlike}
-use Rattle.refusals.specs.declared.Fault.{Fault}
 use Rattle.summary_place.specs.Slots.{joined_all}
-use Rattle.summary_form.specs.Summary.{summed, shape_fault}
+use Rattle.summary_form.specs.Summary.{shape_fault}
 use Rattle.summary_form.specs.declared.Summary.{Summary}
-use Rattle.summary_form.specs.declared.Made.{Made}
-use Rattle.summary_form.specs.declared.Made.TheVariants.{Done, Refused}
-use Rattle.summary_form.specs.declared.Summed.{Summed}
 
 -- "Join of a then b: lengths .. add", and each place is joined
 abbrev pub join_summary : Summary → Summary → Summary
@@ -25,13 +22,10 @@ join_fault a b =
     (or_else (refuse (unlike a.places b.places) 2 0)
     (or_else (shape_fault a) (later_fault a.letters b)))
 
-abbrev pub join_answer : Summary → Summary → Summed
-join_answer a b = summed (join_fault a b) (join_summary a b)
+abbrev pub join_answer : Summary → Summary → Answer Summary
+join_answer a b = or_else (join_fault a b) (Ok (join_summary a b))
 
 -- one join after another: what is refused stays refused
-abbrev pub unless_refused : Made → Summed → Summed → Summed
-unless_refused Done r next = next
-unless_refused (Refused n at) r next = r
-
-abbrev pub then_join : Summed → (Summary → Summed) → Summed
-then_join r f = unless_refused r.answer r (f r.summary)
+abbrev pub then_join : Answer Summary → (Summary → Answer Summary) → Answer Summary
+then_join (Ok s) f = f s
+then_join (Err r) f = Err r

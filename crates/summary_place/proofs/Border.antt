@@ -1,5 +1,5 @@
 -- A slot's signed change as the machine holds it. Assumes nothing.
-use Prim.Native.Nat.{◌+◌, ◌^◌, ◌≤◌, ◌<◌}
+use Prim.Native.Nat.{◌^◌, ◌≤◌, ◌<◌}
 use mathlib.Core.Path.{◌≡◌, ap}
 use native.Mathlib.Omega.{arith}
 use lib.IntN.{ℤ, pos, negsuc}
@@ -18,10 +18,6 @@ change_fits s h = record { sfits = go s.change (omega (arith, slot_room)) (omega
     go : (z : ℤ) → up z < 2 ^ 31 → dn z ≤ 2 ^ 31 → mag z < 2 ^ 31
     go (pos n) p q = p
     go (negsuc n) p q = q
-
--- what two slots gain or lose together has room too, however they were made
-pub slots_room : slot_limit + slot_limit < 2 ^ 31
-slots_room = omega (arith, slot_room)
 
 -- what is read back
 pub up_read : (s : Slot) → SFits w32 s.change → up (to_z w32 (of_z w32 s.change)) ≡ up s.change

@@ -4,7 +4,6 @@ use mathlib.Core.Path.{◌≡◌, refl, sym, ap, ap₂, ◌∙◌}
 use mathlib.Core.List.{List}
 use native.Mathlib.Omega.{arith}
 use native.Mathlib.Numerals.{add-one}
-use native.Mathlib.Nat.{suc-mul, mul-le-mul_right}
 use native.Mathlib.Decide.{dec_lt}
 use borrow.Author.Tests.{lt-ltb, le-ltb}
 use lib.ListN.{length, take, get_or, replicate, length-replicate, get_or-replicate}
@@ -14,7 +13,8 @@ use Rattle.ground.specs.Limits.{count_limit, weight_limit}
 use Rattle.ground.specs.Lists.{most}
 use Rattle.ground.proofs.Most.{most_none}
 use Rattle.ground.proofs.Fill.{Filled, table_length, table_at}
-use Rattle.net.specs.Net.{Net, Pre, Post, capacity, mark, in_force, rise_of, Light}
+use Rattle.net.specs.Net.{Net, Pre, Post, capacity, mark, in_force, rise_of, Light, Sized}
+use Rattle.net.proofs.Rows.{pre_in, post_in}
 use Rattle.refusals.specs.Given.{Letters}
 use Rattle.summary_place.specs.Place.{Move, letter_at}
 use Rattle.summary_place.specs.Slots.{nil, slot_of, slot_at, slots_of}
@@ -23,12 +23,7 @@ use Rattle.summary_place.specs.declared.Slot.{Slot}
 use Rattle.summary_place.proofs.Peaks.{total, total_more, height_at, peak_more}
 use Rattle.summary_place.proofs.Words.{takes, puts, rise, change_is, need_most, climb_most}
 
--- entry p of row t stands inside the table
-pub cell_inside : (T P : ℕ) (l w : List ℕ) (i p : ℕ) → length l ≡ T * P → p < P → Letters T w → i < length w → get_or w i 0 * P + p < length l
-cell_inside T P l w i p e h letters b = let t = get_or w i 0 in omega (arith, suc-mul t P, mul-le-mul_right P (letters.at i b))
-
 pub record Running (at : ℕ → Move) (w : List ℕ) (gained lost need climb i : ℕ) : Type 0 where
-  pub within : i ≤ length w
   pub gains : gained ≡ total (puts at) (take i w)
   pub losses : lost ≡ total (takes at) (take i w)
   pub needs : need ≡ most i (height_at (takes at) (takes at) (puts at) w)
@@ -40,7 +35,6 @@ module _ (at : ℕ → Move) (w : List ℕ) where
   pub run_start : Running at w 0 0 0 0 0
   run_start =
       record {
-        within = zero-le;
         gains = refl;
         losses = refl;
         needs = sym (most_none _);
@@ -53,7 +47,6 @@ module _ (at : ℕ → Move) (w : List ℕ) where
     pub run_next : (x y r n' k' : ℕ) → i < length w → x ≡ takes at (get_or w i 0) → y ≡ puts at (get_or w i 0) → r ≡ rise at (get_or w i 0) → n' ≡ step n x l g → k' ≡ step k r g l → x ≤ weight_limit → y ≤ weight_limit → Running at w (g + y) (l + x) n' k' (i + 1)
     run_next x y r n' k' h ex ey er en ek p q =
         record {
-          within = omega arith;
           gains = ap₂ ◌+◌ run.gains ey ∙ rw (add-one i) (sym (total_more (puts at) w i h));
           losses = ap₂ ◌+◌ run.losses ex ∙ rw (add-one i) (sym (total_more (takes at) w i h));
           needs = en ∙ (λ j. step (run.needs j) (ex j) (run.losses j) (run.gains j)) ∙ peak_more (takes at) (takes at) (puts at) w i;
@@ -62,9 +55,9 @@ module _ (at : ℕ → Move) (w : List ℕ) where
           few_lost = omega arith;
         }
 
-    pub run_end : (c : ℤ) → length w ≤ i → c ≡ sub_ℕ g l → ◌≡◌ {A = Slot} (record { need = n; climb = k; change = c }) (slot_of at w)
+    pub run_end : (c : ℤ) → i ≤ length w → length w ≤ i → c ≡ sub_ℕ g l → ◌≡◌ {A = Slot} (record { need = n; climb = k; change = c }) (slot_of at w)
     unfolding slot_of
-    run_end c h e =
+    run_end c b h e =
         let q : i ≡ length w = omega arith in
         let t : take i w ≡ w = take_all i w h in
         λ j. record {
@@ -75,13 +68,13 @@ module _ (at : ℕ → Move) (w : List ℕ) where
 
 -- one letter of a net: f is the mark in force, x and y are its cells, whose limit is the net's
 module _ (net : Net) (light : Light net) (p : ℕ) (w : List ℕ) (g l n k i : ℕ) (run : Running (letter_at net p) w g l n k i) where
-  pub run_letter : (f x y r n' k' : ℕ) → i < length w → f ≡ in_force (capacity net p) (mark net p) → x ≡ Pre net p (get_or w i 0) → y ≡ Post net p (get_or w i 0) → r ≡ rise_of f x y → n' ≡ step n x l g → k' ≡ step k r g l → Running (letter_at net p) w (g + y) (l + x) n' k' (i + 1)
-  run_letter f x y r n' k' h ef ex ey er en ek =
-      let t = get_or w i 0 in
-      run_next (letter_at net p) w g l n k i run x y r n' k' h ex ey (er ∙ (λ j. rise_of (ef j) (ex j) (ey j))) en ek
+  pub run_letter : (t f x y r n' k' : ℕ) → i < length w → t ≡ get_or w i 0 → f ≡ in_force (capacity net p) (mark net p) → x ≡ Pre net p t → y ≡ Post net p t → r ≡ rise_of f x y → n' ≡ step n x l g → k' ≡ step k r g l → Running (letter_at net p) w (g + y) (l + x) n' k' (i + 1)
+  run_letter t f x y r n' k' h et ef ex ey er en ek =
+      run_next (letter_at net p) w g l n k i run x y r n' k' h (ex ∙ ap (Pre net p) et) (ey ∙ ap (Post net p) et)
+      (er ∙ (λ j. rise_of (ef j) (ex j) (ey j)) ∙ ap (λ (u : ℕ). rise_of (in_force (capacity net p) (mark net p)) (Pre net p u) (Post net p u)) et) en ek
       (rw ex (light.pre (t * net.places + p))) (rw ey (light.post (t * net.places + p)))
 
-pub ruleset runs = (cell_inside, run_start, run_end)
+pub ruleset runs = (run_start, run_end)
 
 -- the loop over the places, from slots that are all zero
 module _ (net : Net) (w : List ℕ) (slots₀ : List Slot) (zero-slots : slots₀ ≡ replicate count_limit nil) (p : ℕ) (slots : List Slot) (f : Filled nil (λ k x. slot_of (letter_at net k) w) slots₀ p slots) where

@@ -8,10 +8,10 @@ use lib.IntN.{ℤ, ◌+ℤ◌, +ℤ_assoc, +ℤ_idl, +ℤ_idr}
 use lib.Seq.{ext_get_or}
 use Rattle.ground.specs.Limits.{count_limit}
 use Rattle.ground.specs.Parts.{up, dn}
-use Rattle.ground.proofs.Fill.{Filled, fill_here, fill_end, map_at_length, map_at_at}
+use Rattle.ground.proofs.Fill.{Filled, fill_end, map_at_length, map_at_at}
 use Rattle.ground.proofs.Parts.{up_sum, dn_sum}
 use Rattle.summary_place.specs.Slots.{nil, joined, joined_all}
-use Rattle.summary_place.specs.Walk.{step, Well, Wells}
+use Rattle.summary_place.specs.Walk.{step, Well}
 use Rattle.summary_place.specs.declared.Slot.{Slot}
 use Rattle.summary_place.proofs.Steps.{step_y, step_least, step_is, step_diff, step_assoc, step_left, step_right}
 use Rattle.summary_place.proofs.Words.{minus_up, plus_up}
@@ -98,10 +98,7 @@ all_assoc a b c e =
     ∙ sym (ap (joined (get_or a k nil)) (all-at b c k (omega arith)))
     ∙ sym (all-at a (joined_all b c) k l))
 
--- the loop that joins in place: the slot that it has come to, and its end
+-- the loop that joins in place, at its end
 module _ (a b : List Slot) (p : ℕ) (r : List Slot) (f : Filled nil (λ k x. joined x (get_or b k nil)) a p r) where
-  pub joining : (cap : ℕ) → Wells cap a → p < count_limit → Well cap (get_or r p nil)
-  joining cap w h = rw (fill_here nil (λ k x. joined x (get_or b k nil)) a p r f) (w.at p h)
-
   pub joins_end : length a ≡ count_limit → count_limit ≤ p → r ≡ joined_all a b
   joins_end e h = fill_end nil (λ k x. joined x (get_or b k nil)) a p r f (omega (arith, f.long))

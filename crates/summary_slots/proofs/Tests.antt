@@ -1,14 +1,12 @@
 -- Laws of the tests on slots: what a slot that is not bad has. Assumes nothing.
 use Prim.Native.Nat.{ℕ, ◌≤◌, ◌<◌, zero-le}
-use mathlib.Core.Path.{◌≡◌, ◌∙◌}
+use mathlib.Core.Path.{◌≡◌}
 use mathlib.Core.Bool.{Bool, true, false, cond}
 use mathlib.Core.List.{List}
 use native.Mathlib.Omega.{arith}
 use lib.ListN.{get_or}
 use lib.Dec.{ltb}
-use mir.Syntax.{w32}
-use mir.Val.{SFits, to_z, of_z}
-use borrow.Author.Tests.{lt-ltb, le-ltb, ltb-false}
+use borrow.Author.Tests.{le-ltb, ltb-false}
 use Rattle.ground.specs.Limits.{count_limit}
 use Rattle.ground.specs.Parts.{up, dn}
 use Rattle.ground.proofs.Tests.{or-false, both_false}
@@ -16,7 +14,6 @@ use Rattle.ground.proofs.Scan.{first_below, first_none}
 use Rattle.summary_place.specs.Slots.{nil, slot_bad, bad_at, bad_slot}
 use Rattle.summary_place.specs.Walk.{Well, Wells}
 use Rattle.summary_place.specs.declared.Slot.{Slot}
-use Rattle.summary_place.proofs.Border.{up_read, dn_read}
 
 pub not_bad : (cap : ℕ) (s : Slot) → slot_bad cap s ≡ false → Well cap s
 unfolding slot_bad
@@ -33,37 +30,6 @@ well_not cap s w =
     (both_false _ _ (le-ltb cap s.climb w.climb)
     (both_false _ _ (le-ltb s.need (dn s.change) w.down) (le-ltb s.climb (up s.change) w.top)))
 
--- which test a bad slot fails: d and u are the parts of its change, as read
-module _ (cap : ℕ) (s : Slot) where
-  pub bad_need : cap < s.need → true ≡ slot_bad cap s
-  unfolding slot_bad
-  bad_need h = rw (lt-ltb cap s.need h)
-
-  module _ (p : s.need ≤ cap) where
-    pub bad_climb : cap < s.climb → true ≡ slot_bad cap s
-    unfolding slot_bad
-    bad_climb h = rw (le-ltb cap s.need p, lt-ltb cap s.climb h)
-
-    module _ (q : s.climb ≤ cap) (d : ℕ) (f : SFits w32 s.change) (e : d ≡ dn (to_z w32 (of_z w32 s.change))) where
-      pub bad_down : s.need < d → true ≡ slot_bad cap s
-      unfolding slot_bad
-      bad_down h = rw (le-ltb cap s.need p, le-ltb cap s.climb q, ← (e ∙ dn_read s f), lt-ltb s.need d h)
-
-      pub bad_top : (u : ℕ) → d ≤ s.need → u ≡ up (to_z w32 (of_z w32 s.change)) → ltb s.climb u ≡ slot_bad cap s
-      unfolding slot_bad
-      bad_top u h o = rw (le-ltb cap s.need p, le-ltb cap s.climb q, ← (e ∙ dn_read s f), le-ltb s.need d h, ← (o ∙ up_read s f))
-
-pub ruleset bads = (bad_need, bad_climb, bad_down, bad_top)
-
--- the bound of the slot at p
-pub bad_here : (places cap p : ℕ) (s : Slot) (r : Bool) → p < places → r ≡ slot_bad cap s → r ≡ bad_at places cap p s
-bad_here places cap p s r h e = rw (lt-ltb p places h) e
-
-pub bad_past : (places cap p : ℕ) (s : Slot) (r : Bool) → places ≤ p → r ≡ slot_bad 0 s → r ≡ bad_at places cap p s
-bad_past places cap p s r h e = rw (le-ltb p places h) e
-
-pub ruleset bounds = (bad_here, bad_past)
-
 -- all slots of a summary are well formed, each by its own bound
 pub cap_low : (places cap p : ℕ) → cond (ltb p places) cap 0 ≤ cap
 cap_low places cap p = go (ltb p places)
@@ -71,9 +37,6 @@ cap_low places cap p = go (ltb p places)
     go : (b : Bool) → cond b cap 0 ≤ cap
     go true = omega arith
     go false = zero-le
-
-pub well_at : (cap : ℕ) (slots : List Slot) (p : ℕ) → Wells cap slots → p < count_limit → Well cap (get_or slots p nil)
-well_at cap slots p w h = w.at p h
 
 pub nil_well : (cap : ℕ) → Well cap nil
 nil_well cap = record { need = zero-le; climb = zero-le; down = zero-le; top = zero-le }

@@ -1,4 +1,7 @@
 -- What the program's line means. Assumes nothing.
+use Rattle.std.specs.Prelude.{Ok, Err}
+use Rattle.refusals.specs.Given.{refused}
+use Rattle.refusals.proofs.Chains.{refused_one}
 use Prim.Native.Nat.{ℕ, ◌<◌}
 use mathlib.Core.Path.{◌≡◌, refl, sym, subst, ap, ◌∙◌}
 use mathlib.Core.Bool.{true}
@@ -10,15 +13,14 @@ use Rattle.file_digits.specs.Frame.{all_digits, line_feed}
 use Rattle.file_put.specs.Put.{digits_of, line_text}
 use Rattle.file_digits.proofs.Bytes.{Below}
 use Rattle.file_line.specs.declared.Reading.{Reading}
-use Rattle.file_line.specs.Read.{Rooms, fresh, net_in}
+use Rattle.file_line.specs.declared.Rooms.{Rooms}
+use Rattle.file_line.specs.Read.{fresh, net_in}
 use Rattle.file_line.specs.Walk.{Large}
-use Rattle.file_parts.specs.declared.Case.{Case}
-use Rattle.file_parts.specs.declared.Case.TheVariants as file
-use Rattle.file_parts.specs.File.{Both, both, going, stopped, feed_all, read_of, together, feed_parts, case_of}
+use Rattle.file_parts.specs.File.{Both, Case, both, going, stopped, feed_all, read_of, together, feed_parts, case_of}
 use Rattle.file_parts.proofs.Line.{stays, all_append, any_cutting}
 use Rattle.net.specs.Firing.{Fires}
 use Rattle.replay.specs.Entry.{Replayed, Allowed}
-use Rattle.plays.specs.declared.Replay.TheVariants.{Fired, Refused}
+use Rattle.plays.specs.declared.Replay.TheVariants.{Fired}
 use Rattle.replay.proofs.Meaning.{allowed_answered, fires_fired}
 use Rattle.verdict_text.specs.Verdict.{bytes_of}
 use Rattle.verdict_text.proofs.Meaning.{bytes_below}
@@ -43,12 +45,12 @@ pub replayed : (s : Reading) (x : Rooms) → Replayed (net_in s x) (marking_in s
 replayed s x = record { answer = refl; left = refl }
 
 -- of a whole case that document 01 allows the line is a verdict, 81, and never a refusal
-pub allowed_not_refused : (s : Reading) (x : Rooms) → Allowed (net_in s x) (marking_in s x) (word_in s x) true (room_for s) → (n at : ℕ) → (ran_read s x).answer ≡ Refused n at → ⊥
+pub allowed_not_refused : (s : Reading) (x : Rooms) → Allowed (net_in s x) (marking_in s x) (word_in s x) true (room_for s) → (n at : ℕ) → (ran_read s x).answer ≡ refused n at → ⊥
 allowed_not_refused s x a = allowed_answered (net_in s x) (marking_in s x) (word_in s x) true (room_for s) (ran_read s x).answer (ran_read s x).left (replayed s x) a
 
 -- where the whole word fires, the line says so, with its letters and the marking that it fires to
 pub whole_fires : (s : Reading) (x : Rooms) (m : List ℕ) → Allowed (net_in s x) (marking_in s x) (word_in s x) true (room_for s) → Fires (net_in s x) (marking_in s x) (word_in s x) m
-    → answer_for (file.Whole s) x ≡ bytes_of (Fired (length (word_in s x))) m
+    → answer_for (Ok s) x ≡ bytes_of (Ok (Fired (length (word_in s x)))) m
 whole_fires s x m a f =
     let e = fires_fired (net_in s x) (marking_in s x) (word_in s x) true (room_for s) (ran_read s x).answer (ran_read s x).left (replayed s x) a m f in
     rw (e.0, e.1)
@@ -64,12 +66,12 @@ line_of_bytes bs b = record { digits = digits_of bs; ends = refl; only = digits_
 
 -- what the line is written for: a case that document 01 allows, or a refusal whose number is one byte
 abbrev pub Told : Case → Rooms → Type 0
-Told (file.Whole s) x = Allowed (net_in s x) (marking_in s x) (word_in s x) true (room_for s)
-Told (file.Refused n l) x = n < 256
+Told (Ok s) x = Allowed (net_in s x) (marking_in s x) (word_in s x) true (room_for s)
+Told (Err r) x = r.number < 256
 
 pub one_line : (c : Case) (x : Rooms) → Told c x → OneLine (line_for c x)
-one_line (file.Refused n l) x h = line_of_bytes _ (bytes_below (Refused n l) [] tt (λ k at e. let z : n ≡ k = cc in omega arith))
-one_line (file.Whole s) x a =
+one_line (Err r) x h = line_of_bytes _ (bytes_below (Err r) [] tt (λ k at e. let z = (refused_one r.number r.at k at e).0 in omega (arith, z, h)))
+one_line (Ok s) x a =
     line_of_bytes _
     (bytes_below (ran_read s x).answer (ran_read s x).left
     (placed (net_in s x) (marking_in s x) (word_in s x) true (room_for s) (ran_read s x).answer (ran_read s x).left (replayed s x) a.sized.few_places)
@@ -82,18 +84,18 @@ module _ (f : List ℕ) (x : Rooms) (l : Large x) where
   file_told = go (case_of (read_of x f).run) refl
     where
       go : (c : Case) → case_of (read_of x f).run ≡ c → Told c (read_of x f).rooms
-      go (file.Whole s) e = limited_allowed _ _ _ (room_for s) (read_file x l f s e).1 (table_length (λ _. 0) s.places)
-      go (file.Refused n k) e = small_number f fresh x n k e
+      go (Ok s) e = limited_allowed _ _ _ (room_for s) (read_file x l f s e).1 (table_length (λ _. 0) s.places)
+      go (Err r) e = small_number f fresh x r.number r.at e
 
   -- the answer to any file is one line
   pub file_one_line : OneLine (file_line f x)
   file_one_line = one_line (case_of (read_of x f).run) (read_of x f).rooms file_told
 
-  module _ (s : Reading) (w : case_of (read_of x f).run ≡ file.Whole s) where
+  module _ (s : Reading) (w : case_of (read_of x f).run ≡ Ok s) where
     -- the reader has checked all that document 01 asks of a replay
     pub whole_allowed : Allowed (net_in s (read_of x f).rooms) (marking_in s (read_of x f).rooms) (word_in s (read_of x f).rooms) true (room_for s)
     whole_allowed = subst (λ (c : Case). Told c (read_of x f).rooms) w file_told
 
     -- so a whole file is answered by a verdict, 81, and never by 82
-    pub whole_never_refused : (n at : ℕ) → (ran_read s (read_of x f).rooms).answer ≡ Refused n at → ⊥
+    pub whole_never_refused : (n at : ℕ) → (ran_read s (read_of x f).rooms).answer ≡ refused n at → ⊥
     whole_never_refused = allowed_not_refused s (read_of x f).rooms whole_allowed

@@ -1,4 +1,5 @@
 -- Document 01's whole case, byte by byte, and the line that answers it. Assumes nothing.
+use Rattle.std.specs.Prelude.{Ok}
 use Prim.Native.Nat.{ℕ}
 use mathlib.Core.Path.{◌≡◌, refl, sym, ap, ◌∙◌}
 use mathlib.Core.List.{List, [], ◌∷◌, ◌++◌}
@@ -12,8 +13,8 @@ use Rattle.net.specs.Net.{leaves_first}
 use Rattle.file_mask.specs.Mask.{bits_of}
 use Rattle.file_row.specs.Row.{weights_from}
 use Rattle.file_line.specs.declared.Reading.{Reading}
-use Rattle.file_line.specs.declared.Took.TheVariants.{Next}
-use Rattle.file_line.specs.Read.{Rooms, fresh, rule_of, formed_kind, formed_of, hangs_loose, judge_of, advanced_kind, stored_kind, line_of, rooms_of, rooms}
+use Rattle.file_line.specs.declared.Rooms.{Rooms}
+use Rattle.file_line.specs.Read.{fresh, rule_of, formed_kind, formed_of, hangs_loose, judge_of, advanced_kind, stored_kind, line_of, rooms_of, rooms}
 use Rattle.file_parts.specs.File.{both, going, feed_all, finish_of, case_of, line_len, NoFeed}
 use Rattle.file_parts.proofs.Line.{next_line}
 use Rattle.plays.specs.Replay.{play_from}
@@ -50,7 +51,7 @@ abbrev pub answer : List ℕ
 answer = 56 ∷ 49 ∷ 48 ∷ 48 ∷ 48 ∷ 48 ∷ 48 ∷ 48 ∷ 48 ∷ 48 ∷ 48 ∷ 53 ∷ 48 ∷ 48 ∷ 48 ∷ 48 ∷ 48 ∷ 48 ∷ 48 ∷ 49 ∷ 48 ∷ 48 ∷ 48 ∷ 48 ∷ 48 ∷ 48 ∷ 48 ∷ 48 ∷ 48 ∷ 48 ∷ 48 ∷ 48 ∷ 48 ∷ 48 ∷ 48 ∷ 49 ∷ 10 ∷ []
 
 -- a line is read to the state u and the rooms y
-step : (s u : Reading) (x y : Rooms) (d rest : List ℕ) → NoFeed d → Next u ≡ line_of s d x → y ≡ rooms_of s d x → feed_all (both (going s []) x) (d ++ line_feed ∷ rest) ≡ feed_all (both (going u []) y) rest
+step : (s u : Reading) (x y : Rooms) (d rest : List ℕ) → NoFeed d → Ok u ≡ line_of s d x → y ≡ rooms_of s d x → feed_all (both (going s []) x) (d ++ line_feed ∷ rest) ≡ feed_all (both (going u []) y) rest
 step s u x y d rest n e f = next_line s x d rest n u e ∙ ap (λ (z : Rooms). feed_all (both (going u []) z) rest) (sym f)
 
 module _ (caps marks initial pre post word : List ℕ) where

@@ -1,15 +1,12 @@
 -- To be believed: the line that the program writes, as a function of what a case file comes to.
-use Rattle.std.specs.Prelude.{ℕ, true, List, []}
+use Rattle.std.specs.Prelude.{Ok, Err, ℕ, true, List, []}
 use Rattle.ground.specs.Lists.{table}
 use Rattle.file_line.specs.declared.Reading.{Reading}
-use Rattle.file_line.specs.Read.{Rooms, net_in}
-use Rattle.file_parts.specs.declared.Case.{Case}
-use Rattle.file_parts.specs.declared.Case.TheVariants as file
-use Rattle.file_parts.specs.File.{Both, read_of, case_of}
+use Rattle.file_line.specs.declared.Rooms.{Rooms}
+use Rattle.file_line.specs.Read.{net_in}
+use Rattle.file_parts.specs.File.{Both, Case, read_of, case_of}
 use Rattle.file_text.specs.Text.{marking_in, word_in}
-use Rattle.plays.specs.Replay.{Ran}
-use Rattle.replay.specs.Entry.{replay_of}
-use Rattle.plays.specs.declared.Replay.TheVariants.{Refused}
+use Rattle.replay.specs.Entry.{Answered, replay_of}
 use Rattle.file_put.specs.Put.{line_text}
 use Rattle.verdict_text.specs.Verdict.{bytes_of}
 
@@ -18,14 +15,14 @@ abbrev pub room_for : Reading → List ℕ
 room_for s = table (λ _. 0) s.places
 
 -- the replay of a whole case
-abbrev pub ran_read : Reading → Rooms → Ran
+abbrev pub ran_read : Reading → Rooms → Answered
 ran_read s x = replay_of (net_in s x) (marking_in s x) (word_in s x) true (room_for s)
 
 -- "Output, one such line with its line feed": the verdict of a whole case's replay, with the marking left;
 -- "or 82, refusal number, line from 1"
 abbrev pub answer_for : Case → Rooms → List ℕ
-answer_for (file.Whole s) x = bytes_of (ran_read s x).answer (ran_read s x).left
-answer_for (file.Refused n l) x = bytes_of (Refused n l) []
+answer_for (Ok s) x = bytes_of (ran_read s x).answer (ran_read s x).left
+answer_for (Err r) x = bytes_of (Err r) []
 
 abbrev pub line_for : Case → Rooms → List ℕ
 line_for c x = line_text (answer_for c x)

@@ -1,3 +1,3 @@
-pub mod Puts
+pub mod Fours
 pub mod Answers
 pub mod Meaning

@@ -15,7 +15,10 @@ use Rattle.net.specs.Letter.{Small}
 use Rattle.net.specs.declared.Cause.TheVariants.{Short, Over}
 use Rattle.net.proofs.Meaning.{cause_apart, cause_some}
 use Rattle.plays.specs.declared.Replay.{Replay}
-use Rattle.plays.specs.declared.Replay.TheVariants.{Fired, Blocked, Refused}
+use Rattle.plays.specs.declared.Replay.TheVariants.{Fired, Blocked}
+use Rattle.refusals.specs.Given.{Answer, refused}
+use Rattle.refusals.proofs.Exactly.{same_refusal}
+use Rattle.std.specs.Prelude.{Ok, Err}
 use Rattle.verdict_text.specs.Verdict.{bytes_of, verdict}
 use Rattle.verdict_text.specs.Back.{from_four, four_limit, Sayable}
 use Rattle.verdict_text.specs.Walk.{Placed}
@@ -68,18 +71,18 @@ fours_below [] = none
 fours_below (x ∷ m) = four_below x (fours m) (fours_below m)
 
 -- what a line spells are bytes
-pub bytes_below : (a : Replay) (m : List ℕ) → Placed a → ((n at : ℕ) → a ≡ Refused n at → n < 256) → Below 256 (bytes_of a m)
-bytes_below (Fired n) m p r = cons 0x81 _ (omega arith) (cons 0 _ (omega arith) (four_below n (fours m) (fours_below m)))
-bytes_below (Blocked i (Short q)) m p r = cons 0x81 _ (omega arith) (cons 1 _ (omega arith) (four_below i (q ∷ []) (cons q [] (omega (arith, p)) none)))
-bytes_below (Blocked i (Over q)) m p r = cons 0x81 _ (omega arith) (cons 2 _ (omega arith) (four_below i (q ∷ []) (cons q [] (omega (arith, p)) none)))
-bytes_below (Refused n at) m p r =
-    let w = four_below at [] none in
-    cons 0x82 _ (omega arith) (cons n _ (r n at refl) (rw append-nil at w))
+pub bytes_below : (a : Answer Replay) (m : List ℕ) → Placed a → ((n at : ℕ) → a ≡ refused n at → n < 256) → Below 256 (bytes_of a m)
+bytes_below (Ok (Fired n)) m p r = cons 0x81 _ (omega arith) (cons 0 _ (omega arith) (four_below n (fours m) (fours_below m)))
+bytes_below (Ok (Blocked i (Short q))) m p r = cons 0x81 _ (omega arith) (cons 1 _ (omega arith) (four_below i (q ∷ []) (cons q [] (omega (arith, p)) none)))
+bytes_below (Ok (Blocked i (Over q))) m p r = cons 0x81 _ (omega arith) (cons 2 _ (omega arith) (four_below i (q ∷ []) (cons q [] (omega (arith, p)) none)))
+bytes_below (Err why) m p r =
+    let w = four_below why.at [] none in
+    cons 0x82 _ (omega arith) (cons why.number _ (r why.number why.at refl) (rw append-nil at w))
 
-sayable_below : (a : Replay) (m : List ℕ) → Sayable a m → Below 256 (bytes_of a m)
-sayable_below (Fired n) m s = bytes_below (Fired n) m tt (λ k at e. let z : ◌≡◌ {A = ℕ} 0 1 = cc in absurd (omega arith))
-sayable_below (Blocked i why) m s = bytes_below (Blocked i why) m s.1 (λ k at e. let z : ◌≡◌ {A = ℕ} 0 1 = cc in absurd (omega arith))
-sayable_below (Refused n l) m s = bytes_below (Refused n l) m tt (λ k at e. let z : n ≡ k = cc in omega (arith, s.0))
+sayable_below : (a : Answer Replay) (m : List ℕ) → Sayable a m → Below 256 (bytes_of a m)
+sayable_below (Ok (Fired n)) m s = bytes_below (Ok (Fired n)) m tt (λ k at e. let z : ◌≡◌ {A = ℕ} 0 1 = cc in absurd (omega arith))
+sayable_below (Ok (Blocked i why)) m s = bytes_below (Ok (Blocked i why)) m s.1 (λ k at e. let z : ◌≡◌ {A = ℕ} 0 1 = cc in absurd (omega arith))
+sayable_below (Err r) m s = bytes_below (Err r) m tt (λ k at e. let z : r.number ≡ k = cc in omega (arith, s.0))
 
 -- no two runs of bytes have one line
 pub line_apart : (a b : List ℕ) → Below 256 a → Below 256 b → line_text a ≡ line_text b → a ≡ b
@@ -93,26 +96,26 @@ line_apart a b p q e =
     sym (back a p) ∙ ap (λ (d : List ℕ). bytes_from d 0 (length a)) w ∙ ap (bytes_from (digits_of b) 0) h ∙ back b q
 
 -- two answers with their markings have two lines: the line tells which it was, with its numbers, and where fired the marking left
-same_bytes : (a b : Replay) (m k : List ℕ) → Sayable a m → Sayable b k → bytes_of a m ≡ bytes_of b k → (a ≡ b) × ((n : ℕ) → a ≡ Fired n → m ≡ k)
+same_bytes : (a b : Answer Replay) (m k : List ℕ) → Sayable a m → Sayable b k → bytes_of a m ≡ bytes_of b k → (a ≡ b) × ((n : ℕ) → a ≡ Ok (Fired n) → m ≡ k)
 unfolding four
-same_bytes (Fired n) (Fired j) m k s t e =
+same_bytes (Ok (Fired n)) (Ok (Fired j)) m k s t e =
     let h : n ≡ j = sym (four_then_back n (fours m) s.0) ∙ ap (λ (l : List ℕ). from_four (drop 2 l)) e ∙ four_then_back j (fours k) t.0 in
-    (ap Fired h, λ _ _. fours_apart m k s.1 t.1 (ap (drop 6) e))
-same_bytes (Fired n) (Blocked j who) m k s t e = let z : 0 ≡ cause_number who = ap (λ (l : List ℕ). get_or l 1 0) e in absurd (cause_some who (sym z))
-same_bytes (Fired n) (Refused j at) m k s t e = let z : ◌≡◌ {A = ℕ} 0x81 0x82 = ap (λ (l : List ℕ). get_or l 0 0) e in absurd (omega arith)
-same_bytes (Blocked i why) (Fired j) m k s t e = let z : cause_number why ≡ 0 = ap (λ (l : List ℕ). get_or l 1 0) e in absurd (cause_some why z)
-same_bytes (Blocked i why) (Blocked j who) m k s t e =
+    (ap (λ (n : ℕ). Ok (Fired n)) h, λ _ _. fours_apart m k s.1 t.1 (ap (drop 6) e))
+same_bytes (Ok (Fired n)) (Ok (Blocked j who)) m k s t e = let z : 0 ≡ cause_number who = ap (λ (l : List ℕ). get_or l 1 0) e in absurd (cause_some who (sym z))
+same_bytes (Ok (Fired n)) (Err r) m k s t e = let z : ◌≡◌ {A = ℕ} 0x81 0x82 = ap (λ (l : List ℕ). get_or l 0 0) e in absurd (omega arith)
+same_bytes (Ok (Blocked i why)) (Ok (Fired j)) m k s t e = let z : cause_number why ≡ 0 = ap (λ (l : List ℕ). get_or l 1 0) e in absurd (cause_some why z)
+same_bytes (Ok (Blocked i why)) (Ok (Blocked j who)) m k s t e =
     let h : i ≡ j = sym (four_then_back i (cause_values why) s.0) ∙ ap (λ (l : List ℕ). from_four (drop 2 l)) e ∙ four_then_back j (cause_values who) t.0 in
     let c : cause_number why ≡ cause_number who = ap (λ (l : List ℕ). get_or l 1 0) e in
     let w : why ≡ who = cause_apart why who c (ap (drop 6) e) in
     (rw (h, w), λ n q. let z : ◌≡◌ {A = ℕ} 0 1 = cc in absurd (omega arith))
-same_bytes (Blocked i why) (Refused j at) m k s t e = let z : ◌≡◌ {A = ℕ} 0x81 0x82 = ap (λ (l : List ℕ). get_or l 0 0) e in absurd (omega arith)
-same_bytes (Refused i l) (Fired j) m k s t e = let z : ◌≡◌ {A = ℕ} 0x82 0x81 = ap (λ (l : List ℕ). get_or l 0 0) e in absurd (omega arith)
-same_bytes (Refused i l) (Blocked j who) m k s t e = let z : ◌≡◌ {A = ℕ} 0x82 0x81 = ap (λ (l : List ℕ). get_or l 0 0) e in absurd (omega arith)
-same_bytes (Refused i l) (Refused j at) m k s t e =
-    let h : i ≡ j = ap (λ (l : List ℕ). get_or l 1 0) e in
-    let w : l ≡ at = sym (four_back l s.1) ∙ ap (λ (l : List ℕ). from_four (drop 2 l)) e ∙ four_back at t.1 in
-    (rw (h, w), λ n q. let z : ◌≡◌ {A = ℕ} 0 1 = cc in absurd (omega arith))
+same_bytes (Ok (Blocked i why)) (Err r) m k s t e = let z : ◌≡◌ {A = ℕ} 0x81 0x82 = ap (λ (l : List ℕ). get_or l 0 0) e in absurd (omega arith)
+same_bytes (Err r) (Ok (Fired j)) m k s t e = let z : ◌≡◌ {A = ℕ} 0x82 0x81 = ap (λ (l : List ℕ). get_or l 0 0) e in absurd (omega arith)
+same_bytes (Err r) (Ok (Blocked j who)) m k s t e = let z : ◌≡◌ {A = ℕ} 0x82 0x81 = ap (λ (l : List ℕ). get_or l 0 0) e in absurd (omega arith)
+same_bytes (Err r) (Err q) m k s t e =
+    let h : r.number ≡ q.number = ap (λ (l : List ℕ). get_or l 1 0) e in
+    let w : r.at ≡ q.at = sym (four_back r.at s.1) ∙ ap (λ (l : List ℕ). from_four (drop 2 l)) e ∙ four_back q.at t.1 in
+    (same_refusal r q h w, λ n q. let z : ◌≡◌ {A = ℕ} 0 1 = cc in absurd (omega arith))
 
-pub verdict_apart : (a b : Replay) (m k : List ℕ) → Sayable a m → Sayable b k → verdict a m ≡ verdict b k → (a ≡ b) × ((n : ℕ) → a ≡ Fired n → m ≡ k)
+pub verdict_apart : (a b : Answer Replay) (m k : List ℕ) → Sayable a m → Sayable b k → verdict a m ≡ verdict b k → (a ≡ b) × ((n : ℕ) → a ≡ Ok (Fired n) → m ≡ k)
 verdict_apart a b m k s t e = same_bytes a b m k s t (line_apart (bytes_of a m) (bytes_of b k) (sayable_below a m s) (sayable_below b k t) e)

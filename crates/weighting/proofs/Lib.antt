@@ -1,5 +1,4 @@
 pub mod Allowed
-pub mod Answers
 pub mod Numbers
 pub mod Meaning
 pub mod Exactly

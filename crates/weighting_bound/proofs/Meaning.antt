@@ -1,4 +1,6 @@
 -- What the answers for a bound mean, by the published definitions of firing and of weightings. Assumes nothing.
+use Rattle.std.specs.Prelude.{Ok, Err}
+use Rattle.refusals.specs.Given.{Answer, Fault}
 use Prim.Native.Nat.{ℕ, ◌+◌, ◌*◌, ◌/◌, ◌≤◌, ◌<◌}
 use mathlib.Core.Path.{◌≡◌, refl, sym, ◌∙◌}
 use mathlib.Core.Bool.{Bool, true, false}
@@ -16,14 +18,13 @@ use Rattle.ground.proofs.Tests.{never}
 use Rattle.ground.proofs.Parts.{parts_eq, le_pos, pos_lt, neg_le}
 use Rattle.net.specs.Net.{Net, tokens}
 use Rattle.net.specs.Firing.{Reachable}
-use Rattle.refusals.specs.declared.Fault.{Fault}
-use Rattle.refusals.specs.declared.Fault.TheVariants.{Sound, Faulty}
 use Rattle.weighting_sums.specs.Weighting.{entry, place_sum, PlaceInvariant, NoNegative, weight}
 use Rattle.weighting_sums.specs.Tests.{lowest_transition, lowest_entry, has_negative}
 use Rattle.weighting_sums.specs.Walk.{total, held}
 use Rattle.weighting_bound.specs.Bound.{WholePart, Judged, found_bound, bound_of, bound_fault}
 use Rattle.weighting_bound.specs.Allowed.{BoundAllowed}
-use Rattle.weighting_bound.specs.declared.Bound.TheVariants.{Bounded, Refused}
+use Rattle.weighting_bound.specs.declared.Bound.{Bound}
+use Rattle.weighting_bound.specs.declared.Bound.TheVariants.{Bounded}
 use Rattle.weighting_sums.proofs.Sum.{total_at}
 use Rattle.weighting_sums.proofs.Entries.{no_negative, weight_is}
 use Rattle.weighting_bound.proofs.Allowed.{bound_allowed_of}
@@ -84,19 +85,19 @@ pub invariant_bounds : {net : Net} {initial m : List ℕ} (y : List ℤ) (p b : 
 invariant_bounds {net} {initial} {m} y p b i n w h r = bounds_place net initial m y p b n w h (rw (keeps_sum y i r.fires) (≤ℤ_refl (weight net y initial)))
 
 -- where a bound is answered, nothing is refused, and it is the one that was found
-bound_found : {net : Net} {initial : List ℕ} (y : List ℤ) (p b : ℕ) → bound_of net initial y p ≡ Bounded b → BoundAllowed net initial y p × Judged net initial y p (Bounded b)
+bound_found : {net : Net} {initial : List ℕ} (y : List ℤ) (p b : ℕ) → bound_of net initial y p ≡ Ok (Bounded b) → BoundAllowed net initial y p × Judged net initial y p (Bounded b)
 bound_found {net} {initial} y p b e = go (bound_fault net initial y p) refl
   where
     go : (f : Fault) → bound_fault net initial y p ≡ f → BoundAllowed net initial y p × Judged net initial y p (Bounded b)
-    go (Faulty n at) q = let z : Refused n at ≡ Bounded b = sym (rw q) ∙ e in let k : ◌≡◌ {A = ℕ} 0 1 = cc in absurd (omega arith)
-    go Sound q = let z : found_bound net initial y p ≡ Bounded b = rw q at e in (bound_allowed_of net initial y p q, rw z at (bound_judged net initial y p))
+    go (Err r) q = let z : ◌≡◌ {A = Answer Bound} (Err r) (Ok (Bounded b)) = rw q at e in let k : ◌≡◌ {A = ℕ} 0 1 = cc in absurd (omega arith)
+    go (Ok _) q = let w : ◌≡◌ {A = Answer Bound} (Ok (found_bound net initial y p)) (Ok (Bounded b)) = rw q at e in let z : found_bound net initial y p ≡ Bounded b = cc in (bound_allowed_of net initial y p q, rw z at (bound_judged net initial y p))
 
 -- every reachable marking keeps to it
-pub bound_holds : {net : Net} {initial m : List ℕ} (y : List ℤ) (p b : ℕ) → bound_of net initial y p ≡ Bounded b → Reachable net initial m → tokens m p ≤ b
+pub bound_holds : {net : Net} {initial m : List ℕ} (y : List ℤ) (p b : ℕ) → bound_of net initial y p ≡ Ok (Bounded b) → Reachable net initial m → tokens m p ≤ b
 bound_holds y p b e r = let f = bound_found y p b e in let j = f.1 in invariant_bounds y p b j.0 j.1 j.3 f.0.below r
 
 -- and it is at most the sum of y x initial marking
-pub bound_most : (net : Net) (initial : List ℕ) (y : List ℤ) (p b : ℕ) → InRange y → bound_of net initial y p ≡ Bounded b → SumFits token_limit b
+pub bound_most : (net : Net) (initial : List ℕ) (y : List ℤ) (p b : ℕ) → InRange y → bound_of net initial y p ≡ Ok (Bounded b) → SumFits token_limit b
 bound_most net initial y p b range e =
     let f = bound_found y p b e in
     let n = f.1.1 in

@@ -73,15 +73,15 @@ module _ (net : Net) (light : Light net) (y : List ℤ) (range : InRange y) (sta
   unfolding lost
   lost_most n h = line_most weight_limit net.post net.pre light.post light.pre y range start step n h
 
-  pub sum_fits : (k g l : ℕ) → k ≤ count_limit → Summed net.pre net.post y start step k g l → SumFits weight_limit g × SumFits weight_limit l
+  pub sum_fits : (k g l : ℕ) → k ≤ count_limit → Summed net y start step k g l → SumFits weight_limit g × SumFits weight_limit l
   unfolding gained lost
   sum_fits k g l h s = (sum_small g (omega (arith, s.gained_is, gained_most k h)), sum_small l (omega (arith, s.lost_is, lost_most k h)))
 
   -- and their difference, either way
-  line_fits : length y ≤ count_limit → SumFits weight_limit (up (line_sum net.pre net.post y start step)) × SumFits weight_limit (dn (line_sum net.pre net.post y start step))
+  line_fits : length y ≤ count_limit → SumFits weight_limit (up (line_sum net y start step)) × SumFits weight_limit (dn (line_sum net y start step))
   unfolding gained lost
   line_fits h =
-      let e = sym (line-is net.pre net.post y start step) in (
+      let e = sym (line-is net y start step) in (
         sum_small _ (omega (arith, ap up e ∙ up_sub (gained (length y)) (lost (length y)), gained_most (length y) h)),
         sum_small _ (omega (arith, ap dn e ∙ dn_sub (gained (length y)) (lost (length y)), lost_most (length y) h)),
       )

@@ -1,4 +1,4 @@
--- Refusal 8: which answer is given, from what the code has found, and exactly when. Assumes nothing.
+-- Refusal 8: exactly when it is given. Assumes nothing.
 use Prim.Native.Nat.{ℕ, ◌≤◌, ◌<◌}
 use mathlib.Core.Path.{◌≡◌}
 use mathlib.Core.Bool.{false}
@@ -7,10 +7,8 @@ use native.Mathlib.Omega.{arith}
 use native.Mathlib.Decide.{dec_lt}
 use lib.ListN.{length, get_or-eq_default}
 use lib.IntN.{ℤ, pos}
-use borrow.Author.Tests.{lt-leb, leb-false, le-leb}
+use borrow.Author.Tests.{lt-leb, leb-false}
 use Rattle.ground.proofs.Scan.{first_passes}
-use Rattle.refusals.specs.Given.{refuse}
-use Rattle.refusals.specs.declared.Fault.TheVariants.{Sound, Faulty}
 use Rattle.weighting_sums.specs.Weighting.{entry}
 use Rattle.weighting_sums.specs.Tests.{picks, lowest_entry, all_zero}
 use Rattle.weighting_sums.specs.Allowed.{SomeEntry}
@@ -33,11 +31,3 @@ module _ (y : List ℤ) where
       go : Dec (lowest_entry false y < length y) → all_zero y ≡ false
       go (yes h) = lt-leb (length y) (lowest_entry false y) h
       go (no h) = absurd (s (λ k. zero_at (omega arith) k (dec_lt k (length y))))
-
--- from the lowest entry that was found
-module _ (y : List ℤ) (k : ℕ) (e : k ≡ lowest_entry false y) where
-  pub zero_all : length y ≤ k → Faulty 8 0 ≡ refuse (all_zero y) 8 0
-  zero_all h = rw (← e, le-leb (length y) k h)
-
-  pub zero_some : k < length y → Sound ≡ refuse (all_zero y) 8 0
-  zero_some h = rw (← e, lt-leb (length y) k h)

@@ -2,6 +2,7 @@
 use Rattle.std.specs.Prelude.{ℕ, zero, suc, ◌+◌, ◌*◌, ◌≤◌, ◌<◌, Bool, not, List, length, get_or, ℤ, pos, ◌-ℤ◌, ◌*ℤ◌}
 use Rattle.ground.specs.Limits.{count_limit, no_capacity, entry_limit}
 use Rattle.ground.specs.Parts.{up, dn}
+use Rattle.net.specs.Net.{Net}
 use Rattle.weighting_sums.specs.Weighting.{sum, entry}
 use Rattle.weighting_sums.specs.Tests.{is_zero}
 use Rattle.weighting_sums.specs.declared.Sums.{Sums}
@@ -27,12 +28,12 @@ abbrev pub cell : List ℕ → ℕ → ℕ → ℕ → ℕ
 cell l start step k = get_or l (start + k * step) 0
 
 -- the sum along a line: entry times change
-unfoldable pub line_sum : List ℕ → List ℕ → List ℤ → ℕ → ℕ → ℤ
-line_sum pre post y start step = sum (length y) (λ k. entry y k *ℤ (pos (cell post start step k) -ℤ pos (cell pre start step k)))
+unfoldable pub line_sum : Net → List ℤ → ℕ → ℕ → ℤ
+line_sum net y start step = sum (length y) (λ k. entry y k *ℤ (pos (cell net.post start step k) -ℤ pos (cell net.pre start step k)))
 
 -- it is not 0
-abbrev pub line_fails : List ℕ → List ℕ → List ℤ → ℕ → ℕ → Bool
-line_fails pre post y start step = not (is_zero (line_sum pre post y start step))
+abbrev pub line_fails : Net → List ℤ → ℕ → ℕ → Bool
+line_fails net y start step = not (is_zero (line_sum net y start step))
 
 -- the sum that the two unsigned ones stand for
 abbrev pub signed : Sums → ℤ

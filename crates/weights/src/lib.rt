@@ -4,21 +4,20 @@
 
 ghost use Rattle.std.specs.Prelude.{◌≡◌, ◌||◌, ◌≤◌, ◌<◌, ltb, length};
 ghost use Rattle.ground.specs.Limits.{count_limit};
-ghost use Rattle.ground.specs.Lists.{bit};
-ghost use Rattle.net.specs.Net.{net_of, Sized};
+ghost use Rattle.ground.specs.Lists.{bit, found};
+ghost use Rattle.net.specs.Lent.{lent};
+ghost use Rattle.net.specs.Net.{Sized};
 ghost use Rattle.weights.specs.Heavy.{row_over, heavy, lowest_heavy};
 
 use ground::{WEIGHT_LIMIT, Weight};
+use net::{Net, SizedNet};
 
 // 1 where a weight taken or put is over the limit, else 0: a number, so that a pass over a row only
 // adds.
 pub fn over_at(limit: u32, takes: Weight, puts: Weight) -> u32
     ensures { result ≡ bit (ltb limit takes || ltb limit puts) }
 {
-    if limit < takes as u32 {
-        return 1;
-    }
-    if limit < puts as u32 { 1 } else { 0 }
+    u32::from(limit < u32::from(takes) || limit < u32::from(puts))
 }
 
 // Whether a row of Pre, or the row of Post beside it, has a weight over the limit: one plain pass,
@@ -28,51 +27,28 @@ pub fn has_over(limit: u32, takes: &[Weight], puts: &[Weight]) -> bool
     ensures { result ≡ row_over limit takes.now puts.now }
 {
     let mut over: u32 = 0;
-    let mut p = 0;
-    while p < takes.len() {
+    for p in 0..takes.len() {
         over += over_at(limit, takes[p], puts[p]);
-        p += 1;
     }
     0 < over
 }
 
 // Whether a transition has a weight over what is allowed, in Pre or in Post.
-fn is_heavy(
-    places: usize,
-    transitions: usize,
-    pre: &[Weight],
-    post: &[Weight],
-    caps: &[u16],
-    marks: &[u8],
-    t: usize,
-) -> bool
-    requires sized { Sized (net_of places transitions pre.now post.now caps.now marks.now) }
-    requires t_lt_transitions { t < transitions }
-    ensures { result ≡ heavy (net_of places transitions pre.now post.now caps.now marks.now) t }
+fn is_heavy(sized: &SizedNet, t: usize) -> bool
+    requires { t < sized.now.net.transitions }
+    ensures { result ≡ heavy (lent sized.now.net) t }
 {
-    let a = t * places;
-    let e = a + places;
-    has_over(WEIGHT_LIMIT, &pre[a..e], &post[a..e])
+    has_over(WEIGHT_LIMIT, sized.takes(t), sized.puts(t))
 }
 
-// The lowest such transition, or the number of transitions.
-pub fn heavy_transition(
-    places: usize,
-    transitions: usize,
-    pre: &[Weight],
-    post: &[Weight],
-    caps: &[u16],
-    marks: &[u8],
-) -> usize
-    requires { Sized (net_of places transitions pre.now post.now caps.now marks.now) }
-    ensures { result ≡ lowest_heavy (net_of places transitions pre.now post.now caps.now marks.now) }
+// The lowest such transition, if there is one.
+pub fn heavy_transition(sized: &SizedNet) -> Option<usize>
+    ensures { result ≡ found sized.now.net.transitions (lowest_heavy (lent sized.now.net)) }
 {
-    let mut t = 0;
-    while t < transitions {
-        if is_heavy(places, transitions, pre, post, caps, marks, t) {
-            return t;
+    for t in 0..sized.net.transitions {
+        if is_heavy(sized, t) {
+            return Some(t);
         }
-        t += 1;
     }
-    t
+    None
 }

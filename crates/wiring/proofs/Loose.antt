@@ -1,16 +1,14 @@
 -- Laws of loose nodes: what the code has found of them, and that none is found exactly where the net is wired. Assumes nothing.
-use Prim.Native.Nat.{ℕ, ◌+◌, ◌*◌, ◌≤◌, ◌<◌}
-use mathlib.Core.Path.{◌≡◌}
+use Prim.Native.Nat.{ℕ, ◌+◌, ◌≤◌, ◌<◌}
+use mathlib.Core.Path.{◌≡◌, ◌∙◌}
 use mathlib.Core.Bool.{Bool, true, false}
 use mathlib.Core.Logic.{◌↔◌}
 use native.Mathlib.Omega.{arith}
-use lib.ListN.{length}
 use lib.Dec.{ltb}
 use borrow.Author.Tests.{lt-ltb, le-ltb, ltb-true, not-false}
 use Rattle.ground.specs.Lists.{first}
 use Rattle.ground.proofs.Scan.{Below, first_none, first_below, first_passes, first_found, scan_start, scan_hit, scan_next, scan_end}
-use Rattle.net.specs.Net.{Net, Sized}
-use Rattle.net.proofs.Rows.{row_end}
+use Rattle.net.specs.Net.{Net, Pre, Post}
 use Rattle.wiring.specs.Wired.{PlaceWired, TransitionWired, arc, loose_place, loose_transition, lowest_loose_place, lowest_loose_transition}
 
 -- a place: t is where the scan is, r the test's answer there
@@ -47,10 +45,9 @@ module _ (net : Net) (t p : ℕ) (lo : Below (λ p. arc net p t) p) where
 
 pub ruleset transitions_scanned = (scan_start, transition_next, transition_held, transition_loose)
 
--- the entry of place p and transition t stands inside both tables
-pub cell_inside : (net : Net) (p t : ℕ) → Sized net → p < net.places → t < net.transitions → (t * net.places + p < length net.pre) × (t * net.places + p < length net.post)
-cell_inside net p t z h l =
-    let e = row_end t net.transitions net.places l in (rw z.pres (omega arith), rw z.posts (omega arith))
+-- the test of an arc, of the two entries as they were read
+pub arc_is : (net : Net) (p t a b : ℕ) (r : Bool) → a ≡ Pre net p t → b ≡ Post net p t → r ≡ ltb 0 (a + b) → r ≡ arc net p t
+arc_is net p t a b r ea eb e = e ∙ rw (ea, eb)
 
 -- a place hangs loose exactly if it has no arc
 module _ (net : Net) (p : ℕ) where

@@ -2,10 +2,13 @@
 #![tactic(auto)]
 
 ghost use Rattle.std.specs.Prelude.{◌≡◌, true, false, ◌+◌, ◌*◌, ◌<◌, ◌≤◌, ltb, length};
-ghost use Rattle.net.specs.Net.{net_of, Sized};
+ghost use Rattle.ground.specs.Lists.{found};
+ghost use Rattle.net.specs.Lent.{lent};
+ghost use Rattle.net.specs.Net.{Sized};
 ghost use Rattle.wiring.specs.Wired.{loose_place, loose_transition, lowest_loose_place, lowest_loose_transition};
 
 use ground::Weight;
+use net::{Net, SizedNet};
 
 // Whether there is an arc, in one direction or both.
 fn is_arc(takes: Weight, puts: Weight) -> bool
@@ -18,95 +21,51 @@ fn is_arc(takes: Weight, puts: Weight) -> bool
 }
 
 // Whether no transition has an arc with this place.
-fn is_loose_place(
-    places: usize,
-    transitions: usize,
-    pre: &[Weight],
-    post: &[Weight],
-    caps: &[u16],
-    marks: &[u8],
-    p: usize,
-) -> bool
-    requires sized { Sized (net_of places transitions pre.now post.now caps.now marks.now) }
-    requires p_lt_places { p < places }
-    ensures { result ≡ loose_place (net_of places transitions pre.now post.now caps.now marks.now) p }
+fn is_loose_place(sized: &SizedNet, p: usize) -> bool
+    requires { p < sized.now.net.places }
+    ensures { result ≡ loose_place (lent sized.now.net) p }
 {
-    let mut t = 0;
-    while t < transitions {
-        let at = t * places + p;
-        if is_arc(pre[at], post[at]) {
+    for t in 0..sized.net.transitions {
+        if is_arc(sized.pre_at(p, t), sized.post_at(p, t)) {
             return false;
         }
-        t += 1;
     }
     true
 }
 
 // Whether no place has an arc with this transition.
-fn is_loose_transition(
-    places: usize,
-    transitions: usize,
-    pre: &[Weight],
-    post: &[Weight],
-    caps: &[u16],
-    marks: &[u8],
-    t: usize,
-) -> bool
-    requires sized { Sized (net_of places transitions pre.now post.now caps.now marks.now) }
-    requires t_lt_transitions { t < transitions }
-    ensures { result ≡ loose_transition (net_of places transitions pre.now post.now caps.now marks.now) t }
+fn is_loose_transition(sized: &SizedNet, t: usize) -> bool
+    requires { t < sized.now.net.transitions }
+    ensures { result ≡ loose_transition (lent sized.now.net) t }
 {
-    let mut p = 0;
-    while p < places {
-        let at = t * places + p;
-        if is_arc(pre[at], post[at]) {
+    for p in 0..sized.net.places {
+        if is_arc(sized.pre_at(p, t), sized.post_at(p, t)) {
             return false;
         }
-        p += 1;
     }
     true
 }
 
-// The lowest place that hangs loose, or the number of places.
-pub fn loose_place(
-    places: usize,
-    transitions: usize,
-    pre: &[Weight],
-    post: &[Weight],
-    caps: &[u16],
-    marks: &[u8],
-) -> usize
-    requires { Sized (net_of places transitions pre.now post.now caps.now marks.now) }
-    ensures { result ≡ lowest_loose_place (net_of places transitions pre.now post.now caps.now marks.now) }
+// The lowest place that hangs loose, if one does.
+pub fn loose_place(sized: &SizedNet) -> Option<usize>
+    ensures { result ≡ found sized.now.net.places (lowest_loose_place (lent sized.now.net)) }
 {
-    let mut p = 0;
-    while p < places {
-        if is_loose_place(places, transitions, pre, post, caps, marks, p) {
-            return p;
+    for p in 0..sized.net.places {
+        if is_loose_place(sized, p) {
+            return Some(p);
         }
-        p += 1;
     }
-    p
+    None
 }
 
-// The lowest transition that hangs loose, or the number of transitions.
-pub fn loose_transition(
-    places: usize,
-    transitions: usize,
-    pre: &[Weight],
-    post: &[Weight],
-    caps: &[u16],
-    marks: &[u8],
-) -> usize
-    requires { Sized (net_of places transitions pre.now post.now caps.now marks.now) }
-    ensures { result ≡ lowest_loose_transition (net_of places transitions pre.now post.now caps.now marks.now) }
+// The lowest transition that hangs loose, if one does.
+pub fn loose_transition(sized: &SizedNet) -> Option<usize>
+    ensures { result ≡ found sized.now.net.transitions (lowest_loose_transition (lent sized.now.net)) }
 {
-    let mut t = 0;
-    while t < transitions {
-        if is_loose_transition(places, transitions, pre, post, caps, marks, t) {
-            return t;
+    for t in 0..sized.net.transitions {
+        if is_loose_transition(sized, t) {
+            return Some(t);
         }
-        t += 1;
     }
-    t
+    None
 }

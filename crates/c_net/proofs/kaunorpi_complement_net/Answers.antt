@@ -1,6 +1,6 @@
-use borrow.Author.Rules.{rules}
-use Rattle.c_net.proofs.Handed.{hand_net}
+use mathlib.Core.Path.{ap, ◌∙◌}
+use Rattle.c_answer.specs.Hand.{handed}
 use Rattle.c_net.proofs.kaunorpi_complement_net.Goals as goal
 
 pub returns : goal.returns
-returns c = search (hand_net, rules)
+returns c = record { answer = c.of_net.ensures ∙ ap handed c.complement_net.ensures.answer; left = c.complement_net.ensures.left }

@@ -1,14 +1,14 @@
-use borrow.Author.Rules.{rules}
-use lib.ListN.{length}
-use Rattle.c_summary_lists.proofs.Columns.{fit_long}
+use mathlib.Core.Path.{sym, ◌∙◌}
+use Rattle.c_summary_lists.specs.Columns.{columns_of}
 use Rattle.c_summary.proofs.Summaries.{empty_handed, empty_unfit}
 use Rattle.c_summary.proofs.kaunorpi_empty_summary.Goals as goal
 
-pub hand_summed-requires : goal.hand_summed-requires
-hand_summed-requires c = let r = fit_long (length c.args.need.now) (length c.args.climb.now) (length c.args.change.now) c.is_fitting-fit.result c.is_fitting-fit.ensures (search rules) in record { need_len = r.0; climb_len = r.1.0; change_len = r.1.1 }
-
-pub returns-then-fit : goal.returns-then-fit
-returns-then-fit c = search (empty_handed, rules)
+pub returns-then-is_fitting : goal.returns-then-is_fitting
+returns-then-is_fitting c =
+    empty_handed c.args.places (columns_of c.args.need.now c.args.climb.now c.args.change.now) _ _ _ (sym c.is_fitting.ensures ∙ c.if-is_fitting.true)
+    c.empty_summary-made.ensures c.hand_summed.ensures
 
 pub returns : goal.returns
-returns c = search (empty_unfit, rules)
+returns c =
+    empty_unfit c.args.places (columns_of c.args.need.now c.args.climb.now c.args.change.now) _ (sym c.is_fitting.ensures ∙ c.if-is_fitting.false)
+    c.refuse_lists.ensures

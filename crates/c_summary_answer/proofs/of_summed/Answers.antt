@@ -1,9 +1,10 @@
-use borrow.Author.Rules.{rules}
-use Rattle.c_summary_answer.proofs.Summaries.{summed_done, summed_refused}
+use Rattle.c_summary_answer.specs.Summaries.{handed_summary}
 use Rattle.c_summary_answer.proofs.of_summed.Goals as goal
 
-pub returns-in-Done : goal.returns-in-Done
-returns-in-Done c = search (summed_done, rules)
+pub returns-in-Ok : goal.returns-in-Ok
+unfolding handed_summary
+returns-in-Ok c = rw c.in-Ok.is
 
-pub returns-in-Refused : goal.returns-in-Refused
-returns-in-Refused c = search (summed_refused, rules)
+pub returns-in-Err : goal.returns-in-Err
+unfolding handed_summary
+returns-in-Err c = rw c.in-Err.is

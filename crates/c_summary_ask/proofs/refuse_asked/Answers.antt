@@ -1,16 +1,14 @@
-use borrow.Author.Rules.{rules}
-use Rattle.c_answer.specs.Hand.{handed}
-use Rattle.c_summary_ask.proofs.Asked.{asked_count, asked_found}
+use mathlib.Core.Path.{refl}
+use Rattle.refusals.proofs.Chains.{chain_first, chain_next}
 use Rattle.c_summary_ask.proofs.refuse_asked.Goals as goal
 
-pub returns-then-is_outside : goal.returns-then-is_outside
-unfolding handed
-returns-then-is_outside c = search (asked_count, rules)
+pub returns-in_err-refuse : goal.returns-in_err-refuse
+returns-in_err-refuse c = chain_first _ _ _ _ c.from_residual.ensures.1 (rw c.is_outside.ensures at c.in_err-refuse.ensures)
 
-pub returns-in-Faulty : goal.returns-in-Faulty
-unfolding handed
-returns-in-Faulty c = search (asked_found, rules)
+pub returns-in_err-counts_fault : goal.returns-in_err-counts_fault
+returns-in_err-counts_fault c =
+    chain_next _ _ _ _ (rw c.is_outside.ensures at c.in_ok-refuse.ensures)
+    (chain_first _ _ _ _ c.from_residual-in_err-counts_fault.ensures.1 c.in_err-counts_fault.ensures)
 
-pub returns-in-Sound : goal.returns-in-Sound
-unfolding handed
-returns-in-Sound c = search (asked_found, rules)
+pub returns : goal.returns
+returns c = chain_next _ _ _ _ (rw c.is_outside.ensures at c.in_ok-refuse.ensures) (chain_next _ _ _ _ c.in_ok-counts_fault.ensures refl)

@@ -1,22 +1,21 @@
-use borrow.Author.Rules.{rules}
-use mathlib.Core.Path.{refl}
-use lib.ListN.{length}
-use Rattle.c_summary_lists.proofs.Columns.{fit_long}
-use Rattle.c_summary_lists.specs.Columns.{lengths_fit}
-use Rattle.c_summary_join.proofs.Joined.{first_fits, second_fits, third_fits, join_handed, join_unfit}
+use mathlib.Core.Path.{sym, ap₂, ◌∙◌}
+use Rattle.summary_join.specs.Join.{join_answer}
+use Rattle.c_summary_lists.specs.Columns.{columns_of}
+use Rattle.c_summary_join.proofs.Joined.{join_handed, join_unfit}
 use Rattle.c_summary_join.proofs.kaunorpi_join_summaries.Goals as goal
 
-pub lent_summary-a-requires : goal.lent_summary-a-requires
-lent_summary-a-requires c = let r = fit_long (length c.args.need1.now) (length c.args.climb1.now) (length c.args.change1.now) _ refl (first_fits (lengths_fit (length c.args.need1.now) (length c.args.climb1.now) (length c.args.change1.now)) (lengths_fit (length c.args.need2.now) (length c.args.climb2.now) (length c.args.change2.now)) (lengths_fit (length c.args.need.now) (length c.args.climb.now) (length c.args.change.now)) c.join_fits-fit.result c.join_fits-fit.ensures (search rules)) in record { need_len = r.0; climb_len = r.1.0; change_len = r.1.1 }
-
-pub lent_summary-b-requires : goal.lent_summary-b-requires
-lent_summary-b-requires c = let r = fit_long (length c.args.need2.now) (length c.args.climb2.now) (length c.args.change2.now) _ refl (second_fits (lengths_fit (length c.args.need1.now) (length c.args.climb1.now) (length c.args.change1.now)) (lengths_fit (length c.args.need2.now) (length c.args.climb2.now) (length c.args.change2.now)) (lengths_fit (length c.args.need.now) (length c.args.climb.now) (length c.args.change.now)) c.join_fits-fit.result c.join_fits-fit.ensures (search rules)) in record { need_len = r.0; climb_len = r.1.0; change_len = r.1.1 }
-
-pub hand_summed-requires : goal.hand_summed-requires
-hand_summed-requires c = let r = fit_long (length c.args.need.now) (length c.args.climb.now) (length c.args.change.now) _ refl (third_fits (lengths_fit (length c.args.need1.now) (length c.args.climb1.now) (length c.args.change1.now)) (lengths_fit (length c.args.need2.now) (length c.args.climb2.now) (length c.args.change2.now)) (lengths_fit (length c.args.need.now) (length c.args.climb.now) (length c.args.change.now)) c.join_fits-fit.result c.join_fits-fit.ensures (search rules)) in record { need_len = r.0; climb_len = r.1.0; change_len = r.1.1 }
-
-pub returns-then-fit : goal.returns-then-fit
-returns-then-fit c = search (join_handed, rules)
+pub returns-then-join_fits : goal.returns-then-join_fits
+returns-then-join_fits c =
+    let a = c.args in
+    join_handed a.places1 a.letters1 (columns_of a.need1.now a.climb1.now a.change1.now) a.places2 a.letters2
+    (columns_of a.need2.now a.climb2.now a.change2.now) (columns_of a.need.now a.climb.now a.change.now) _ _ _
+    (sym c.join_fits.ensures ∙ c.if-join_fits.true)
+    (c.join_summaries-made.ensures ∙ ap₂ join_answer c.lent_summary-a.ensures c.lent_summary-b.ensures)
+    c.hand_summed.ensures
 
 pub returns : goal.returns
-returns c = search (join_unfit, rules)
+returns c =
+    let a = c.args in
+    join_unfit a.places1 a.letters1 (columns_of a.need1.now a.climb1.now a.change1.now) a.places2 a.letters2
+    (columns_of a.need2.now a.climb2.now a.change2.now) (columns_of a.need.now a.climb.now a.change.now) _
+    (sym c.join_fits.ensures ∙ c.if-join_fits.false) c.refuse_lists.ensures

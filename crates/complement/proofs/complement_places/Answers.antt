@@ -1,19 +1,24 @@
-use Rattle.net.specs.Net.{net_of}
-use Rattle.complement.proofs.Answers.{found_sized, wide_fits, tolds}
-use borrow.Author.Rules.{rules}
+use mathlib.Core.Path.{sym}
+use Rattle.net.specs.Lent.{lent}
+use Rattle.refusals.proofs.Chains.{chain_first, chain_next}
+use Rattle.refusals.proofs.Refusals.{net_met}
+use Rattle.complement.proofs.Answers.{told_of}
 use Rattle.complement.proofs.complement_places.Goals as goal
 
-pub count_made-count-requires : goal.count_made-count-requires
-count_made-count-requires c = found_sized (net_of c.args.places c.args.transitions c.args.pre.now c.args.post.now c.args.caps.now c.args.marks.now) _ c.net_fault-found.ensures (search rules)
+pub returns-in_err-net_fault : goal.returns-in_err-net_fault
+returns-in_err-net_fault c = told_of _ _ (chain_first _ _ _ _ c.from_residual.ensures.1 c.in_err-net_fault.ensures)
 
-pub overflow_add-wide : goal.overflow_add-wide
-overflow_add-wide c = wide_fits (net_of c.args.places c.args.transitions c.args.pre.now c.args.post.now c.args.caps.now c.args.marks.now) (found_sized (net_of c.args.places c.args.transitions c.args.pre.now c.args.post.now c.args.caps.now c.args.marks.now) _ c.net_fault-found.ensures (search rules)) _ c.count_made-count.ensures
+pub invariant_of-sized : goal.invariant_of-sized
+invariant_of-sized c = record { sized = (net_met (lent c.args.net.now) _ (sym c.in_ok-net_fault.ensures)).sized }
 
-pub returns-in-Faulty : goal.returns-in-Faulty
-returns-in-Faulty c = search (tolds, rules)
+pub returns-in_err-limit_fault : goal.returns-in_err-limit_fault
+returns-in_err-limit_fault c =
+    told_of _ _
+    (chain_next _ _ _ _ c.in_ok-net_fault.ensures
+    (chain_first _ _ _ _ c.from_residual-in_err-limit_fault.ensures.1 (rw c.count_places-wide.ensures at c.in_err-limit_fault.ensures)))
 
-pub returns-in-Faulty-limit : goal.returns-in-Faulty-limit
-returns-in-Faulty-limit c = search (tolds, rules)
-
-pub returns-in-Sound-limit : goal.returns-in-Sound-limit
-returns-in-Sound-limit c = search (tolds, rules)
+pub returns : goal.returns
+returns c =
+    told_of _ _
+    (chain_next _ _ _ _ c.in_ok-net_fault.ensures
+    (chain_next _ _ _ _ (rw c.count_places-wide.ensures at c.in_ok-limit_fault.ensures) (rw c.count_places-wide.ensures)))

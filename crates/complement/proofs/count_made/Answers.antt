@@ -3,9 +3,6 @@ use borrow.Author.Rules.{rules}
 use Rattle.complement.proofs.count_made.Goals as goal
 use Rattle.complement.proofs.count_made.Goals.{then-is_made, else-is_made}
 
-pub loop-p-init : goal.loop-p-init
-loop-p-init c = search (counts, rules)
-
 pub loop-p-preserved : goal.loop-p-preserved
 loop-p-preserved c = elim c.if-is_made.branch [ then-is_made w ↦ search (counts, rules) | else-is_made w ↦ search (counts, rules) ]
 

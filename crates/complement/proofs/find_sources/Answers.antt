@@ -3,6 +3,7 @@ use borrow.Author.Rules.{rules}
 use Rattle.complement.proofs.find_sources.Goals as goal
 use Rattle.complement.proofs.find_sources.Goals.{then-is_made, else-is_made}
 
+-- so that places written from elsewhere on are refused at the invariant
 pub loop-p-init : goal.loop-p-init
 loop-p-init c = search (chooses, rules)
 

@@ -1,9 +1,8 @@
-use Rattle.refusals.proofs.Chains.{chains}
-use borrow.Author.Rules.{rules}
+use Rattle.refusals.proofs.Chains.{chain_first, chain_next}
 use Rattle.complement.proofs.later_fault.Goals as goal
 
-pub returns-in-Faulty : goal.returns-in-Faulty
-returns-in-Faulty c = search (chains, rules)
+pub returns-in_err-marked_fault : goal.returns-in_err-marked_fault
+returns-in_err-marked_fault c = chain_first _ _ _ _ c.from_residual.ensures.1 c.in_err-marked_fault.ensures
 
-pub returns-in-Sound : goal.returns-in-Sound
-returns-in-Sound c = search (chains, rules)
+pub returns : goal.returns
+returns c = chain_next _ _ _ _ c.in_ok-marked_fault.ensures c.limit_fault.ensures

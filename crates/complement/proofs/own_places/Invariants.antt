@@ -1,4 +1,3 @@
-use Prim.Native.Nat.{◌-◌}
 use lib.ListN.{replicate}
 use Rattle.ground.specs.Limits.{count_limit}
 use Rattle.ground.proofs.Fill.{Made}
@@ -6,6 +5,3 @@ use Rattle.complement.proofs.own_places.Given as goal
 
 abbrev pub invariant-loop-p : goal.invariant-loop-p
 invariant-loop-p l = Made 0 (λ k. k) (replicate count_limit 0) l.p l.own
-
-abbrev pub decreases-loop-p : goal.decreases-loop-p
-decreases-loop-p l = count_limit - l.p

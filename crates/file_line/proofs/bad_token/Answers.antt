@@ -2,9 +2,6 @@ use Rattle.file_line.proofs.Turns.{lookings}
 use borrow.Author.Rules.{rules}
 use Rattle.file_line.proofs.bad_token.Goals as goal
 
-pub loop-p-init : goal.loop-p-init
-loop-p-init c = search (lookings, rules)
-
 pub returns-then-is_bad_token : goal.returns-then-is_bad_token
 returns-then-is_bad_token c = search (lookings, rules)
 

@@ -1,12 +1,6 @@
-use Rattle.file_line.proofs.Judging.{lettered}
-use borrow.Author.Rules.{rules}
+use Rattle.refusals.proofs.Chains.{chain_next}
+use Rattle.file_line.proofs.Turns.{letters_found}
 use Rattle.file_line.proofs.letters_fault.Goals as goal
 
-pub returns-then-s-n-gt-WORD_LIMIT : goal.returns-then-s-n-gt-WORD_LIMIT
-returns-then-s-n-gt-WORD_LIMIT c = search (lettered, rules)
-
-pub returns-then-fit_letters : goal.returns-then-fit_letters
-returns-then-fit_letters c = search (lettered, rules)
-
-pub returns-else-fit_letters : goal.returns-else-fit_letters
-returns-else-fit_letters c = search (lettered, rules)
+pub returns : goal.returns
+returns c = chain_next _ _ _ _ c.in_ok-refuse.ensures (letters_found _ _ _ _ _ c.fit_letters.ensures c.refuse-2.ensures)

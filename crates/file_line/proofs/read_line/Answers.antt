@@ -1,31 +1,31 @@
-use mathlib.Core.Path.{◌≡◌, refl, sym, ◌∙◌}
-use native.Mathlib.Omega.{arith}
-use Rattle.refusals.specs.declared.Fault.TheVariants.{Sound}
-use Rattle.file_line.specs.Read.{rooms}
-use Rattle.file_line.proofs.Judging.{asked_refused, stored_took, stored_rooms}
+use mathlib.Core.Path.{refl, sym}
+use Rattle.refusals.proofs.Chains.{chain_first}
+use Rattle.file_line.specs.Read.{line_of}
+use Rattle.file_line.proofs.Judging.{asked_refused, stored_took, stored_rooms, refused_good}
 use Rattle.file_line.proofs.Accept.{asked_accepted}
 use Rattle.file_line.proofs.Meaning.{judged_number, refused_line}
-use borrow.Author.Rules.{rules}
 use Rattle.file_line.proofs.read_line.Goals as goal
 
+pub returns-in_err-judge-clause-value : goal.returns-in_err-judge-clause-value
+unfolding line_of
+returns-in_err-judge-clause-value c = chain_first _ _ _ _ c.from_residual.ensures.1 (sym (asked_refused c.args.s c.args.d.now c.args.rooms.now _ c.in_err-judge.ensures _ refl).0)
+
+pub returns-in_err-judge-clause-lent : goal.returns-in_err-judge-clause-lent
+returns-in_err-judge-clause-lent c = let a = asked_refused c.args.s c.args.d.now c.args.rooms.now _ c.in_err-judge.ensures _ refl in
+    sym (rw a.1 at (refused_line c.args.s c.args.d.now c.args.rooms.now _ _ a.0).1)
+
+pub returns-in_err-judge-clause-good : goal.returns-in_err-judge-clause-good
+returns-in_err-judge-clause-good c = let a = asked_refused c.args.s c.args.d.now c.args.rooms.now _ c.in_err-judge.ensures _ refl in
+    refused_good _ _ c.from_residual.ensures.1 (judged_number c.args.s c.args.d.now c.args.rooms.now _ _ a.0).0
+
 pub store-requires : goal.store-requires
-store-requires c = let p = c.requires in (p.0, asked_accepted _ _ _ (sym c.judge-fault.ensures ∙ (let h : c.judge-fault.result ≡ Sound = search rules in h)), p.1)
+store-requires c = (c.requires, asked_accepted _ _ _ (sym c.in_ok-judge.ensures))
 
 pub take_line-requires : goal.take_line-requires
-take_line-requires c =
-    let p = c.requires in (
-      p.0,
-      asked_accepted _ _ _ (sym c.judge-fault.ensures ∙ (let h : c.judge-fault.result ≡ Sound = search rules in h)),
-      record {
-        caps = omega (arith, p.1.caps, c.store.auto.caps);
-        marks = omega (arith, p.1.marks, c.store.auto.marks);
-        pre = omega (arith, p.1.pre, c.store.auto.pre);
-        post = omega (arith, p.1.post, c.store.auto.post);
-      },
-    )
+take_line-requires c = (c.requires, asked_accepted _ _ _ (sym c.in_ok-judge.ensures))
 
-pub returns-in-Faulty : goal.returns-in-Faulty
-returns-in-Faulty c = let x = (rooms c.args.caps.now c.args.marks.now c.args.initial.now c.args.pre.now c.args.post.now c.args.word.now) in let a = asked_refused c.args.s c.args.d.now x _ c.in-Faulty.ensures _ _ refl in let l = refused_line c.args.s c.args.d.now x _ _ a.0 in let n = judged_number c.args.s c.args.d.now x _ _ a.0 in record { value = sym l.0; lent = sym (rw a.1 at l.1); good = n.0 }
+pub returns-clause-value : goal.returns-clause-value
+returns-clause-value c = stored_took c.args.s c.args.d.now c.args.rooms.now _ c.in_ok-judge.ensures refl _ c.store.ensures _ c.take_line.ensures.value
 
-pub returns-in-Sound : goal.returns-in-Sound
-returns-in-Sound c = let x = (rooms c.args.caps.now c.args.marks.now c.args.initial.now c.args.pre.now c.args.post.now c.args.word.now) in let took = stored_took c.args.s c.args.d.now x c.judge-fault.result c.judge-fault.ensures (let h : c.judge-fault.result ≡ Sound = search rules in h) _ c.store.ensures _ c.take_line.ensures.value in let left = stored_rooms c.args.s c.args.d.now x c.judge-fault.result c.judge-fault.ensures (let h : c.judge-fault.result ≡ Sound = search rules in h) _ c.store.ensures in record { value = took; lent = left; good = c.take_line.ensures.good }
+pub returns-clause-lent : goal.returns-clause-lent
+returns-clause-lent c = stored_rooms c.args.s c.args.d.now c.args.rooms.now _ c.in_ok-judge.ensures refl _ c.store.ensures

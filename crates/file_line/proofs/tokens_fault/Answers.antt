@@ -1,9 +1,5 @@
-use Rattle.file_line.proofs.Judging.{tokened}
-use borrow.Author.Rules.{rules}
+use Rattle.file_line.proofs.Turns.{tokens_found}
 use Rattle.file_line.proofs.tokens_fault.Goals as goal
 
-pub returns-then-bad_token-p : goal.returns-then-bad_token-p
-returns-then-bad_token-p c = search (tokened, rules)
-
 pub returns : goal.returns
-returns c = search (tokened, rules)
+returns c = tokens_found _ _ _ _ _ _ _ c.bad_token.ensures c.is_some.ensures c.refuse.ensures

@@ -1,13 +1,9 @@
 use native.Mathlib.Omega.{arith}
-use mathlib.Core.Path.{sym, ◌∙◌, refl}
-use Rattle.file_mask.proofs.Turns.{above_turn, above_none}
+use Rattle.file_mask.proofs.Turns.{above_shift, above_all}
 use Rattle.file_mask.proofs.above_bits.Goals as goal
 
-pub loop-left-init : goal.loop-left-init
-loop-left-init c = refl
+pub returns-then-places-lt64 : goal.returns-then-places-lt64
+returns-then-places-lt64 c = above_shift c.args.mask c.args.places
 
-pub loop-left-preserved : goal.loop-left-preserved
-loop-left-preserved c = above_turn c.loop-left.m c.loop-left.left _ _ (omega arith) (omega arith) (omega arith) ∙ c.loop-left.invariant
-
-pub returns : goal.returns
-returns c = sym (above_none c.loop-left.m c.loop-left.left (omega arith)) ∙ c.loop-left.invariant
+pub returns-else-places-lt64 : goal.returns-else-places-lt64
+returns-else-places-lt64 c = above_all c.args.mask c.args.places (omega arith) (omega arith)

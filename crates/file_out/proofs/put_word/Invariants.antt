@@ -1,10 +1,7 @@
-use Prim.Native.Nat.{◌-◌, ◌≤◌}
-use Rattle.file_put.specs.Append.{Appended}
-use Rattle.file_text.specs.Text.{letters_line, joined}
+use lib.ListN.{length}
+use Rattle.std.specs.Slice.Iter.{chunks_rest, chunks_size}
+use Rattle.file_out.proofs.Joined.{Lettered}
 use Rattle.file_out.proofs.put_word.Given as goal
 
-abbrev pub invariant-loop-k : goal.invariant-loop-k
-invariant-loop-k l = (l.k ≤ l.lines) × (Appended l.initial.out l.at (joined (letters_line l.word) l.k) l.r l.out)
-
-abbrev pub decreases-loop-k : goal.decreases-loop-k
-decreases-loop-k l = l.lines - l.k
+abbrev pub invariant-loop-letters : goal.invariant-loop-letters
+invariant-loop-letters l = Lettered l.initial.sheet l.word (length l.yielded) (chunks_size l.letters-iterator) (chunks_rest l.letters-iterator) l.sheet

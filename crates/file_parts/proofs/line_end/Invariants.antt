@@ -1,11 +1,8 @@
 use mathlib.Core.Path.{◌≡◌}
-use Prim.Native.Nat.{◌+◌, ◌-◌, ◌≤◌}
-use lib.ListN.{length, drop}
+use Prim.Native.Nat.{◌+◌}
+use lib.ListN.{drop}
 use Rattle.file_parts.specs.File.{line_len}
 use Rattle.file_parts.proofs.line_end.Given as goal
 
 abbrev pub invariant-loop-e : goal.invariant-loop-e
-invariant-loop-e l = (l.e ≤ length l.part) × (l.e + line_len (drop l.e l.part) ≡ l.at + line_len (drop l.at l.part))
-
-abbrev pub decreases-loop-e : goal.decreases-loop-e
-decreases-loop-e l = length l.part - l.e
+invariant-loop-e l = l.e + line_len (drop l.e l.part) ≡ l.at + line_len (drop l.at l.part)

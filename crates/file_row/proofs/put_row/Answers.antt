@@ -1,24 +1,27 @@
-use mathlib.Core.Path.{refl}
 use native.Mathlib.Omega.{arith}
 use lib.ListN.{length}
-use Rattle.file_put.proofs.Puts.{put_moved}
+use mathlib.Core.Path.{refl}
 use Rattle.file_row.proofs.Weights.{text_long}
 use Rattle.file_row.proofs.Narrow.{row_alike, takes_fit, puts_fit}
-use Rattle.file_row.proofs.Listed.{row_put}
-use borrow.Author.Rules.{rules}
+use Rattle.file_row.proofs.Listed.{row_spelled}
 use Rattle.file_row.proofs.put_row.Goals as goal
 
-pub put_byte-b-requires : goal.put_byte-b-requires
-put_byte-b-requires c = omega (arith, c.requires.0, put_moved _ c.put_byte-a.ensures refl)
+pub put_weights-requires : goal.put_weights-requires
+put_weights-requires c =
+    let e = row_alike {n = length c.args.takes.now} c.row_kind-kind.ensures refl in
+    (omega arith, rw c.row_kind-kind.ensures (takes_fit c.args.takes.now c.args.puts.now))
 
-pub put_weights-c-requires : goal.put_weights-c-requires
-put_weights-c-requires c = let e = row_alike {n = length c.args.takes.now} c.row_kind-kind.ensures refl in let g = row_alike c.row_kind-kind.ensures c.requires.1 in let f = takes_fit c.args.takes.now c.args.puts.now in let h = puts_fit c.args.takes.now c.args.puts.now c.requires.1 in (omega (arith, c.requires.0, c.requires.1, e, g, put_moved _ c.put_byte-a.ensures refl, put_moved _ c.put_byte-b.ensures refl), rw c.row_kind-kind.ensures (search rules))
-
-pub put_weights-d-requires : goal.put_weights-d-requires
-put_weights-d-requires c = let e = row_alike {n = length c.args.takes.now} c.row_kind-kind.ensures refl in let g = row_alike c.row_kind-kind.ensures c.requires.1 in let f = takes_fit c.args.takes.now c.args.puts.now in let h = puts_fit c.args.takes.now c.args.puts.now c.requires.1 in (omega (arith, c.requires.0, c.requires.1, e, g, put_moved _ c.put_byte-a.ensures refl, put_moved _ c.put_byte-b.ensures refl, put_moved _ c.put_weights-c.ensures (text_long _ _)), rw c.row_kind-kind.ensures (search rules))
+pub put_weights-requires-2 : goal.put_weights-requires-2
+put_weights-requires-2 c =
+    let e = row_alike {n = length c.args.takes.now} c.row_kind-kind.ensures refl in
+    let g = row_alike c.row_kind-kind.ensures c.requires.1 in
+    (omega (arith, text_long c.row_kind-kind.result c.args.takes.now), rw c.row_kind-kind.ensures (puts_fit c.args.takes.now c.args.puts.now c.requires.1))
 
 pub put_feed-requires : goal.put_feed-requires
-put_feed-requires c = let e = row_alike {n = length c.args.takes.now} c.row_kind-kind.ensures refl in let g = row_alike c.row_kind-kind.ensures c.requires.1 in omega (arith, c.requires.0, c.requires.1, e, g, put_moved _ c.put_byte-a.ensures refl, put_moved _ c.put_byte-b.ensures refl, put_moved _ c.put_weights-c.ensures (text_long _ _), put_moved _ c.put_weights-d.ensures (text_long _ _))
+put_feed-requires c =
+    let e = row_alike {n = length c.args.takes.now} c.row_kind-kind.ensures refl in
+    let g = row_alike c.row_kind-kind.ensures c.requires.1 in
+    omega (arith, text_long c.row_kind-kind.result c.args.takes.now, text_long c.row_kind-kind.result c.args.puts.now)
 
 pub returns : goal.returns
-returns c = row_put c.args.t c.args.takes.now c.args.puts.now c.row_kind-kind.ensures c.put_byte-a.ensures c.put_byte-b.ensures c.put_weights-c.ensures c.put_weights-d.ensures c.put_feed.ensures
+returns c = row_spelled c.args.t c.args.takes.now c.args.puts.now c.row_kind-kind.ensures c.put_bytes.ensures c.put_weights.ensures c.put_weights-2.ensures c.put_feed.ensures

@@ -1,10 +1,11 @@
-use Rattle.net.specs.Net.{net_of}
-use Rattle.file_write.proofs.Answers.{text_marked, text_word}
-use borrow.Author.Rules.{rules}
+use Rattle.file_write.specs.Told.{text_fault}
+use Rattle.refusals.proofs.Chains.{chain_first, chain_next}
 use Rattle.file_write.proofs.text_fault.Goals as goal
 
-pub returns-in-Faulty : goal.returns-in-Faulty
-returns-in-Faulty c = text_marked (net_of c.args.places c.args.transitions c.args.pre.now c.args.post.now c.args.caps.now c.args.marks.now) c.args.initial.now c.args.word.now _ c.marked_fault-found.ensures _ _ (search rules)
+pub returns-in_err-marked_fault : goal.returns-in_err-marked_fault
+unfolding text_fault
+returns-in_err-marked_fault c = chain_first _ _ _ _ c.from_residual.ensures.1 c.in_err-marked_fault.ensures
 
-pub returns-in-Sound : goal.returns-in-Sound
-returns-in-Sound c = text_word (net_of c.args.places c.args.transitions c.args.pre.now c.args.post.now c.args.caps.now c.args.marks.now) c.args.initial.now c.args.word.now _ c.marked_fault-found.ensures _ (search rules) c.word_fault.ensures
+pub returns : goal.returns
+unfolding text_fault
+returns c = chain_next _ _ _ _ c.in_ok-marked_fault.ensures c.word_fault.ensures

@@ -1,13 +1,8 @@
 use mathlib.Core.Path.{refl}
-use native.Mathlib.Omega.{arith}
 use Rattle.file_reads.proofs.Inputs.{from_first}
 use Rattle.kaunorpi.proofs.Making.{made_nothing, made_line}
-use Rattle.file_parts.proofs.Line.{large}
 use borrow.Author.Rules.{rules}
 use Rattle.kaunorpi.proofs.answer.Goals as goal
-
-pub show-requires : goal.show-requires
-show-requires g c = (c.read_all-f.ensures.sound, large _ _ (record { caps = omega arith; marks = omega arith; initial = omega arith; pre = omega arith; post = omega arith; word = omega arith }) c.requires.0, c.requires.1)
 
 pub returns-in-Failed-clause-made : goal.returns-in-Failed-clause-made
 returns-in-Failed-clause-made g c = made_nothing _ _ (from_first c.new-s.result c.cleared-h.result _ _ c.new-s.ensures.0 c.cleared-h.ensures.value c.read_all-f.ensures.reads) _ _ (search rules) refl

@@ -12,8 +12,8 @@ use Rattle.list_arcs.proofs.is_stopped.Goals as goal
 pub returns-then-tokens-takes : goal.returns-then-tokens-takes
 returns-then-tokens-takes c = rw (lt-ltb c.args.tokens c.args.takes (omega arith))
 
-pub returns-then-most-cap : goal.returns-then-most-cap
-returns-then-most-cap c =
+pub returns-then-most-from : goal.returns-then-most-from
+returns-then-most-from c =
     or_next _ _ _ (le-ltb c.args.tokens c.args.takes (omega arith))
     (sym (and-false (ltb c.args.cap no_capacity) _ (le-ltb (c.args.cap + leaves_first c.args.mark c.args.takes) (c.args.tokens + c.args.puts) (omega arith))))
 

@@ -1,11 +1,8 @@
-use Prim.Native.Nat.{◌-◌, ◌%◌, ◌≤◌}
+use Prim.Native.Nat.{◌-◌}
 use lib.ListN.{get_or}
 use Rattle.ground.proofs.Scan.{Below}
 use Rattle.list_arcs.specs.Arc.{arc_at}
 use Rattle.list_arcs.proofs.skip_at.Given as goal
 
 abbrev pub invariant-loop-n : goal.invariant-loop-n
-invariant-loop-n l = (l.n ≤ l.k % l.places) × Below (λ n. arc_at (get_or l.pre (l.k - n) 0) (get_or l.post (l.k - n) 0)) l.n
-
-abbrev pub decreases-loop-n : goal.decreases-loop-n
-decreases-loop-n l = l.k % l.places - l.n
+invariant-loop-n l = Below (λ n. arc_at (get_or l.net.pre.now (l.k - n) 0) (get_or l.net.post.now (l.k - n) 0)) l.n

@@ -1,27 +1,31 @@
-use Rattle.net.specs.Net.{net_of}
-use Rattle.list_check.proofs.Refusals.{accepted_lent}
-use Rattle.list_check.proofs.Targets.{target_claims}
-use native.Mathlib.Omega.{arith}
 use borrow.Author.Tests.{eqb-true}
-use lib.ListN.{length}
-use lib.Dec.{eqb}
-use borrow.Author.Rules.{rules}
+use Rattle.net.specs.Lent.{lent}
+use Rattle.lists.proofs.Answers.{claim_refused, claim_failed, claim_open, claim_shown}
+use Rattle.list_check.proofs.Refusals.{answered_lent}
 use Rattle.list_check.proofs.check_target.Goals as goal
 
-pub nonzero_div-n : goal.nonzero_div-n
-nonzero_div-n c = let l = accepted_lent c.args.kind (net_of c.args.places c.args.transitions c.args.pre.now c.args.post.now c.args.caps.now c.args.marks.now) c.args.initial.now c.args.list.now (eqb (length c.args.target.now) c.args.places) c.target_fault-next.result _ c.check_list-found.ensures (search rules) in omega (arith, l.ready.sized.some_places)
-
-pub holds-requires : goal.holds-requires
-holds-requires c = let l = accepted_lent c.args.kind (net_of c.args.places c.args.transitions c.args.pre.now c.args.post.now c.args.caps.now c.args.marks.now) c.args.initial.now c.args.list.now (eqb (length c.args.target.now) c.args.places) c.target_fault-next.result _ c.check_list-found.ensures (search rules) in record { places_le_count_limit = l.ready.sized.few_places; list_len = l.ready.long; given_len = eqb-true _ _ l.agrees }
-
-pub returns-in-Refused : goal.returns-in-Refused
-returns-in-Refused c = search (target_claims, rules)
+pub returns-in_err-answer : goal.returns-in_err-answer
+returns-in_err-answer c = claim_refused _ _ _ _ c.from_residual.ensures.1 (rw c.target_fault-next.ensures at c.in_err-answer.ensures)
 
 pub returns-in-Failed : goal.returns-in-Failed
-returns-in-Failed c = search (target_claims, rules)
+returns-in-Failed c = claim_failed _ _ _ (rw c.target_fault-next.ensures at c.in_ok-answer.ensures) _ c.in-Failed.is
+
+pub new-markings-requires : goal.new-markings-requires
+new-markings-requires c = (answered_lent c.args.kind (lent c.args.net.now) c.args.initial.now c.args.list.now _ _ _ c.in_ok-answer.ensures).ready.sized.some_places
+
+pub holds-requires : goal.holds-requires
+holds-requires c =
+    let n = c.new-markings.ensures in
+    let l = answered_lent c.args.kind (lent c.args.net.now) c.args.initial.now c.args.list.now _ _ _ c.in_ok-answer.ensures in
+    rw (n.places_are, n.count_is, n.list_is)
+    (record { places_le_count_limit = l.ready.sized.few_places; whole = l.ready.long; given_len = eqb-true _ _ l.agrees })
 
 pub returns-then-holds : goal.returns-then-holds
-returns-then-holds c = search (target_claims, rules)
+returns-then-holds c =
+    let n = c.new-markings.ensures in
+    claim_open _ _ _ (rw c.target_fault-next.ensures at c.in_ok-answer.ensures) _ c.in-Accepted.is (rw (n.places_are, n.count_is, n.list_is) at c.holds.ensures) c.if-holds.true
 
 pub returns-else-holds : goal.returns-else-holds
-returns-else-holds c = search (target_claims, rules)
+returns-else-holds c =
+    let n = c.new-markings.ensures in
+    claim_shown _ _ _ (rw c.target_fault-next.ensures at c.in_ok-answer.ensures) _ c.in-Accepted.is (rw (n.places_are, n.count_is, n.list_is) at c.holds.ensures) c.if-holds.false

@@ -1,16 +1,23 @@
-use Rattle.list_check.proofs.Refusals.{givens, start_sized, caps_long}
-use Rattle.net.specs.Net.{net_of}
-use borrow.Author.Rules.{rules}
+use mathlib.Core.Path.{sym}
+use Rattle.net.specs.Lent.{lent}
+use Rattle.refusals.proofs.Chains.{chain_first, chain_next}
+use Rattle.refusals.proofs.Refusals.{start_met}
+use Rattle.list_check.specs.Given.{given_fault}
 use Rattle.list_check.proofs.find_fault.Goals as goal
 
-pub then_loose-later-requires : goal.then_loose-later-requires
-then_loose-later-requires c = start_sized c.args.kind (net_of c.args.places c.args.transitions c.args.pre.now c.args.post.now c.args.caps.now c.args.marks.now) c.args.initial.now c.args.list.now c.args.fits c.args.next _ c.is_fitting-agree.ensures _ c.start_fault-found.ensures (search rules)
+pub returns-in_err-start_fault : goal.returns-in_err-start_fault
+unfolding given_fault
+returns-in_err-start_fault c = chain_first _ _ _ _ c.from_residual.ensures.1 (rw c.is_fitting-agree.ensures at c.in_err-start_fault.ensures)
+
+pub invariant_of-then_loose : goal.invariant_of-then_loose
+invariant_of-then_loose c = record { sized = (start_met (lent c.args.net.now) c.args.initial.now _ (sym c.in_ok-start_fault.ensures)).sized }
 
 pub list_fault-requires : goal.list_fault-requires
-list_fault-requires c = let r = caps_long c.args.kind (net_of c.args.places c.args.transitions c.args.pre.now c.args.post.now c.args.caps.now c.args.marks.now) c.args.initial.now c.args.list.now c.args.fits c.args.next _ c.is_fitting-agree.ensures _ c.start_fault-found.ensures (search rules) in record { le_places = r.0; caps_len = r.1 }
+list_fault-requires c =
+    let s = (start_met (lent c.args.net.now) c.args.initial.now _ (sym c.in_ok-start_fault.ensures)).sized in
+    record { le_places = (s.some_places, s.few_places); caps_len = s.capped }
 
-pub returns-in-Faulty : goal.returns-in-Faulty
-returns-in-Faulty c = search (givens, rules)
-
-pub returns-in-Sound : goal.returns-in-Sound
-returns-in-Sound c = search (givens, rules)
+pub returns : goal.returns
+unfolding given_fault
+returns c =
+    chain_next _ _ _ _ (rw c.is_fitting-agree.ensures at c.in_ok-start_fault.ensures) (rw c.then_loose-later.ensures at c.list_fault.ensures)

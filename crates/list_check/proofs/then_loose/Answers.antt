@@ -1,9 +1,9 @@
-use Rattle.list_check.proofs.Refusals.{nexts}
-use borrow.Author.Rules.{rules}
+use mathlib.Core.Path.{sym}
+use Rattle.refusals.proofs.Chains.{chain_first, chain_next}
 use Rattle.list_check.proofs.then_loose.Goals as goal
 
-pub returns-in-Faulty : goal.returns-in-Faulty
-returns-in-Faulty c = search (nexts, rules)
+pub returns-in_err-next : goal.returns-in_err-next
+returns-in_err-next c = chain_first _ _ _ _ c.from_residual.ensures.1 (sym c.in_err-next.was)
 
-pub returns-in-Sound : goal.returns-in-Sound
-returns-in-Sound c = search (nexts, rules)
+pub returns : goal.returns
+returns c = chain_next _ _ _ _ (sym c.in_ok-next.was) c.loose_fault.ensures

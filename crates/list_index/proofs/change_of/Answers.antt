@@ -1,4 +1,3 @@
-use native.Mathlib.Omega.{arith}
 use Rattle.list_index.proofs.Hashes.{hashed_below}
 use borrow.Author.Rules.{rules}
 use Rattle.list_index.proofs.change_of.Goals as goal
@@ -8,6 +7,3 @@ overflow_add-result c = let h = hashed_below _ _ c.hash_of-put.ensures in search
 
 pub overflow_sub-result : goal.overflow_sub-result
 overflow_sub-result c = let h = hashed_below _ _ c.hash_of-taken.ensures in search rules
-
-pub returns : goal.returns
-returns c = omega (arith, c.hash_of-taken.ensures, c.hash_of-put.ensures)

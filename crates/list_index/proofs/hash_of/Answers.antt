@@ -9,7 +9,4 @@ pub mix-h-requires : goal.mix-h-requires
 mix-h-requires c = search (hashes, rules)
 
 pub loop-p-preserved : goal.loop-p-preserved
-loop-p-preserved c = (search rules, mixed_next _ _ _ _ c.loop-p.invariant.1 c.mix-h.ensures)
-
-pub returns : goal.returns
-returns c = search (hashes, rules)
+loop-p-preserved c = mixed_next _ _ _ _ c.loop-p.invariant c.mix-h.ensures

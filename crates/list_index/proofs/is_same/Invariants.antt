@@ -1,12 +1,8 @@
-use Prim.Native.Nat.{◌≤◌, ◌-◌}
 use mathlib.Core.Path.{◌≡◌}
-use lib.ListN.{length, get_or}
+use lib.ListN.{get_or}
 use Rattle.ground.specs.Lists.{tally}
 use Rattle.refusals.specs.Given.{unlike}
 use Rattle.list_index.proofs.is_same.Given as goal
 
 abbrev pub invariant-loop-p : goal.invariant-loop-p
-invariant-loop-p l = (l.p ≤ length l.marking) × (l.differing ≡ tally (λ p. unlike (get_or l.listed p 0) (get_or l.marking p 0)) l.p)
-
-abbrev pub decreases-loop-p : goal.decreases-loop-p
-decreases-loop-p l = length l.marking - l.p
+invariant-loop-p l = l.differing ≡ tally (λ p. unlike (get_or l.listed p 0) (get_or l.marking p 0)) l.p

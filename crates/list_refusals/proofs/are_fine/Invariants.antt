@@ -1,10 +1,7 @@
-use Prim.Native.Nat.{◌*◌, ◌-◌, ◌≤◌}
+use Prim.Native.Nat.{◌*◌}
 use Rattle.ground.proofs.Scan.{Below}
 use Rattle.list_refusals.proofs.Fines.{bad}
 use Rattle.list_refusals.proofs.are_fine.Given as goal
 
 abbrev pub invariant-loop-k : goal.invariant-loop-k
-invariant-loop-k l = (l.k ≤ l.n) × Below (bad l.places l.caps l.list) (l.k * l.places)
-
-abbrev pub decreases-loop-k : goal.decreases-loop-k
-decreases-loop-k l = l.n - l.k
+invariant-loop-k l = Below (bad l.places l.caps l.list) (l.k * l.places)

@@ -1,9 +1,7 @@
-use Rattle.list_refusals.proofs.Wholes.{targets}
-use borrow.Author.Rules.{rules}
+use Rattle.list_refusals.specs.Given.{target_fault}
+use Rattle.refusals.proofs.Chains.{found_refused}
 use Rattle.list_refusals.proofs.target_fault.Goals as goal
 
-pub returns-then-p-target : goal.returns-then-p-target
-returns-then-p-target c = search (targets, rules)
-
-pub returns-else-p-target : goal.returns-else-p-target
-returns-else-p-target c = search (targets, rules)
+pub returns : goal.returns
+unfolding target_fault
+returns c = found_refused _ _ 3 _ _ c.lowest_any.ensures c.refuse_found.ensures

@@ -38,10 +38,7 @@ pub loop-p-init : goal.loop-p-init
 loop-p-init c = search (downs, rules)
 
 pub returns-then-is_unlike : goal.returns-then-is_unlike
-returns-then-is_unlike c = none_seen _ _ c.loop-p.p _ c.is_unlike.ensures (search rules) (omega (arith, c.loop-p-test.true)) c.loop-p.invariant.0
-
-pub loop-p-preserved : goal.loop-p-preserved
-loop-p-preserved c = search (downs, rules)
+returns-then-is_unlike c = none_seen _ _ c.loop-p.p _ c.is_unlike.ensures (search rules) (omega (arith, c.loop-p-test.true)) c.loop-p.auto.p
 
 pub returns : goal.returns
-returns c = none_down _ (length c.args.marking.now) c.loop-p.p c.loop-p.invariant.1 (omega (arith, c.loop-p-test.false))
+returns c = none_down _ (length c.args.marking.now) c.loop-p.p c.loop-p.invariant c.loop-p-test.false

@@ -10,7 +10,4 @@ pub record Above (f : ℕ → Bool) (i n : ℕ) : Type 0 where
   pub none : (k : ℕ) → i ≤ k → k < n → f k ≡ false
 
 abbrev pub invariant-loop-p : goal.invariant-loop-p
-invariant-loop-p l = (l.p ≤ length l.marking) × Above (λ p. unlike (get_or l.listed p 0) (get_or l.marking p 0)) l.p (length l.marking)
-
-abbrev pub decreases-loop-p : goal.decreases-loop-p
-decreases-loop-p l = l.p
+invariant-loop-p l = Above (λ p. unlike (get_or l.listed p 0) (get_or l.marking p 0)) l.p (length l.marking)

@@ -1,34 +1,29 @@
-use Prim.Native.Nat.{◌<◌}
-use native.Mathlib.Omega.{arith}
-use native.Mathlib.Nat.{add-sub_cancel_left}
-use Rattle.net.specs.Net.{net_of}
-use mathlib.Core.Path.{refl}
-use Rattle.net.specs.Letter.{arcs_at}
+use Prim.Native.Nat.{ℕ}
+use mathlib.Core.Path.{◌≡◌, refl}
+use mathlib.Core.Bool.{true}
+use mathlib.Core.List.{List}
+use lib.ListN.{length}
+use Rattle.net.specs.Net.{Net}
+use Rattle.net.specs.Lent.{lent, arcs_in}
+use Rattle.net.specs.Letter.{Arcs, arcs_at, passes, fired, fired_at, Enough, Rows}
 use Rattle.net.proofs.Letters.{enough_of}
-use Rattle.net.proofs.Rows.{pre_end, post_end, rows_of}
-use borrow.Author.Rules.{rules}
+use Rattle.net.proofs.Rows.{rows_of}
 use Rattle.net.proofs.fire_at.Goals as goal
 
-pub overflow_mul-a : goal.overflow_mul-a
-overflow_mul-a c = omega (arith, (pre_end (net_of c.args.places c.args.transitions c.args.pre.now c.args.post.now c.args.caps.now c.args.marks.now) c.args.marking.now c.args.t c.requires.sized c.requires.t_lt_transitions))
+-- arcs that are a transition's
+module _ (a : Arcs) (net : Net) (m : List ℕ) (t : ℕ) (e : a ≡ arcs_at net t) where
+  ready : Rows (arcs_at net t) m → passes (arcs_at net t) m ≡ true → (length a.takes ≡ length m) × (length a.puts ≡ length m) × Enough a.takes m
+  ready r p = rw e (r.taken, r.put, enough_of (arcs_at net t) m _ r.taken refl p)
 
-pub overflow_add-e : goal.overflow_add-e
-overflow_add-e c = omega (arith, (pre_end (net_of c.args.places c.args.transitions c.args.pre.now c.args.post.now c.args.caps.now c.args.marks.now) c.args.marking.now c.args.t c.requires.sized c.requires.t_lt_transitions))
-
-pub offset_bounds-pre-a : goal.offset_bounds-pre-a
-offset_bounds-pre-a c = omega (arith, (pre_end (net_of c.args.places c.args.transitions c.args.pre.now c.args.post.now c.args.caps.now c.args.marks.now) c.args.marking.now c.args.t c.requires.sized c.requires.t_lt_transitions), (post_end (net_of c.args.places c.args.transitions c.args.pre.now c.args.post.now c.args.caps.now c.args.marks.now) c.args.marking.now c.args.t c.requires.sized c.requires.t_lt_transitions))
-
-pub slice_bounds-fire-end : goal.slice_bounds-fire-end
-slice_bounds-fire-end c = omega (arith, (pre_end (net_of c.args.places c.args.transitions c.args.pre.now c.args.post.now c.args.caps.now c.args.marks.now) c.args.marking.now c.args.t c.requires.sized c.requires.t_lt_transitions), (post_end (net_of c.args.places c.args.transitions c.args.pre.now c.args.post.now c.args.caps.now c.args.marks.now) c.args.marking.now c.args.t c.requires.sized c.requires.t_lt_transitions))
-
-pub offset_bounds-post-a : goal.offset_bounds-post-a
-offset_bounds-post-a c = omega (arith, (pre_end (net_of c.args.places c.args.transitions c.args.pre.now c.args.post.now c.args.caps.now c.args.marks.now) c.args.marking.now c.args.t c.requires.sized c.requires.t_lt_transitions), (post_end (net_of c.args.places c.args.transitions c.args.pre.now c.args.post.now c.args.caps.now c.args.marks.now) c.args.marking.now c.args.t c.requires.sized c.requires.t_lt_transitions))
-
-pub slice_bounds-fire-end-2 : goal.slice_bounds-fire-end-2
-slice_bounds-fire-end-2 c = omega (arith, (pre_end (net_of c.args.places c.args.transitions c.args.pre.now c.args.post.now c.args.caps.now c.args.marks.now) c.args.marking.now c.args.t c.requires.sized c.requires.t_lt_transitions), (post_end (net_of c.args.places c.args.transitions c.args.pre.now c.args.post.now c.args.caps.now c.args.marks.now) c.args.marking.now c.args.t c.requires.sized c.requires.t_lt_transitions))
+  fires : fired a.takes a.puts m ≡ fired_at net t m
+  fires = rw e refl
 
 pub fire-requires : goal.fire-requires
-fire-requires c = let t : c.args.t < c.args.transitions = c.requires.t_lt_transitions in let r = rows_of (net_of c.args.places c.args.transitions c.args.pre.now c.args.post.now c.args.caps.now c.args.marks.now) c.args.marking.now c.args.t c.requires.sized t c.requires.marking_len c.requires.small in let taken = r.taken in let put = r.put in simp add-sub_cancel_left record { takes_len = search rules; puts_len = search rules; small = c.requires.small; enough = enough_of (arcs_at (net_of c.args.places c.args.transitions c.args.pre.now c.args.post.now c.args.caps.now c.args.marks.now) c.args.t) c.args.marking.now _ r.taken refl c.requires.marking_value }
+fire-requires c =
+    let net = lent c.args.net.now in
+    let r = rows_of net c.args.marking.now c.args.t c.requires.sized c.requires.t_lt_transitions c.requires.marking_len c.requires.small in
+    let f = ready (arcs_in c.arcs_at-row.result) net c.args.marking.now c.args.t c.arcs_at-row.ensures r c.requires.marking_value in
+    record { takes_len = f.0; puts_len = f.1; small = c.requires.small; enough = f.2 }
 
 pub returns : goal.returns
-returns c = simp add-sub_cancel_left at c.fire.ensures
+returns c = rw c.fire.ensures (fires (arcs_in c.arcs_at-row.result) (lent c.args.net.now) c.args.marking.now c.args.t c.arcs_at-row.ensures)

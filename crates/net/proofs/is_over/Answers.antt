@@ -7,8 +7,8 @@ use Rattle.ground.proofs.Tests.{tests, below_is, and_next}
 use borrow.Author.Rules.{rules}
 use Rattle.net.proofs.is_over.Goals as goal
 
-pub returns-then-cap : goal.returns-then-cap
-returns-then-cap c =
+pub returns-then-cap-from : goal.returns-then-cap-from
+returns-then-cap-from c =
     and_next _ _ _ (lt-ltb c.args.cap no_capacity (omega arith))
     (below_is _ (c.args.cap + leaves_first c.args.mark c.args.takes) (c.args.tokens + c.args.puts)
     (λ h. omega (arith, ltb-true, leb-true))

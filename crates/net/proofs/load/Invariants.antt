@@ -1,10 +1,6 @@
-use Prim.Native.Nat.{◌-◌}
-use lib.ListN.{length, get_or}
+use lib.ListN.{get_or}
 use Rattle.ground.proofs.Fill.{Made}
 use Rattle.net.proofs.load.Given as goal
 
 abbrev pub invariant-loop-p : goal.invariant-loop-p
 invariant-loop-p l = Made 0 (λ p. get_or l.given p 0) l.initial.room l.p l.room
-
-abbrev pub decreases-loop-p : goal.decreases-loop-p
-decreases-loop-p l = length l.initial.room - l.p

@@ -1,4 +1,4 @@
-use Prim.Native.Nat.{◌≤◌, ◌-◌}
+use Prim.Native.Nat.{◌≤◌}
 use lib.ListN.{length}
 use Rattle.net.specs.Letter.{short}
 use Rattle.ground.proofs.Scan.{Below}
@@ -6,6 +6,3 @@ use Rattle.net.proofs.lowest_short.Given as goal
 
 abbrev pub invariant-loop-p : goal.invariant-loop-p
 invariant-loop-p l = (l.p ≤ length l.marking) × Below (short l.takes l.marking) l.p
-
-abbrev pub decreases-loop-p : goal.decreases-loop-p
-decreases-loop-p l = length l.marking - l.p

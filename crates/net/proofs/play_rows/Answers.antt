@@ -1,11 +1,11 @@
+use Rattle.net.specs.Lent.{arcs_in}
 use mathlib.Core.Path.{sym, ◌∙◌}
-use Rattle.net.specs.Letter.{arcs_of}
 use Rattle.net.proofs.Letters.{plays, enough_of}
 use borrow.Author.Rules.{rules}
 use Rattle.net.proofs.play_rows.Goals as goal
 
 pub fire-requires-clause-enough : goal.fire-requires-clause-enough
-fire-requires-clause-enough c = enough_of (arcs_of c.args.takes.now c.args.puts.now c.args.caps.now c.args.marks.now) c.args.marking.now _ (search rules) c.may_fire.ensures (search rules)
+fire-requires-clause-enough c = enough_of (arcs_in c.args.arcs.now) c.args.marking.now _ (search rules) c.may_fire.ensures (search rules)
 
 pub returns-then-may_fire : goal.returns-then-may_fire
 returns-then-may_fire c = search (plays, rules)

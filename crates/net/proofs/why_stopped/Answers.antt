@@ -1,9 +1,9 @@
-use Rattle.net.proofs.Letters.{causes}
-use borrow.Author.Rules.{rules}
+use Rattle.net.specs.Lent.{arcs_in}
+use Rattle.net.proofs.Letters.{cause_short, cause_over}
 use Rattle.net.proofs.why_stopped.Goals as goal
 
-pub returns-then-s-marking : goal.returns-then-s-marking
-returns-then-s-marking c = search (causes, rules)
+pub returns-in-Some : goal.returns-in-Some
+returns-in-Some c = cause_short (arcs_in c.args.arcs.now) c.args.marking.now _ c.in-Some.ensures
 
-pub returns : goal.returns
-returns c = search (causes, rules)
+pub returns-in-None : goal.returns-in-None
+returns-in-None c = cause_over (arcs_in c.args.arcs.now) c.args.marking.now _ c.in-None.ensures c.lowest_over.ensures

@@ -7,7 +7,7 @@ pub loop-p-init : goal.loop-p-init
 loop-p-init c = search (make_start, rules)
 
 pub loop-p-preserved : goal.loop-p-preserved
-loop-p-preserved c = (search rules, make_next 0 _ _ _ _ _ c.loop-p.invariant.1 (search rules) c.wide.ensures)
+loop-p-preserved c = (search rules, make_next 0 _ _ _ _ _ c.loop-p.invariant.1 (search rules) c.from.ensures)
 
 pub returns : goal.returns
 returns c = search (widened_end, rules)

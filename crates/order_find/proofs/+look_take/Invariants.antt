@@ -7,7 +7,7 @@ abbrev pub left : List ℕ → List ℕ → ℕ → ℕ → ℕ
 left first second n k = (length first - n) + (length second - k)
 
 abbrev pub decreases-look : goal.decreases-look
-decreases-look l = left l.first.now l.second.now l.n l.k + left l.first.now l.second.now l.n l.k + 1
+decreases-look l = left l.logs.now.first.now l.logs.now.second.now l.n l.k + left l.logs.now.first.now l.logs.now.second.now l.n l.k + 1
 
 abbrev pub decreases-take : goal.decreases-take
-decreases-take l = left l.first.now l.second.now l.n l.k + left l.first.now l.second.now l.n l.k
+decreases-take l = left l.logs.now.first.now l.logs.now.second.now l.n l.k + left l.logs.now.first.now l.logs.now.second.now l.n l.k

@@ -1,19 +1,9 @@
-use mathlib.Core.Path.{sym, ap, ◌∙◌}
-use mathlib.Core.Bool.{not}
-use Rattle.refusals.proofs.Chains.{refused, passed}
-use Rattle.order_rest.proofs.Exactly.{told_long, told_fits}
-use borrow.Author.Rules.{rules}
+use Rattle.refusals.proofs.Chains.{chain_first, chain_next}
+use Rattle.order_rest.proofs.Exactly.{told_of}
 use Rattle.order_rest.proofs.rest_fault.Goals as goal
 
-pub returns-in-Faulty : goal.returns-in-Faulty
-returns-in-Faulty c = told_long c.args.first.now c.args.second.now c.args.order.now c.args.step _ c.long_fault-long.ensures _ _ (search rules)
+pub returns-in_err-long_fault : goal.returns-in_err-long_fault
+returns-in_err-long_fault c = told_of _ _ _ _ _ (chain_first _ _ _ _ c.from_residual.ensures.1 c.in_err-long_fault.ensures)
 
-pub returns-then-is_fitting : goal.returns-then-is_fitting
-returns-then-is_fitting c =
-    told_fits c.args.first.now c.args.second.now c.args.order.now c.args.step _ c.long_fault-long.ensures _ (search rules)
-    (passed _ 16 0 (ap not (sym c.is_fitting.ensures ∙ c.if-is_fitting.true)))
-
-pub returns-else-is_fitting : goal.returns-else-is_fitting
-returns-else-is_fitting c =
-    told_fits c.args.first.now c.args.second.now c.args.order.now c.args.step _ c.long_fault-long.ensures _ (search rules)
-    (refused _ 16 0 (ap not (sym c.is_fitting.ensures ∙ c.if-is_fitting.false)))
+pub returns : goal.returns
+returns c = told_of _ _ _ _ _ (chain_next _ _ _ _ c.in_ok-long_fault.ensures (rw c.is_fitting.ensures at c.refuse.ensures))

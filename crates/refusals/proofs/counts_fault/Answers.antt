@@ -1,25 +1,19 @@
-use Rattle.net.specs.Net.{net_of}
-use Rattle.refusals.proofs.Refusals.{counts_faults, counts_sized}
-use borrow.Author.Rules.{rules}
+use Rattle.refusals.specs.Given.{counts_fault}
+use Rattle.refusals.proofs.Chains.{chain_first, chain_next}
 use Rattle.refusals.proofs.counts_fault.Goals as goal
 
-pub returns-then-is_outside : goal.returns-then-is_outside
-returns-then-is_outside c = search (counts_faults, rules)
+pub returns-in_err-refuse : goal.returns-in_err-refuse
+unfolding counts_fault
+returns-in_err-refuse c = chain_first _ _ _ _ c.from_residual.ensures.1 (rw c.are_outside.ensures at c.in_err-refuse.ensures)
 
-pub returns-then-is_outside-2 : goal.returns-then-is_outside-2
-returns-then-is_outside-2 c = search (counts_faults, rules)
+pub returns-in_err-refuse-2 : goal.returns-in_err-refuse-2
+unfolding counts_fault
+returns-in_err-refuse-2 c =
+    chain_next _ _ _ _ (rw c.are_outside.ensures at c.in_ok-refuse.ensures)
+    (chain_first _ _ _ _ c.from_residual-in_err-refuse-2.ensures.1 (rw c.are_misfits.ensures at c.in_err-refuse-2.ensures))
 
-pub is_misfit-requires : goal.is_misfit-requires
-is_misfit-requires c = search (counts_faults, rules)
-
-pub returns-then-is_misfit : goal.returns-then-is_misfit
-returns-then-is_misfit c = search (counts_faults, rules)
-
-pub weights_fault-requires : goal.weights_fault-requires
-weights_fault-requires c = counts_sized (net_of c.args.places c.args.transitions c.args.pre.now c.args.post.now c.args.caps.now c.args.marks.now) c.args.fits _ c.is_outside.ensures _ c.if-is_outside.false c.is_outside-2.ensures _ c.if-is_outside-2.false c.is_misfit.ensures c.if-is_misfit.false
-
-pub returns-then-fits : goal.returns-then-fits
-returns-then-fits c = search (counts_faults, rules)
-
-pub returns-else-fits : goal.returns-else-fits
-returns-else-fits c = search (counts_faults, rules)
+pub returns : goal.returns
+unfolding counts_fault
+returns c =
+    chain_next _ _ _ _ (rw c.are_outside.ensures at c.in_ok-refuse.ensures)
+    (chain_next _ _ _ _ (rw c.are_misfits.ensures at c.in_ok-refuse-2.ensures) c.weights_fault.ensures)

@@ -1,9 +1,7 @@
-use Rattle.refusals.proofs.Refusals.{marking_faults}
-use borrow.Author.Rules.{rules}
+use Rattle.refusals.specs.Given.{marking_fault}
+use Rattle.refusals.proofs.Chains.{found_refused}
 use Rattle.refusals.proofs.marking_fault.Goals as goal
 
-pub returns-then-p-marking : goal.returns-then-p-marking
-returns-then-p-marking c = search (marking_faults, rules)
-
-pub returns-else-p-marking : goal.returns-else-p-marking
-returns-else-p-marking c = search (marking_faults, rules)
+pub returns : goal.returns
+unfolding marking_fault
+returns c = found_refused _ _ 3 _ _ c.bad_token.ensures c.refuse_found.ensures

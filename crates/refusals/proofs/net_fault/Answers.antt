@@ -1,12 +1,17 @@
-use Rattle.refusals.proofs.Refusals.{net_faults}
+use mathlib.Core.Path.{sym}
+use Rattle.refusals.specs.Given.{net_fault}
+use Rattle.refusals.proofs.Chains.{chains, chain_first}
+use Rattle.refusals.proofs.Refusals.{counts_met}
 use borrow.Author.Rules.{rules}
 use Rattle.refusals.proofs.net_fault.Goals as goal
 
-pub loose_fault-requires : goal.loose_fault-requires
-loose_fault-requires c = search (net_faults, rules)
+pub returns-in_err-counts_fault : goal.returns-in_err-counts_fault
+unfolding net_fault
+returns-in_err-counts_fault c = chain_first _ _ _ _ c.from_residual.ensures.1 c.in_err-counts_fault.ensures
 
-pub returns-in-Faulty : goal.returns-in-Faulty
-returns-in-Faulty c = search (net_faults, rules)
+pub invariant_of-loose_fault : goal.invariant_of-loose_fault
+invariant_of-loose_fault c = record { sized = (counts_met _ _ (sym c.in_ok-counts_fault.ensures)).sized }
 
-pub returns-in-Sound : goal.returns-in-Sound
-returns-in-Sound c = search (net_faults, rules)
+pub returns : goal.returns
+unfolding net_fault
+returns c = search (chains, rules)

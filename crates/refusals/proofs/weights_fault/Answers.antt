@@ -1,9 +1,7 @@
-use Rattle.refusals.proofs.Refusals.{weights_faults}
-use borrow.Author.Rules.{rules}
+use Rattle.refusals.specs.Given.{weights_fault}
+use Rattle.refusals.proofs.Chains.{found_refused}
 use Rattle.refusals.proofs.weights_fault.Goals as goal
 
-pub returns-then-heavy-transitions : goal.returns-then-heavy-transitions
-returns-then-heavy-transitions c = search (weights_faults, rules)
-
-pub returns-else-heavy-transitions : goal.returns-else-heavy-transitions
-returns-else-heavy-transitions c = search (weights_faults, rules)
+pub returns : goal.returns
+unfolding weights_fault
+returns c = found_refused _ _ 18 _ _ c.heavy_transition.ensures c.refuse_found.ensures

@@ -1,12 +1,11 @@
-use Rattle.refusals.proofs.Words.{word_faults}
-use borrow.Author.Rules.{rules}
+use Rattle.refusals.specs.Given.{word_fault}
+use Rattle.refusals.proofs.Chains.{found_refused, chain_first, chain_next}
 use Rattle.refusals.proofs.word_fault.Goals as goal
 
-pub returns-then-word-gt-WORD_LIMIT : goal.returns-then-word-gt-WORD_LIMIT
-returns-then-word-gt-WORD_LIMIT c = search (word_faults, rules)
+pub returns-in_err-refuse : goal.returns-in_err-refuse
+unfolding word_fault
+returns-in_err-refuse c = chain_first _ _ _ _ c.from_residual.ensures.1 c.in_err-refuse.ensures
 
-pub returns-then-k-word : goal.returns-then-k-word
-returns-then-k-word c = search (word_faults, rules)
-
-pub returns-else-k-word : goal.returns-else-k-word
-returns-else-k-word c = search (word_faults, rules)
+pub returns : goal.returns
+unfolding word_fault
+returns c = chain_next _ _ _ _ c.in_ok-refuse.ensures (found_refused _ _ 5 _ _ c.bad_letter.ensures c.refuse_found.ensures)

@@ -1,12 +1,5 @@
-use Rattle.replay.proofs.Answers.{stretches}
-use borrow.Author.Rules.{rules}
+use Rattle.replay.proofs.Answers.{stretch_none}
 use Rattle.replay.proofs.replay_stretch.Goals as goal
 
-pub returns-then-end-start : goal.returns-then-end-start
-returns-then-end-start c = search (stretches, rules)
-
-pub returns-then-word-end : goal.returns-then-word-end
-returns-then-word-end c = search (stretches, rules)
-
-pub returns : goal.returns
-returns c = search (stretches, rules)
+pub returns-in-None : goal.returns-in-None
+returns-in-None c = stretch_none _ _ _ _ _ _ _ _ c.in-None.ensures.lookup.0 c.replay_part-in-None.ensures

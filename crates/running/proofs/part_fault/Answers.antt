@@ -1,14 +1,11 @@
-use borrow.Author.Rules.{rules}
-use Rattle.running.proofs.Fronts.{all_slots}
-use Rattle.running.proofs.Faults.{part_faults}
-use borrow.Author.Rules.{rules}
+use Rattle.refusals.proofs.Chains.{chain_first, chain_next}
+use Rattle.running.specs.State.{part_fault}
 use Rattle.running.proofs.part_fault.Goals as goal
 
-pub state_fault-found-requires : goal.state_fault-found-requires
-state_fault-found-requires c = all_slots c.args.state.marking (search rules)
+pub returns-in_err-state_fault : goal.returns-in_err-state_fault
+unfolding part_fault
+returns-in_err-state_fault c = chain_first _ _ _ _ c.from_residual.ensures.1 c.in_err-state_fault.ensures
 
-pub returns-in-Faulty : goal.returns-in-Faulty
-returns-in-Faulty c = search (part_faults, rules)
-
-pub returns-in-Sound : goal.returns-in-Sound
-returns-in-Sound c = search (part_faults, rules)
+pub returns : goal.returns
+unfolding part_fault
+returns c = chain_next _ _ _ _ c.in_ok-state_fault.ensures c.rest_fault.ensures

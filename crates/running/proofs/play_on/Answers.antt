@@ -1,13 +1,18 @@
 use borrow.Author.Rules.{rules}
-use Rattle.running.proofs.Fronts.{all_slots}
-use Rattle.running.proofs.Parts.{sound_allowed, held_small, ran_brief, ran_on}
+use Rattle.running.proofs.Parts.{sound_allowed, held_small, ran_brief}
 use Rattle.running.proofs.play_on.Goals as goal
 
+pub invariant_of-sized : goal.invariant_of-sized
+invariant_of-sized c = record { sized = (sound_allowed _ _ _ c.requires).sized }
+
 pub play_front-ran-requires : goal.play_front-ran-requires
-play_front-ran-requires c = let a = sound_allowed _ _ _ c.requires in record { sized = (a.sized, a.light); count_limit_in_bounds = (all_slots c.args.state.marking (search rules), held_small _ _ _ a); letters = (a.letters, a.short) }
+play_front-ran-requires c =
+    let a = sound_allowed _ _ _ c.requires in
+    record { light = a.light; count_limit_in_bounds = (search rules, held_small _ _ _ a); letters = (a.letters, a.short) }
 
 pub went_on-requires : goal.went_on-requires
 went_on-requires c = ran_brief _ _ _ _ c.play_front-ran.ensures.0 (sound_allowed _ _ _ c.requires)
 
+-- Named, not searched for, so that a slot past the places that is changed is refused where it should be.
 pub returns : goal.returns
-returns c = ran_on _ _ _ _ c.play_front-ran.ensures.0 _ _ c.went_on.ensures c.play_front-ran.ensures.1
+returns c = rw (c.play_front-ran.ensures.1, c.play_front-ran.ensures.0) at c.went_on.ensures

@@ -1,9 +1,7 @@
-use Rattle.running.proofs.Faults.{tokens_faults}
-use borrow.Author.Rules.{rules}
+use Rattle.refusals.proofs.Chains.{found_refused}
+use Rattle.running.specs.State.{tokens_fault}
 use Rattle.running.proofs.tokens_fault.Goals as goal
 
-pub returns-then-p-places : goal.returns-then-p-places
-returns-then-p-places c = search (tokens_faults, rules)
-
-pub returns-else-p-places : goal.returns-else-p-places
-returns-else-p-places c = search (tokens_faults, rules)
+pub returns : goal.returns
+unfolding tokens_fault
+returns c = found_refused _ _ _ _ _ c.bad_tokens.ensures c.refuse_found.ensures

@@ -1,16 +1,16 @@
-use mathlib.Core.Path.{sym, ◌∙◌}
-use Rattle.net.specs.Net.{net_of}
-use Rattle.sets.proofs.Touches.{turned_sized, set_answers}
+use mathlib.Core.Path.{sym, ap, ◌∙◌}
+use Rattle.net.specs.Net.{Net}
+use Rattle.net.specs.Lent.{lent}
+use Rattle.sets.proofs.Touches.{turned_sized}
 use Rattle.sets.proofs.Allowed.{allowed_of}
-use borrow.Author.Rules.{rules}
 use Rattle.sets.proofs.trap_set.Goals as goal
 
--- both ways round are at hand, so that an exchange is refused at the answer
+pub invariant_of-sized : goal.invariant_of-sized
+invariant_of-sized c =
+    let a = allowed_of (lent c.args.net.now) c.args.set.now (sym c.in_ok-set_fault.ensures) in
+    record { sized = rw c.turned.ensures (turned_sized (lent c.args.net.now) a.sized) }
+
 pub judge_set-requires : goal.judge_set-requires
-judge_set-requires c = let w = allowed_of (net_of c.args.places c.args.transitions c.args.pre.now c.args.post.now c.args.caps.now c.args.marks.now) c.args.set.now (sym c.set_fault-found.ensures ∙ search rules) in let z = w.sized in let t = turned_sized (net_of c.args.places c.args.transitions c.args.pre.now c.args.post.now c.args.caps.now c.args.marks.now) z in search rules
-
-pub returns-in-Faulty : goal.returns-in-Faulty
-returns-in-Faulty c = search (set_answers, rules)
-
-pub returns-in-Sound : goal.returns-in-Sound
-returns-in-Sound c = search (set_answers, rules)
+judge_set-requires c =
+    let a = allowed_of (lent c.args.net.now) c.args.set.now (sym c.in_ok-set_fault.ensures) in
+    a.long ∙ sym (ap (λ (n : Net). n.places) c.turned.ensures)

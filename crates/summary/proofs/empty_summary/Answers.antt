@@ -1,9 +1,10 @@
-use Rattle.summary.proofs.Answers.{empties}
-use borrow.Author.Rules.{rules}
+use mathlib.Core.Path.{ap}
+use Rattle.std.specs.Prelude.{Ok}
+use Rattle.refusals.proofs.Chains.{chain_first, chain_next}
 use Rattle.summary.proofs.empty_summary.Goals as goal
 
-pub returns-then-is_outside : goal.returns-then-is_outside
-returns-then-is_outside c = search (empties, rules)
+pub returns-in_err-refuse : goal.returns-in_err-refuse
+returns-in_err-refuse c = chain_first _ _ _ _ c.from_residual.ensures.1 (rw c.is_outside.ensures at c.in_err-refuse.ensures)
 
 pub returns : goal.returns
-returns c = search (empties, rules)
+returns c = chain_next _ _ _ _ (rw c.is_outside.ensures at c.in_ok-refuse.ensures) (ap Ok c.no_letters.ensures)

@@ -1,12 +1,11 @@
-use Rattle.refusals.proofs.Chains.{chains}
+use Rattle.refusals.proofs.Chains.{chain_first, chain_next}
 use Rattle.summary.specs.Entry.{part_fault}
-use borrow.Author.Rules.{rules}
 use Rattle.summary.proofs.find_fault.Goals as goal
 
-pub returns-in-Faulty : goal.returns-in-Faulty
+pub returns-in_err-net_fault : goal.returns-in_err-net_fault
 unfolding part_fault
-returns-in-Faulty c = search (chains, rules)
+returns-in_err-net_fault c = chain_first _ _ _ _ c.from_residual.ensures.1 c.in_err-net_fault.ensures
 
-pub returns-in-Sound : goal.returns-in-Sound
+pub returns : goal.returns
 unfolding part_fault
-returns-in-Sound c = search (chains, rules)
+returns c = chain_next _ _ _ _ c.in_ok-net_fault.ensures c.word_fault.ensures

@@ -1,23 +1,30 @@
-use Rattle.refusals.proofs.Chains.{chains}
-use Rattle.summary_form.proofs.Shapes.{shape_few}
-use Rattle.summary_join.proofs.Joining.{join_faults}
-use borrow.Author.Rules.{rules}
+use mathlib.Core.Path.{sym}
+use Rattle.refusals.proofs.Chains.{chain_first, chain_next}
+use Rattle.summary_form.proofs.Shapes.{shape_sound}
+use Rattle.summary_join.specs.Join.{join_fault}
 use Rattle.summary_join.proofs.join_fault.Goals as goal
 
-pub returns-then-is_outside : goal.returns-then-is_outside
-returns-then-is_outside c = search (join_faults, rules)
+pub returns-in_err-refuse : goal.returns-in_err-refuse
+unfolding join_fault
+returns-in_err-refuse c = chain_first _ _ _ _ c.from_residual.ensures.1 (rw c.are_outside.ensures at c.in_err-refuse.ensures)
 
-pub returns-then-is_outside-2 : goal.returns-then-is_outside-2
-returns-then-is_outside-2 c = search (join_faults, rules)
+pub returns-in_err-refuse-2 : goal.returns-in_err-refuse-2
+unfolding join_fault
+returns-in_err-refuse-2 c =
+    chain_next _ _ _ _ (rw c.are_outside.ensures at c.in_ok-refuse.ensures)
+    (chain_first _ _ _ _ c.from_residual-in_err-refuse-2.ensures.1 c.in_err-refuse-2.ensures)
 
-pub returns-then-first-second : goal.returns-then-first-second
-returns-then-first-second c = search (join_faults, rules)
+pub returns-in_err-shape_fault : goal.returns-in_err-shape_fault
+unfolding join_fault
+returns-in_err-shape_fault c =
+    chain_next _ _ _ _ (rw c.are_outside.ensures at c.in_ok-refuse.ensures)
+    (chain_next _ _ _ _ c.in_ok-refuse-2.ensures (chain_first _ _ _ _ c.from_residual-in_err-shape_fault.ensures.1 c.in_err-shape_fault.ensures))
 
 pub later_fault-requires : goal.later_fault-requires
-later_fault-requires c = search (shape_few, rules)
+later_fault-requires c = (shape_sound c.args.a (sym c.in_ok-shape_fault.ensures)).0
 
-pub returns-in-Faulty : goal.returns-in-Faulty
-returns-in-Faulty c = search (join_faults, chains, rules)
-
-pub returns-in-Sound : goal.returns-in-Sound
-returns-in-Sound c = search (join_faults, chains, rules)
+pub returns : goal.returns
+unfolding join_fault
+returns c =
+    chain_next _ _ _ _ (rw c.are_outside.ensures at c.in_ok-refuse.ensures)
+    (chain_next _ _ _ _ c.in_ok-refuse-2.ensures (chain_next _ _ _ _ c.in_ok-shape_fault.ensures c.later_fault.ensures))

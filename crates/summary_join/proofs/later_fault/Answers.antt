@@ -1,21 +1,17 @@
-use Rattle.ground.proofs.Tests.{tests}
-use Rattle.refusals.proofs.Chains.{chains, refused, passed}
+use mathlib.Core.Path.{sym}
+use native.Mathlib.Omega.{arith}
+use Rattle.summary_form.proofs.Shapes.{shape_sound}
+use Rattle.refusals.proofs.Chains.{chain_first, chain_next}
 use Rattle.summary_join.specs.Join.{later_fault}
-use Rattle.summary_join.proofs.Joining.{both_fit}
-use borrow.Author.Rules.{rules}
 use Rattle.summary_join.proofs.later_fault.Goals as goal
 
-pub overflow_add-both : goal.overflow_add-both
-overflow_add-both c = search (both_fit, rules)
-
-pub returns-in-Faulty : goal.returns-in-Faulty
+pub returns-in_err-shape_fault : goal.returns-in_err-shape_fault
 unfolding later_fault
-returns-in-Faulty c = search (chains, refused, passed, tests, rules)
+returns-in_err-shape_fault c = chain_first _ _ _ _ c.from_residual.ensures.1 c.in_err-shape_fault.ensures
 
-pub returns-then-both-gt-WORD_LIMIT : goal.returns-then-both-gt-WORD_LIMIT
+pub returns : goal.returns
 unfolding later_fault
-returns-then-both-gt-WORD_LIMIT c = search (chains, refused, passed, tests, rules)
+returns c = chain_next _ _ _ _ c.in_ok-shape_fault.ensures c.refuse.ensures
 
-pub returns-else-both-gt-WORD_LIMIT : goal.returns-else-both-gt-WORD_LIMIT
-unfolding later_fault
-returns-else-both-gt-WORD_LIMIT c = search (chains, refused, passed, tests, rules)
+pub overflow_add-letters : goal.overflow_add-letters
+overflow_add-letters c = let few = (shape_sound c.args.b (sym c.in_ok-shape_fault.ensures)).0 in record { fits = omega (arith, c.requires) }

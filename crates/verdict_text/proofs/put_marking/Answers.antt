@@ -1,19 +1,19 @@
 use native.Mathlib.Omega.{arith}
-use Rattle.verdict_text.proofs.Puts.{puttings}
-use borrow.Author.Rules.{rules}
+use Rattle.file_put.specs.Put.{four, fours}
+use Rattle.file_put.proofs.Sheets.{spelled_none, spelled_next, spelled_all}
+use Rattle.verdict_text.proofs.Fours.{fours_then, fours_one, fours_at}
 use Rattle.verdict_text.proofs.put_marking.Goals as goal
 
-pub loop-p-init : goal.loop-p-init
-loop-p-init c = search (puttings, rules)
+pub loop-tokens-init : goal.loop-tokens-init
+unfolding fours
+loop-tokens-init c = spelled_none _
 
-pub put_four-r-requires : goal.put_four-r-requires
-put_four-r-requires c = omega (arith, c.loop-p.invariant.next, c.loop-p.invariant.long, c.requires)
+pub put_bytes-requires : goal.put_bytes-requires
+put_bytes-requires c = omega (arith, c.requires, fours_at _ _ c.loop-tokens.invariant (omega arith))
 
-pub loop-p-preserved : goal.loop-p-preserved
-loop-p-preserved c = search (puttings, rules)
-
-pub shape_of-out : goal.shape_of-out
-shape_of-out c = search (puttings, rules)
+pub loop-tokens-preserved : goal.loop-tokens-preserved
+unfolding four
+loop-tokens-preserved c = spelled_next fours fours_then _ _ c.loop-tokens.invariant (omega arith) (rw (fours_one, ← c.to_be_bytes.ensures) c.put_bytes.ensures)
 
 pub returns : goal.returns
-returns c = search (puttings, rules)
+returns c = spelled_all fours _ _ c.loop-tokens.invariant (omega arith)

@@ -1,10 +1,7 @@
-use Prim.Native.Nat.{◌-◌}
-use lib.ListN.{length}
-use Rattle.verdict_text.proofs.Puts.{Putting}
+use lib.ListN.{take}
+use Rattle.file_put.specs.Put.{fours}
+use Rattle.file_put.specs.Sheet.{Spelled}
 use Rattle.verdict_text.proofs.put_marking.Given as goal
 
-abbrev pub invariant-loop-p : goal.invariant-loop-p
-invariant-loop-p l = Putting l.initial.out l.at l.marking l.p l.r l.out
-
-abbrev pub decreases-loop-p : goal.decreases-loop-p
-decreases-loop-p l = length l.marking - l.p
+abbrev pub invariant-loop-tokens : goal.invariant-loop-tokens
+invariant-loop-tokens l = Spelled l.initial.sheet (fours (take l.tokens-index l.marking)) l.sheet

@@ -1,11 +1,8 @@
-use Prim.Native.Nat.{◌≤◌, ◌-◌}
+use Prim.Native.Nat.{◌≤◌}
 use Rattle.ground.proofs.Scan.{Below}
-use Rattle.net.specs.Net.{net_of}
+use Rattle.net.specs.Lent.{lent}
 use Rattle.wiring.specs.Wired.{loose_place}
 use Rattle.wiring.proofs.loose_place.Given as goal
 
 abbrev pub invariant-loop-p : goal.invariant-loop-p
-invariant-loop-p l = (l.p ≤ l.places) × Below (loose_place (net_of l.places l.transitions l.pre l.post l.caps l.marks)) l.p
-
-abbrev pub decreases-loop-p : goal.decreases-loop-p
-decreases-loop-p l = l.places - l.p
+invariant-loop-p l = (l.p ≤ l.sized.net.places) × Below (loose_place (lent l.sized.net)) l.p

@@ -1,6 +1,0 @@
-use Rattle.c_running.proofs.Begun.{hands}
-use borrow.Author.Rules.{rules}
-use Rattle.c_running.proofs.part_told.Goals as goal
-
-pub returns : goal.returns
-returns c = search (hands, rules)

@@ -1,6 +1,0 @@
-use borrow.Author.Rules.{rules}
-use Rattle.c_answer.proofs.Hand.{hand}
-use Rattle.c_weighting.proofs.kaunorpi_place_weighting.Goals as goal
-
-pub returns : goal.returns
-returns c = search (hand, rules)

@@ -1,0 +1,5 @@
+use Rattle.file_put.proofs.Sheets.{spelled_then, spelled_line}
+use Rattle.verdict_text.proofs.put_refused.Goals as goal
+
+pub returns : goal.returns
+returns c = spelled_line (spelled_then c.put_bytes.ensures c.put_four.ensures) c.put_feed.ensures
