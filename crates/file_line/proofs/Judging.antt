@@ -5,7 +5,7 @@ use mathlib.Core.Path.{◌≡◌, refl, sym, ◌∙◌}
 use mathlib.Core.Logic.{◌⊎◌, inl, inr}
 use native.Mathlib.Omega.{arith}
 use mathlib.Core.Bool.{Bool, true, false, not, ◌||◌}
-use mathlib.Core.List.{List}
+use mathlib.Core.List.{List, []}
 use Prim.Native.Nat.{ℕ, ◌+◌, ◌≤◌}
 use lib.Dec.{ltb, eqb}
 use lib.ListN.{length}
@@ -19,7 +19,7 @@ use Rattle.file_digits.specs.Frame.{byte_at}
 use Rattle.file_row.specs.Row.{narrow_row, wide_row, is_row, takes_in, puts_in}
 use Rattle.file_line.specs.declared.Reading.{Reading}
 use Rattle.file_line.specs.declared.Rooms.{Rooms}
-use Rattle.file_line.specs.Read.{kind_of, tokens_in, letters_in, word_part, stored, counts_bad, weights_bad, tokens_bad, loose_bad, word_over, letters_bad, line_here, rule_of, formed_of, judge_of, advanced, kept_by, line_of, rooms_of}
+use Rattle.file_line.specs.Read.{rooms, kind_of, tokens_in, letters_in, word_part, stored, counts_bad, weights_bad, tokens_bad, loose_bad, word_over, letters_bad, line_here, rule_of, formed_of, judge_of, advanced, kept_by, line_of, rooms_of}
 use Rattle.std.proofs.lemmas.Result.{err_from_is_err_and}
 use Rattle.std.specs.Result.{IsErrAnd}
 use Rattle.file_line.specs.Walk.{asked_of, GoodTook}
@@ -61,6 +61,11 @@ module _ (s : Reading) (d : List ℕ) (x : Rooms) where
     pub judge_rest : (kind_of d ≡ 1 → ⊥) → (kind_of d ≡ 3 → ⊥) → (kind_of d ≡ 5 → ⊥) → (kind_of d ≡ 7 → ⊥) → Ok tt ≡ asked_of s d x
     unfolding asked_of
     judge_rest a b c g = rw (r, f, ne_eqb (kind_of d) 1 a, ne_eqb (kind_of d) 3 b, ne_eqb (kind_of d) 5 c, ne_eqb (kind_of d) 7 g)
+
+-- only the capacities are looked at
+judge_caps : (s : Reading) (d : List ℕ) (x : Rooms) (a : Fault) → a ≡ asked_of s d (rooms x.caps [] [] [] [] []) → asked_of s d x ≡ a
+unfolding asked_of
+judge_caps s d x a e = sym e
 
 -- 17 may be asked behind 4 and 5, since they are asked of other lines
 swap : (a b c f e l w v : Fault) → (l ≡ Ok tt) ⊎ ((w ≡ Ok tt) × (v ≡ Ok tt))
@@ -112,15 +117,15 @@ asked_early s d x =
     (early_test (letters_bad s d) 5 (line_here s) (λ o. omega arith)))))))
 
 -- a line that is refused before it is stored, and one that is not: a is what `judge` found
-module _ (s : Reading) (d : List ℕ) (x : Rooms) (a : Fault) (e : a ≡ asked_of s d x) where
+module _ (s : Reading) (d : List ℕ) (x : Rooms) (a : Fault) (e : a ≡ asked_of s d (rooms x.caps [] [] [] [] [])) where
   pub asked_refused : (r : Refusal) → a ≡ Err r → (judge_of s d x ≡ Err r) × (eqb r.number 17 ≡ false)
   asked_refused r q =
-      let f = sym e ∙ q in
+      let f = judge_caps s d x a e ∙ q in
       (judge_split s d x ∙ rw f, ne_eqb r.number 17 ((asked_early s d x).other r f))
 
   module _ (q : a ≡ Ok tt) where
     asked_sound : judge_of s d x ≡ refuse (loose_bad s d (stored s d x)) 17 (line_here s)
-    asked_sound = let f = sym e ∙ q in judge_split s d x ∙ rw f
+    asked_sound = let f = judge_caps s d x a e ∙ q in judge_split s d x ∙ rw f
 
     -- its numbers are in the rooms y, which 17 is asked of
     module _ (y : Rooms) (h : y ≡ stored s d x) where

@@ -37,6 +37,13 @@ pub record Large (x : Rooms) : Type 0 where
   pub post : cell_limit ≤ length x.post
   pub word : word_limit ≤ length x.word
 
+-- those of them that hold a net are
+pub record Tables (c k a b : List ℕ) : Type 0 where
+  pub caps : count_limit ≤ length c
+  pub marks : count_limit ≤ length k
+  pub pre : cell_limit ≤ length a
+  pub post : cell_limit ≤ length b
+
 -- n letters from byte j on name transitions: the pass over a line's digits; `letters_pass` says that it is `bad_letter` of refusals
 unfoldable pub fit_letters : List ℕ → ℕ → ℕ → ℕ → Bool
 fit_letters d j zero t = true

@@ -12,8 +12,8 @@ ghost use Rattle.file_digits.specs.Frame.{block, byte_at, words_from};
 ghost use Rattle.file_mask.specs.Mask.{mask_bytes, bits_of, mask_fits, mask_in};
 ghost use Rattle.weights.specs.Heavy.{row_over};
 ghost use Rattle.file_row.specs.Row.{wide_row, is_row, is_wide, takes_in, puts_in};
-ghost use Rattle.file_line.specs.Read.{fresh, blank, stands_as, phase_after, tokens_in, letters_in, word_part, rule_of, formed_kind, formed_of, hangs_loose, net_in, loose_bad, line_here, stored, advanced, line_of, rooms_of};
-ghost use Rattle.file_line.specs.Walk.{Good, fit_letters, asked_of, Accepted, GoodTook};
+ghost use Rattle.file_line.specs.Read.{rooms, fresh, blank, stands_as, phase_after, tokens_in, letters_in, word_part, rule_of, formed_kind, formed_of, hangs_loose, net_in, loose_bad, line_here, stored, advanced, line_of, rooms_of};
+ghost use Rattle.file_line.specs.Walk.{Good, Large, Tables, fit_letters, asked_of, Accepted, GoodTook};
 
 use file_digits::{BLOCK, LINE_LIMIT};
 use file_mask::MASK_BYTES;
@@ -38,6 +38,29 @@ pub struct Reading {
     pub letters: usize,
     // lines read
     pub line: usize,
+}
+
+// The net that lent rooms hold at their fronts, by the counts of a state.
+pub fn net_at<'a>(
+    s: Reading,
+    caps: &'a [u16],
+    marks: &'a [u8],
+    pre: &'a [Weight],
+    post: &'a [Weight],
+) -> Net<'a>
+    requires { (Good s) × (Tables caps.now marks.now pre.now post.now) }
+    ensures value { lent result ≡ net_in s (rooms caps.now marks.now [] pre.now post.now []) }
+    ensures sized { 1 ≤ s.places → 1 ≤ s.transitions → Sized (lent result) }
+{
+    let cells = s.transitions * s.places;
+    Lent {
+        places: s.places,
+        transitions: s.transitions,
+        pre: &pre[..cells],
+        post: &post[..cells],
+        caps: &caps[..s.places],
+        marks: &marks[..s.places],
+    }
 }
 
 // Room for the largest net, its marking and the longest word: what a case file is read into.
@@ -72,15 +95,7 @@ impl Rooms {
         ensures value { lent result ≡ net_in s self.now }
         ensures sized { 1 ≤ s.places → 1 ≤ s.transitions → Sized (lent result) }
     {
-        let cells = s.transitions * s.places;
-        Lent {
-            places: s.places,
-            transitions: s.transitions,
-            pre: &self.pre[..cells],
-            post: &self.post[..cells],
-            caps: &self.caps[..s.places],
-            marks: &self.marks[..s.places],
-        }
+        net_at(s, &self.caps, &self.marks, &self.pre, &self.post)
     }
 
     // Its marking.
@@ -281,9 +296,9 @@ fn letters_fault(s: Reading, d: &[u8], here: usize) -> Result<(), Refusal>
 
 // The refusal of a line before it is stored, or none. Of the rooms read so far only the capacities are
 // looked at.
-fn judge(s: Reading, d: &[u8], rooms: &Rooms) -> Result<(), Refusal>
-    requires { Good s }
-    ensures { result ≡ asked_of s d.now rooms.now }
+fn judge(s: Reading, d: &[u8], caps: &[u16]) -> Result<(), Refusal>
+    requires { (Good s) × (count_limit ≤ length caps.now) }
+    ensures { result ≡ asked_of s d.now (rooms caps.now [] [] [] [] []) }
 {
     let here = s.line + 1;
     refuse(!rule(d), 11, here)?;
@@ -291,7 +306,7 @@ fn judge(s: Reading, d: &[u8], rooms: &Rooms) -> Result<(), Refusal>
     let kind = file_digits::byte_at(d, 0);
     match kind {
         1 => counts_fault(d, here),
-        3 => tokens_fault(s, d, &rooms.caps, here),
+        3 => tokens_fault(s, d, caps, here),
         5 => letters_fault(s, d, here),
         7 => weights_fault(s, d, here),
         _ => Ok(()),
@@ -310,21 +325,31 @@ fn store_caps(d: &[u8], caps: &mut [u16], marks: &mut [u8], places: usize)
 
 // The stores of an accepted line.
 #[tactic(auto, unfolding(crate::specs::Read::stored_kind))]
-fn store(s: Reading, d: &[u8], rooms: &mut Rooms)
-    requires { (Good s) × (Accepted s d.now) }
-    ensures { rooms.new ≡ stored s d.now rooms.old }
+fn store(
+    s: Reading,
+    d: &[u8],
+    caps: &mut [u16],
+    marks: &mut [u8],
+    initial: &mut [u16],
+    pre: &mut [Weight],
+    post: &mut [Weight],
+    word: &mut [u8],
+)
+    requires { (Good s) × (Accepted s d.now) × (Large (rooms caps.old marks.old initial.old pre.old post.old word.old)) }
+    ensures { rooms caps.new marks.new initial.new pre.new post.new word.new
+        ≡ stored s d.now (rooms caps.old marks.old initial.old pre.old post.old word.old) }
 {
     let kind = file_digits::byte_at(d, 0);
     let p = s.places;
     match kind {
-        2 => store_caps(d, &mut rooms.caps, &mut rooms.marks, p),
-        3 => file_digits::store_words(d, 1, &mut rooms.initial, p),
+        2 => store_caps(d, caps, marks, p),
+        3 => file_digits::store_words(d, 1, initial, p),
         4 | 7 => {
             let row = s.next * p;
-            file_row::store_row(kind, d, &mut rooms.pre, &mut rooms.post, row, p);
+            file_row::store_row(kind, d, pre, post, row, p);
         }
-        5 => file_digits::store_bytes(d, 1, &mut rooms.word, s.letters, d.len() / 2 - 1),
-        6 => file_mask::store_marks(file_mask::mask_at(d), &mut rooms.marks, p),
+        5 => file_digits::store_bytes(d, 1, word, s.letters, d.len() / 2 - 1),
+        6 => file_mask::store_marks(file_mask::mask_at(d), marks, p),
         _ => {}
     }
 }
@@ -411,33 +436,57 @@ fn is_last_row(kind: u8, next: usize, transitions: usize) -> bool
 
 // Whether a line that is stored is refused: the net that the rooms hold now is asked on the line of the
 // last transition.
-fn is_net_loose(s: Reading, d: &[u8], rooms: &Rooms) -> bool
-    requires { (Good s) × (Accepted s d.now) }
-    ensures { result ≡ loose_bad s d.now rooms.now }
+fn is_net_loose(
+    s: Reading,
+    d: &[u8],
+    caps: &[u16],
+    marks: &[u8],
+    pre: &[Weight],
+    post: &[Weight],
+) -> bool
+    requires { (Good s) × (Accepted s d.now) × (Tables caps.now marks.now pre.now post.now) }
+    ensures { result ≡ loose_bad s d.now (rooms caps.now marks.now [] pre.now post.now []) }
 {
     let kind = file_digits::byte_at(d, 0);
-    is_last_row(kind, s.next, s.transitions) && is_loose(&rooms.net(s))
+    is_last_row(kind, s.next, s.transitions) && is_loose(&net_at(s, caps, marks, pre, post))
 }
 
 // What a line comes to that is stored: the next state, or 17. It is asked of the rooms themselves, which
 // are the reader's own.
-fn take_line(s: Reading, d: &[u8], rooms: &Rooms) -> Result<Reading, Refusal>
-    requires { (Good s) × (Accepted s d.now) }
-    ensures value { result ≡ or_else (refuse (loose_bad s d.now rooms.now) 17 (line_here s)) (Ok (advanced s d.now)) }
+fn take_line(
+    s: Reading,
+    d: &[u8],
+    caps: &[u16],
+    marks: &[u8],
+    pre: &[Weight],
+    post: &[Weight],
+) -> Result<Reading, Refusal>
+    requires { (Good s) × (Accepted s d.now) × (Tables caps.now marks.now pre.now post.now) }
+    ensures value { result ≡ or_else (refuse (loose_bad s d.now (rooms caps.now marks.now [] pre.now post.now [])) 17 (line_here s)) (Ok (advanced s d.now)) }
     ensures good { GoodTook result }
 {
-    refuse(is_net_loose(s, d, rooms), 17, s.line + 1)?;
+    refuse(is_net_loose(s, d, caps, marks, pre, post), 17, s.line + 1)?;
     Ok(advance(s, d))
 }
 
 // One line: the next state, or a refusal, which leaves the rooms as found unless it is 17.
-pub fn read_line(s: Reading, d: &[u8], rooms: &mut Rooms) -> Result<Reading, Refusal>
-    requires { Good s }
-    ensures value { result ≡ line_of s d.now rooms.old }
-    ensures lent { rooms.new ≡ rooms_of s d.now rooms.old }
+pub fn read_line(
+    s: Reading,
+    d: &[u8],
+    caps: &mut [u16],
+    marks: &mut [u8],
+    initial: &mut [u16],
+    pre: &mut [Weight],
+    post: &mut [Weight],
+    word: &mut [u8],
+) -> Result<Reading, Refusal>
+    requires { (Good s) × (Large (rooms caps.old marks.old initial.old pre.old post.old word.old)) }
+    ensures value { result ≡ line_of s d.now (rooms caps.old marks.old initial.old pre.old post.old word.old) }
+    ensures lent { rooms caps.new marks.new initial.new pre.new post.new word.new
+        ≡ rooms_of s d.now (rooms caps.old marks.old initial.old pre.old post.old word.old) }
     ensures good { GoodTook result }
 {
-    judge(s, d, rooms)?;
-    store(s, d, rooms);
-    take_line(s, d, rooms)
+    judge(s, d, caps)?;
+    store(s, d, caps, marks, initial, pre, post, word);
+    take_line(s, d, caps, marks, pre, post)
 }

@@ -13,7 +13,7 @@ unfolding asked_of
 returns-in_err-refuse c = chain_first _ _ _ _ c.from_residual.ensures.1 (rw c.rule.ensures at c.in_err-refuse.ensures)
 
 pub is_formed-requires : goal.is_formed-requires
-is_formed-requires c = (c.requires, (rule_says _ (passed _ _ _ _ (rw c.rule.ensures at c.in_ok-refuse.ensures))).0)
+is_formed-requires c = (c.requires.0, (rule_says _ (passed _ _ _ _ (rw c.rule.ensures at c.in_ok-refuse.ensures))).0)
 
 pub returns-in_err-refuse-2 : goal.returns-in_err-refuse-2
 unfolding asked_of
@@ -26,13 +26,13 @@ pub counts_fault-requires : goal.counts_fault-requires
 counts_fault-requires c = (formed_01 _ _ (formed_of_lem _ _ (passed _ _ _ _ (rw c.is_formed.ensures at c.in_ok-refuse-2.ensures))) (sym c.byte_at-kind.ensures ∙ c.in-1.is)).1
 
 pub tokens_fault-requires : goal.tokens_fault-requires
-tokens_fault-requires c = (c.requires.places, (formed_03 _ _ (formed_of_lem _ _ (passed _ _ _ _ (rw c.is_formed.ensures at c.in_ok-refuse-2.ensures))) (sym c.byte_at-kind.ensures ∙ c.in-3.is)).1, omega arith)
+tokens_fault-requires c = (c.requires.0.places, (formed_03 _ _ (formed_of_lem _ _ (passed _ _ _ _ (rw c.is_formed.ensures at c.in_ok-refuse-2.ensures))) (sym c.byte_at-kind.ensures ∙ c.in-3.is)).1, c.requires.1)
 
 pub letters_fault-requires : goal.letters_fault-requires
-letters_fault-requires c = (c.requires.letters, (rule_says _ (passed _ _ _ _ (rw c.rule.ensures at c.in_ok-refuse.ensures))).0)
+letters_fault-requires c = (c.requires.0.letters, (rule_says _ (passed _ _ _ _ (rw c.rule.ensures at c.in_ok-refuse.ensures))).0)
 
 pub weights_fault-requires : goal.weights_fault-requires
-weights_fault-requires c = (c.requires.places, (formed_07 _ _ (formed_of_lem _ _ (passed _ _ _ _ (rw c.is_formed.ensures at c.in_ok-refuse-2.ensures))) (sym c.byte_at-kind.ensures ∙ c.in-7.is)).1)
+weights_fault-requires c = (c.requires.0.places, (formed_07 _ _ (formed_of_lem _ _ (passed _ _ _ _ (rw c.is_formed.ensures at c.in_ok-refuse-2.ensures))) (sym c.byte_at-kind.ensures ∙ c.in-7.is)).1)
 
 pub returns-in-1 : goal.returns-in-1
 returns-in-1 c = judge_01 _ _ _ (passed _ _ _ _ (rw c.rule.ensures at c.in_ok-refuse.ensures)) (passed _ _ _ _ (rw c.is_formed.ensures at c.in_ok-refuse-2.ensures)) _ (sym c.byte_at-kind.ensures ∙ c.in-1.is) c.counts_fault.ensures
