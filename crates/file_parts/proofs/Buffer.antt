@@ -22,7 +22,7 @@ use Rattle.file_line.specs.Read.{line_of, rooms_of}
 use Rattle.file_parts.specs.declared.Held.{Held}
 use Rattle.file_parts.specs.File.{Run, going, stopped, Both, both, ended, fed_to, feed_of, feed_all, finish_of, case_of, line_len, NoFeed}
 use Rattle.file_parts.specs.Held.{abs, Sound, hold_of}
-use Rattle.file_parts.proofs.Line.{stays, holds, bounds, part, clear, split, cut}
+use Rattle.file_parts.proofs.Line.{stays, holds, bounds, part, clear, split, cut, Same}
 
 -- a part of a list that is written over with a piece as long as itself
 pub mid_sets : {A : Type 0} (l vs : List A) (at k : ℕ) → at + length vs ≤ length l → k ≡ length vs → put_mid at k l vs ≡ sets l at vs
@@ -113,14 +113,20 @@ module _ (h : Held) (f : List ℕ) (x : Rooms) (s : Sound h) (at e : ℕ) (l : a
 -- the lines of f up to `at` are read into r and x: what is left comes to what the whole does from h and x₀
 pub record LinesRead (f : List ℕ) (h : Held) (x₀ : Rooms) (at : ℕ) (r : Held) (x : Rooms) : Type 0 where
   pub sound : Sound r
+  pub same : Same x x₀
   pub comes : feed_all (both (abs r) x) (drop at f) ≡ feed_all (both (abs h) x₀) f
 
 pub reads_start : (f : List ℕ) (h : Held) (x : Rooms) → Sound h → LinesRead f h x 0 h x
-reads_start f h x s = record { sound = s; comes = refl }
+reads_start f h x s = record { sound = s; same = record { caps = refl; marks = refl; initial = refl; pre = refl; post = refl; word = refl }; comes = refl }
 
 module _ (f : List ℕ) (h : Held) (x₀ : Rooms) (at : ℕ) (r : Held) (x : Rooms) (m : LinesRead f h x₀ at r x) where
-  pub reads_next : (e : ℕ) (u : Held) (y : Rooms) → feed_all (both (abs u) y) (drop (e + 1) f) ≡ feed_all (both (abs r) x) (drop at f) → Sound u → LinesRead f h x₀ (e + 1) u y
-  reads_next e u y q s = record { sound = s; comes = q ∙ m.comes }
+  pub reads_next : (e : ℕ) (u : Held) (y : Rooms) → feed_all (both (abs u) y) (drop (e + 1) f) ≡ feed_all (both (abs r) x) (drop at f) → Sound u → Same y x → LinesRead f h x₀ (e + 1) u y
+  reads_next e u y q s d =
+      record {
+        sound = s;
+        same = record { caps = d.caps ∙ m.same.caps; marks = d.marks ∙ m.same.marks; initial = d.initial ∙ m.same.initial; pre = d.pre ∙ m.same.pre; post = d.post ∙ m.same.post; word = d.word ∙ m.same.word };
+        comes = q ∙ m.comes;
+      }
 
   pub reads_end : length f ≤ at → both (abs r) x ≡ feed_all (both (abs h) x₀) f
   unfolding feed_all

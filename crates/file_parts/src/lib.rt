@@ -5,12 +5,14 @@
 ghost use Rattle.std.specs.Prelude.{◌≡◌, Ok, [], ◌+◌, ◌≤◌, length, take, drop};
 ghost use Rattle.std.proofs.lemmas.List.Edits.{sets};
 ghost use Rattle.file_digits.specs.Frame.{line_feed};
-ghost use Rattle.file_line.specs.Walk.{Good, GoodTook};
+ghost use Rattle.file_line.specs.Read.{rooms};
+ghost use Rattle.file_line.specs.Walk.{Good, GoodTook, Large};
 ghost use Rattle.file_parts.specs.File.{going, both, ended, feed_of, feed_all, finish_of, case_of, line_len};
 ghost use Rattle.file_parts.specs.Held.{GoodCase, abs, Sound, hold_of};
 
 use file_digits::LINE_LIMIT;
-use file_line::{Reading, Rooms};
+use file_line::Reading;
+use ground::Weight;
 use refusals::{Refusal, refuse};
 
 // A reading between two parts: the state after the lines so far, or their refusal, and the bytes of the
@@ -101,24 +103,45 @@ fn hold(h: &Held, s: Reading, piece: &[u8]) -> Held
 }
 
 // The held line, which is whole, is read; after a refusal nothing is.
-fn end_line(h: Held, rooms: &mut Rooms) -> Held
-    requires { Sound h }
-    ensures value { both (abs result) rooms.new ≡ feed_of (both (abs h) rooms.old) line_feed }
+fn end_line(
+    h: Held,
+    caps: &mut [u16],
+    marks: &mut [u8],
+    initial: &mut [u16],
+    pre: &mut [Weight],
+    post: &mut [Weight],
+    word: &mut [u8],
+) -> Held
+    requires { (Sound h) × (Large (rooms caps.old marks.old initial.old pre.old post.old word.old)) }
+    ensures value { both (abs result) (rooms caps.new marks.new initial.new pre.new post.new word.new)
+        ≡ feed_of (both (abs h) (rooms caps.old marks.old initial.old pre.old post.old word.old)) line_feed }
     ensures sound { Sound result }
 {
     match h.reading {
         Ok(s) => {
             let n = h.len;
-            ended(file_line::read_line(s, &h.line[..n], rooms))
+            ended(file_line::read_line(s, &h.line[..n], caps, marks, initial, pre, post, word))
         }
         Err(_) => h,
     }
 }
 
 // A line of the part, from number at to its line feed at e, or to the part's end: it is held, and read if it is whole.
-fn feed_line(h: Held, part: &[u8], at: usize, e: usize, rooms: &mut Rooms) -> Held
-    requires { (Sound h) × (at ≤ length part.now) × (e ≡ at + line_len (drop at part.now)) }
-    ensures value { feed_all (both (abs result) rooms.new) (drop (e + 1) part.now) ≡ feed_all (both (abs h) rooms.old) (drop at part.now) }
+fn feed_line(
+    h: Held,
+    part: &[u8],
+    at: usize,
+    e: usize,
+    caps: &mut [u16],
+    marks: &mut [u8],
+    initial: &mut [u16],
+    pre: &mut [Weight],
+    post: &mut [Weight],
+    word: &mut [u8],
+) -> Held
+    requires { (Sound h) × (at ≤ length part.now) × (e ≡ at + line_len (drop at part.now)) × (Large (rooms caps.old marks.old initial.old pre.old post.old word.old)) }
+    ensures value { feed_all (both (abs result) (rooms caps.new marks.new initial.new pre.new post.new word.new)) (drop (e + 1) part.now)
+        ≡ feed_all (both (abs h) (rooms caps.old marks.old initial.old pre.old post.old word.old)) (drop at part.now) }
     ensures sound { Sound result }
 {
     match h.reading {
@@ -127,7 +150,7 @@ fn feed_line(h: Held, part: &[u8], at: usize, e: usize, rooms: &mut Rooms) -> He
             if e == part.len() {
                 r
             } else {
-                end_line(r, rooms)
+                end_line(r, caps, marks, initial, pre, post, word)
             }
         }
         Err(_) => h,
@@ -135,16 +158,26 @@ fn feed_line(h: Held, part: &[u8], at: usize, e: usize, rooms: &mut Rooms) -> He
 }
 
 // One part of a file more, line by line, until its end or a refusal.
-pub fn read_part(h: Held, part: &[u8], rooms: &mut Rooms) -> Held
-    requires { Sound h }
-    ensures value { both (abs result) rooms.new ≡ feed_all (both (abs h) rooms.old) part.now }
+pub fn read_part(
+    h: Held,
+    part: &[u8],
+    caps: &mut [u16],
+    marks: &mut [u8],
+    initial: &mut [u16],
+    pre: &mut [Weight],
+    post: &mut [Weight],
+    word: &mut [u8],
+) -> Held
+    requires { (Sound h) × (Large (rooms caps.old marks.old initial.old pre.old post.old word.old)) }
+    ensures value { both (abs result) (rooms caps.new marks.new initial.new pre.new post.new word.new)
+        ≡ feed_all (both (abs h) (rooms caps.old marks.old initial.old pre.old post.old word.old)) part.now }
     ensures sound { Sound result }
 {
     let mut r = h;
     let mut at: usize = 0;
     while at < part.len() && r.reading.is_ok() {
         let e = line_end(part, at);
-        r = feed_line(r, part, at, e, rooms);
+        r = feed_line(r, part, at, e, caps, marks, initial, pre, post, word);
         at = e + 1;
     }
     r

@@ -3,13 +3,16 @@
 #![tactic(auto)]
 
 ghost use Rattle.std.specs.Prelude.{◌≡◌};
+ghost use Rattle.file_line.specs.Read.{rooms};
+ghost use Rattle.file_line.specs.Walk.{Large};
 ghost use Rattle.file_parts.specs.File.{both};
 ghost use Rattle.file_parts.specs.Held.{abs, Sound};
 ghost use Rattle.file_reads.specs.Reads.{read_as, state, failure_of, step_of};
 ghost use Rattle.file_reads.specs.Walk.{part_by, input_of};
 
-use file_line::{Reading, Rooms};
+use file_line::Reading;
 use file_parts::Held;
+use ground::Weight;
 use refusals::Refusal;
 
 // Whether there is more to read.
@@ -63,13 +66,25 @@ fn input_after(got: isize, interrupted: bool, reading: &Result<Reading, Refusal>
 }
 
 // One read more: got is what it answered, interrupted whether a signal broke it off, and buf the buffer after it.
-pub fn take_read(h: Held, got: isize, interrupted: bool, buf: &[u8], rooms: &mut Rooms) -> Fed
-    requires { Sound h }
-    ensures value { state (both (abs result.held) rooms.new) result.input ≡ step_of (state (both (abs h) rooms.old) Input.More) (read_as got interrupted buf.now) }
+pub fn take_read(
+    h: Held,
+    got: isize,
+    interrupted: bool,
+    buf: &[u8],
+    caps: &mut [u16],
+    marks: &mut [u8],
+    initial: &mut [u16],
+    pre: &mut [Weight],
+    post: &mut [Weight],
+    word: &mut [u8],
+) -> Fed
+    requires { (Sound h) × (Large (rooms caps.old marks.old initial.old pre.old post.old word.old)) }
+    ensures value { state (both (abs result.held) (rooms caps.new marks.new initial.new pre.new post.new word.new)) result.input
+        ≡ step_of (state (both (abs h) (rooms caps.old marks.old initial.old pre.old post.old word.old)) Input.More) (read_as got interrupted buf.now) }
     ensures sound { Sound result.held }
 {
     let n = io::count(got, buf);
-    let held = file_parts::read_part(h, &buf[..n], rooms);
+    let held = file_parts::read_part(h, &buf[..n], caps, marks, initial, pre, post, word);
     Fed {
         held,
         input: input_after(got, interrupted, &held.reading),
