@@ -51,7 +51,16 @@ fn read_file(file: &[u8], rooms: &mut Rooms) -> Result<Reading, Refusal>
 {
     let s = Reading::new();
     let h = file_parts::cleared(s);
-    let r = file_parts::read_part(h, file, rooms);
+    let r = file_parts::read_part(
+        h,
+        file,
+        &mut rooms.caps,
+        &mut rooms.marks,
+        &mut rooms.initial,
+        &mut rooms.pre,
+        &mut rooms.post,
+        &mut rooms.word,
+    );
     file_parts::finish_held(r)
 }
 
