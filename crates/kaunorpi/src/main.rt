@@ -26,7 +26,16 @@ fn show<W: Write>(output: &mut W, h: Held, rooms: &Rooms, out: &mut [u8]) -> Res
     ensures shown { Shown out.old (answer_for (case_of (abs h)) rooms.now) out.new }
     ensures written { OnOk result (Appends (W.contents output.old) (W.contents output.new) (line_text (answer_for (case_of (abs h)) rooms.now))) }
 {
-    let n = verdict_line::answer_line(h, rooms, out);
+    let n = verdict_line::answer_line(
+        h,
+        &rooms.caps,
+        &rooms.marks,
+        &rooms.initial,
+        &rooms.pre,
+        &rooms.post,
+        &rooms.word,
+        out,
+    );
     output.write_all(&out[..n]).map_err(Failure::Output)
 }
 
@@ -43,7 +52,16 @@ fn answer<R: Read + Drop, W: Write>(
 {
     let s = Reading::new();
     let h = file_parts::cleared(s);
-    let f = file_input::read_all(source, h, rooms);
+    let f = file_input::read_all(
+        source,
+        h,
+        &mut rooms.caps,
+        &mut rooms.marks,
+        &mut rooms.initial,
+        &mut rooms.pre,
+        &mut rooms.post,
+        &mut rooms.word,
+    );
     match f.input {
         Input::Failed => Err(source.failure()),
         _ => show(output, f.held, rooms, out),

@@ -53,7 +53,17 @@ fn show<W: Write, E: Write>(
     ensures shown { Shown (again_for (case_of (abs h)) rooms.now out.old) out.new told.old told.new }
     ensures given { OnOk result (Given (again_for (case_of (abs h)) rooms.now out.old) (W.contents output.old) (W.contents output.new)) }
 {
-    match file_again::rewrite_held(h, rooms, out) {
+    let again = file_again::rewrite_held(
+        h,
+        &rooms.caps,
+        &rooms.marks,
+        &rooms.initial,
+        &rooms.pre,
+        &rooms.post,
+        &rooms.word,
+        out,
+    );
+    match again {
         Ok(n) => give(output, out, n),
         Err(why) => {
             tell(errors, why, told);
@@ -77,7 +87,16 @@ fn answer<R: Read + Drop, W: Write, E: Write>(
 {
     let s = Reading::new();
     let h = file_parts::cleared(s);
-    let f = file_input::read_all(source, h, rooms);
+    let f = file_input::read_all(
+        source,
+        h,
+        &mut rooms.caps,
+        &mut rooms.marks,
+        &mut rooms.initial,
+        &mut rooms.pre,
+        &mut rooms.post,
+        &mut rooms.word,
+    );
     match f.input {
         Input::Failed => Err(source.failure()),
         _ => show(output, errors, f.held, rooms, out, told),
