@@ -6,7 +6,7 @@ ghost use Rattle.net.specs.Lent.{lent};
 ghost use Rattle.net.specs.Net.{Sized};
 ghost use Rattle.weighting_bound.specs.Bound.{bound_fault, found_bound, bound_of, bound_numbers};
 
-use ground::up_part;
+use ground::up_entry;
 use net::{Net, SizedNet};
 use refusals::{Refusal, refuse};
 
@@ -48,7 +48,7 @@ fn find_bound(sized: &SizedNet, initial: &[u16], y: &[i16], place: usize) -> Bou
     if weighting_sums::lowest_entry(y, true).is_some() {
         return Bound::NoBound(NoBoundCause::Negative);
     }
-    let own = up_part(i32::from(y[place]));
+    let own = up_entry(y[place]);
     if own == 0 {
         return Bound::NoBound(NoBoundCause::NotPositive);
     }

@@ -11,7 +11,7 @@ ghost use Rattle.refusals.specs.Given.{refuse};
 ghost use Rattle.weighting_sums.specs.Tests.{is_zero, picks, lowest_entry, lowest_transition, lowest_place, all_zero};
 ghost use Rattle.weighting_sums.specs.Walk.{product_limit, share, share_limit, total, signed, line_sum, line_fails, Line, Lines, held};
 
-use ground::{Weight, down_part, up_part};
+use ground::{Weight, down_entry, up_entry};
 use net::{Net, SizedNet};
 use refusals::{Refusal, refuse};
 
@@ -27,8 +27,8 @@ fn times(part: u32, n: u16) -> u64
 fn share_of(x: i16, takes: Weight, puts: Weight) -> u64
     ensures { (result ≡ share x takes puts) × (result ≤ share_limit) }
 {
-    let up = up_part(i32::from(x));
-    let down = down_part(i32::from(x));
+    let up = up_entry(x);
+    let down = down_entry(x);
     times(up, puts) + times(down, takes)
 }
 
@@ -131,7 +131,7 @@ pub fn weigh(y: &[i16], marking: &[u16]) -> u64
 {
     let mut sum: u64 = 0;
     for p in 0..marking.len() {
-        sum += times(up_part(i32::from(y[p])), marking[p]);
+        sum += times(up_entry(y[p]), marking[p]);
     }
     sum
 }
