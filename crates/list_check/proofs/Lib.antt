@@ -1,3 +1,4 @@
 pub mod Refusals
+pub mod Targets
 pub mod Exactly
 pub mod Marks

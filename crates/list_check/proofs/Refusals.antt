@@ -82,6 +82,10 @@ module _ (kind : Kind) (net : Net) (initial list : List ℕ) (fits : Bool) (next
       (sound_or _ _ (of_entries kind net.places net.caps list g.entries)
       (sound_or _ _ (sound_or _ _ g.follows (met_loose net g.wired)) (of_size net.places list g.some)))
 
+  -- what is found is the fault: where it is none, all was lent as it should be
+  pub check_lent : (found : Fault) → found ≡ given_fault kind net initial list fits next → found ≡ Ok tt → Lent kind net initial list fits next
+  check_lent found e q = lent_of (sym e ∙ q)
+
   -- only where nothing is refused is a list accepted or its failure told
   pub looked_sound : (a : ListAnswer) → list_of kind net initial list fits next ≡ Ok a → (given_fault kind net initial list fits next ≡ Ok tt) × (looked kind net initial list ≡ a)
   unfolding list_of

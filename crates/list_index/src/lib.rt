@@ -1,5 +1,5 @@
 // Inner: an index over a closed list, so that a marking is looked for among few listed ones, by the
-// bucket that a hash of its numbers gives.
+// bucket that a hash of its numbers gives. Its two tables are lent; `Index` holds both.
 #![tactic(auto)]
 
 ghost use Rattle.std.specs.Prelude.{◌≡◌, ◌+◌, ◌*◌, ◌/◌, ◌%◌, ◌≤◌, ◌<◌, length, replicate};
@@ -9,8 +9,7 @@ ghost use Rattle.refusals.specs.Given.{unlike};
 ghost use Rattle.lists.specs.Whole.{Whole};
 ghost use Rattle.lists.specs.Match.{alike, held_in};
 ghost use Rattle.lists.specs.declared.Kind.TheVariants.{Closed};
-ghost use Rattle.list_index.specs.Index.{bucket_count, hash_limit, bucket_size, mix_of, hash_of, bucket_of, change_of, Changes};
-ghost use Rattle.list_index.specs.Whole.{Indexes};
+ghost use Rattle.list_index.specs.Index.{bucket_count, hash_limit, bucket_size, mix_of, hash_of, bucket_of, change_of, Changes, Indexed};
 
 use ground::{COUNT_LIMIT, LIST_LIMIT, Weight};
 use lists::Markings;
@@ -127,17 +126,18 @@ pub fn hash_after(hash: u64, change: u64) -> u64
     (hash + change) % HASH_LIMIT
 }
 
-// The index of a list, into one whose table of buckets is empty.
-pub fn make_index(list: &Markings, index: &mut Index)
+// The index of a list, into tables of which that of the buckets is empty.
+pub fn make_index(list: &Markings, heads: &mut [u16], links: &mut [u16])
     requires whole { Whole list.now }
     requires count_le_list_limit { list.now.count ≤ list_limit }
-    requires heads_value { index.old.heads ≡ replicate bucket_count 0 }
-    ensures { Indexes list.now index.new }
+    requires heads_value { heads.old ≡ replicate bucket_count 0 }
+    requires links_len { length links.old ≡ list_limit }
+    ensures { Indexed list.now.places list.now.count list.now.list.now heads.new links.new }
 {
     for k in 0..list.count {
         let b = listed_bucket(list.marking(k));
-        index.links[k] = index.heads[b];
-        index.heads[b] = entry_of(k);
+        links[k] = heads[b];
+        heads[b] = entry_of(k);
     }
 }
 
@@ -164,21 +164,21 @@ fn is_same(listed: &[u16], marking: &[u32]) -> bool
 
 // Whether the list holds a marking of this hash: only those in its bucket are compared with it, the
 // latest first.
-pub fn find(list: &Markings, index: &Index, hash: u64, marking: &[u32]) -> bool
+pub fn find(list: &Markings, heads: &[u16], links: &[u16], hash: u64, marking: &[u32]) -> bool
     requires whole { Whole list.now }
     requires marking_len { (length marking.now ≡ list.now.places) × (list.now.places ≤ count_limit) }
-    requires indexed { Indexes list.now index.now }
+    requires indexed { Indexed list.now.places list.now.count list.now.list.now heads.now links.now }
     requires hash_value { hash ≡ hash_of marking.now }
     ensures { result ≡ held_in Closed list.now marking.now }
 {
     let b = bucket_at(hash);
-    let mut at = usize::from(index.heads[b]);
+    let mut at = usize::from(heads[b]);
     while 0 < at {
         let k = at - 1;
         if is_same(list.marking(k), marking) {
             return true;
         }
-        at = usize::from(index.links[k]);
+        at = usize::from(links[k]);
     }
     false
 }

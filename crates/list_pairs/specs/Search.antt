@@ -9,7 +9,7 @@ use Rattle.lists.specs.declared.Markings.{Markings}
 use Rattle.list_index.specs.Index.{Changes}
 use Rattle.list_index.specs.Whole.{Indexes}
 use Rattle.list_arcs.specs.Arc.{Skips}
-use Rattle.list_pairs.specs.Look.{Ready, Kept, unlisted, uncovered, absent, missing, results}
+use Rattle.list_pairs.specs.Look.{Ready, Kept, unlisted, absent, missing, results}
 use Rattle.list_pairs.specs.declared.Tables.{Tables}
 use Rattle.list_pairs.specs.declared.Search.{Search}
 
@@ -33,9 +33,6 @@ pub record Prepared (s : Search) : Type 0 where
 -- the tests of Look.antt, and its answer
 abbrev pub unlisted_in : Search → ℕ → List ℕ → Bool
 unlisted_in s t l = unlisted (lent s.net.now) s.list.now.count s.list.now.list.now t l
-
-abbrev pub uncovered_in : Search → ℕ → List ℕ → Bool
-uncovered_in s t l = uncovered s.net.now.places s.net.now.pre.now s.net.now.post.now s.list.now.count s.list.now.list.now t l
 
 abbrev pub absent_in : Search → ℕ → List ℕ → Bool
 absent_in s t l = absent s.kind (lent s.net.now) s.list.now.count s.list.now.list.now t l

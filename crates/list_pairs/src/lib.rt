@@ -12,8 +12,8 @@ ghost use Rattle.lists.specs.declared.Kind.TheVariants.{Closed, Cover};
 ghost use Rattle.list_index.specs.Index.{bucket_count, hash_of};
 ghost use Rattle.list_arcs.specs.Arc.{Within};
 ghost use Rattle.list_pairs.specs.Fire.{lacks, passes_any, after_any, fired_any};
-ghost use Rattle.list_pairs.specs.Look.{Kept, Hashed, Fitting, results};
-ghost use Rattle.list_pairs.specs.Search.{Suits, Tabled, Prepared, unlisted_in, uncovered_in, absent_in, missing_in, results_in};
+ghost use Rattle.list_pairs.specs.Look.{Kept, Hashed, Fitting, uncovered, results};
+ghost use Rattle.list_pairs.specs.Search.{Suits, Tabled, Prepared, unlisted_in, absent_in, missing_in, results_in};
 
 use ground::{COUNT_LIMIT, TOKEN_LIMIT, Weight};
 use list_arcs::ARC_LIMIT;
@@ -48,13 +48,14 @@ fn is_lacking(takes: Weight, entry: u16) -> bool
 }
 
 // Whether a transition is enabled at a marking of a cover list, capacities ignored.
-fn may_fire_any(net: &Net, t: usize, listed: &[u16]) -> bool
-    requires places_in_bounds { t * net.now.places + net.now.places ≤ length net.now.pre.now }
-    requires listed_len { length listed.now ≡ net.now.places }
-    ensures { result ≡ passes_any net.now.places net.now.pre.now t listed.now }
+fn may_fire_any(places: usize, pre: &[Weight], t: usize, listed: &[u16]) -> bool
+    requires places_in_bounds { t * places + places ≤ length pre.now }
+    requires listed_len { length listed.now ≡ places }
+    ensures { result ≡ passes_any places pre.now t listed.now }
 {
+    let a = t * places;
     for p in 0..listed.len() {
-        if is_lacking(net.pre_at(p, t), listed[p]) {
+        if is_lacking(pre[a + p], listed[p]) {
             return false;
         }
     }
@@ -74,15 +75,46 @@ fn moved(takes: Weight, puts: Weight, entry: u16) -> u32
 }
 
 // The result of a transition at a marking of a cover list, into the room.
-fn fire_any(net: &Net, t: usize, listed: &[u16], room: &mut [u32])
-    requires places_in_bounds { (t * net.now.places + net.now.places ≤ length net.now.pre.now) × (t * net.now.places + net.now.places ≤ length net.now.post.now) }
-    requires listed_len { (length listed.now ≡ net.now.places) × (length room.old ≡ net.now.places) }
-    requires listed_value { passes_any net.now.places net.now.pre.now t listed.now ≡ true }
-    ensures { room.new ≡ fired_any net.now.places net.now.pre.now net.now.post.now t listed.now }
+fn fire_any(
+    places: usize,
+    pre: &[Weight],
+    post: &[Weight],
+    t: usize,
+    listed: &[u16],
+    room: &mut [u32],
+)
+    requires places_in_bounds { (t * places + places ≤ length pre.now) × (t * places + places ≤ length post.now) }
+    requires listed_len { (length listed.now ≡ places) × (length room.old ≡ places) }
+    requires listed_value { passes_any places pre.now t listed.now ≡ true }
+    ensures { room.new ≡ fired_any places pre.now post.now t listed.now }
 {
+    let a = t * places;
     for p in 0..room.len() {
-        room[p] = moved(net.pre_at(p, t), net.post_at(p, t), listed[p]);
+        room[p] = moved(pre[a + p], post[a + p], listed[p]);
     }
+}
+
+// Whether a transition is enabled at a marking of a cover list with a result that the list does not
+// cover. The result is made once, in the room. No capacity is lent.
+fn is_uncovered(
+    places: usize,
+    pre: &[Weight],
+    post: &[Weight],
+    list: &Markings,
+    t: usize,
+    listed: &[u16],
+    room: &mut [u32],
+) -> bool
+    requires places_in_bounds { (t * places + places ≤ length pre.now) × (t * places + places ≤ length post.now) }
+    requires list_len { Whole list.now × (list.now.places ≡ places) }
+    requires listed_len { (length listed.now ≡ places) × (length room.old ≡ places) }
+    ensures { result ≡ uncovered places pre.now post.now list.now.count list.now.list.now t listed.now }
+{
+    if may_fire_any(places, pre, t, listed) {
+        fire_any(places, pre, post, t, listed, room);
+        return !lists::is_held(Kind::Cover, list, room);
+    }
+    false
 }
 
 // The hash of a marking of a closed list; that of a cover list's is not asked for.
@@ -106,7 +138,7 @@ fn fill_index(kind: Kind, net: &Net, list: &Markings, tables: &mut Tables)
 {
     match kind {
         Kind::Closed => {
-            list_index::make_index(list, &mut tables.index);
+            list_index::make_index(list, &mut tables.index.heads, &mut tables.index.links);
             list_arcs::make_skips(net, &mut tables.skips);
             list_index::make_changes(net, &mut tables.changes);
         }
@@ -132,28 +164,13 @@ impl Search<'_, '_> {
         if list_arcs::may_fire_listed(&sized, &self.tables.skips, t, listed) {
             list_arcs::fire_listed(&sized, &self.tables.skips, t, listed, room);
             let after = list_index::hash_after(hash, self.tables.changes[t]);
-            return !list_index::find(self.list, &self.tables.index, after, room);
+            let index = &self.tables.index;
+            return !list_index::find(self.list, &index.heads, &index.links, after, room);
         }
         false
     }
 
-    // Whether a transition is enabled at a marking of a cover list with a result that the list does not
-    // cover. The result is made once, in the room. No capacity is looked at.
-    fn is_uncovered(&self, t: usize, listed: &[u16], room: &mut [u32]) -> bool
-        requires prepared { Prepared self.now }
-        requires t_lt_transitions { t < self.now.net.now.transitions }
-        requires listed_len { length listed.now ≡ self.now.net.now.places }
-        requires room_len { length room.old ≡ self.now.net.now.places }
-        ensures { result ≡ uncovered_in self.now t listed.now }
-    {
-        if may_fire_any(self.net, t, listed) {
-            fire_any(self.net, t, listed, room);
-            return !lists::is_held(Kind::Cover, self.list, room);
-        }
-        false
-    }
-
-    // The same, by the list's kind.
+    // The same for a list of either kind.
     fn is_absent(&self, t: usize, listed: &[u16], hash: u64, room: &mut [u32]) -> bool
         requires prepared { Prepared self.now }
         requires t_lt_transitions { t < self.now.net.now.transitions }
@@ -163,9 +180,10 @@ impl Search<'_, '_> {
         requires room_len { length room.old ≡ self.now.net.now.places }
         ensures { result ≡ absent_in self.now t listed.now }
     {
+        let net = self.net;
         match self.kind {
             Kind::Closed => self.is_unlisted(t, listed, hash, room),
-            Kind::Cover => self.is_uncovered(t, listed, room),
+            Kind::Cover => is_uncovered(net.places, net.pre, net.post, self.list, t, listed, room),
         }
     }
 
