@@ -4,7 +4,7 @@ use Rattle.refusals.specs.Given.{Answer, Fault}
 use Rattle.std.specs.Prelude.{Ok, Err}
 use Rattle.std.specs.Prelude.{ℕ, ◌≡◌, Bool, not}
 use Rattle.refusals.specs.Given.{refuse, or_else}
-use Rattle.summary_form.specs.Summary.{made_numbers}
+use Rattle.summary_form.specs.Summary.{made_numbers, or_empty}
 use Rattle.summary_form.specs.declared.Summary.{Summary}
 use Rattle.c_summary_lists.specs.Columns.{Columns, slots_from, columns_from}
 use Rattle.c_answer.specs.Hand.{at}
@@ -12,12 +12,10 @@ use Rattle.c_summary_answer.specs.declared.SummaryAnswer.{SummaryAnswer}
 
 -- the place count and the letters that come with an answer: a summary's own, and with a refusal those of the empty summary of no places
 abbrev pub places_with : Answer Summary → ℕ
-places_with (Ok s) = s.places
-places_with (Err r) = 0
+places_with x = (or_empty x).places
 
 abbrev pub letters_with : Answer Summary → ℕ
-letters_with (Ok s) = s.letters
-letters_with (Err r) = 0
+letters_with x = (or_empty x).letters
 
 -- a summary's answer: its numbers, its place count and its letters
 unfoldable pub handed_summary : Answer Summary → SummaryAnswer

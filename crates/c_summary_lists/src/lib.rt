@@ -2,11 +2,18 @@
 #![tactic(auto)]
 
 ghost use Rattle.std.specs.Prelude.{◌≡◌, true};
-ghost use Rattle.c_summary_lists.specs.Columns.{columns_of, fits, slots_from, columns_from};
+ghost use Rattle.c_summary_lists.specs.Columns.{columns_of, lengths_fit, fits, slots_from, columns_from};
 ghost use Rattle.c_summary_lists.specs.Lists.{columns_in};
 
 use ground::COUNT_LIMIT;
 use summary_place::Slot;
+
+// Whether three lists so long have an entry for each slot.
+pub fn is_fitting(need: usize, climb: usize, change: usize) -> bool
+    ensures { result ≡ lengths_fit need climb change }
+{
+    need == COUNT_LIMIT && climb == COUNT_LIMIT && change == COUNT_LIMIT
+}
 
 // A summary's slots as C lends them: a list each of their needs, climbs and changes.
 #[derive(Clone, Copy)]
@@ -21,9 +28,7 @@ impl<'a> Lists<'a> {
     pub fn is_fitting(&self) -> bool
         ensures { result ≡ fits (columns_in self.now) }
     {
-        self.need.len() == COUNT_LIMIT
-            && self.climb.len() == COUNT_LIMIT
-            && self.change.len() == COUNT_LIMIT
+        is_fitting(self.need.len(), self.climb.len(), self.change.len())
     }
 
     // The slots that the lists spell.

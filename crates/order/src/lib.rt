@@ -19,11 +19,12 @@ pub enum LogOrder {
     NoneFires,
 }
 
-// Whether the room has a step for each letter of both logs, and the work space its bytes.
+// Whether the room has a step for each letter of both logs, and the work space its bytes. Nothing is
+// added, so that no sum of over-long logs is too large.
 fn is_fitting(logs: &Logs, room: usize, work: usize) -> bool
     ensures { result ≡ (eqb room (length logs.now.first.now + length logs.now.second.now) && eqb work work_length) }
 {
-    room == logs.first.len() + logs.second.len() && work == WORK_LENGTH
+    logs.first.len() <= room && room - logs.first.len() == logs.second.len() && work == WORK_LENGTH
 }
 
 // Refusals 4, 15 and 5 of two logs.
@@ -31,7 +32,7 @@ fn is_fitting(logs: &Logs, room: usize, work: usize) -> bool
 fn logs_fault(transitions: usize, logs: &Logs) -> Result<(), Refusal>
     ensures { result ≡ logs_fault transitions logs.now.first.now logs.now.second.now }
 {
-    orders::long_fault(logs)?;
+    orders::long_fault(logs.first.len(), logs.second.len())?;
     refusals::word_fault(transitions, logs.first)?;
     refusals::word_fault(transitions, logs.second)
 }

@@ -8,7 +8,7 @@ use orders::Logs;
 use refusals::{Refusal, refuse};
 
 // Whether the order is made of as many 0s and 1s as the logs have letters and of nothing else, and has
-// the step.
+// the step. Nothing is added, so that no sum is too large.
 fn is_fitting(logs: &Logs, order: &[u8], step: usize) -> bool
     ensures { result ≡ fits (length logs.now.first.now) (length logs.now.second.now) order.now step }
 {
@@ -16,7 +16,7 @@ fn is_fitting(logs: &Logs, order: &[u8], step: usize) -> bool
     let ones = orders::read_of(order, order.len(), 1);
     zeros == logs.first.len()
         && ones == logs.second.len()
-        && order.len() == logs.first.len() + logs.second.len()
+        && order.len() - zeros == ones
         && step < order.len()
 }
 
@@ -25,7 +25,7 @@ fn is_fitting(logs: &Logs, order: &[u8], step: usize) -> bool
 pub fn rest_fault(logs: &Logs, order: &[u8], step: usize) -> Result<(), Refusal>
     ensures { Told logs.now.first.now logs.now.second.now order.now step result }
 {
-    orders::long_fault(logs)?;
+    orders::long_fault(logs.first.len(), logs.second.len())?;
     refuse(!is_fitting(logs, order, step), 16, 0)
 }
 

@@ -2,7 +2,7 @@
 // lengths stand here, below the search and the questions.
 #![tactic(auto)]
 
-ghost use Rattle.std.specs.Prelude.{◌≡◌, ◌||◌, ◌≤◌, ltb, length, take};
+ghost use Rattle.std.specs.Prelude.{◌≡◌, ◌≤◌, length, take};
 ghost use Rattle.orders.specs.Orders.{count};
 ghost use Rattle.orders.specs.Lengths.{long_fault};
 
@@ -28,22 +28,13 @@ pub struct Logs<'a> {
     pub second: &'a [u8],
 }
 
-impl<'a> Logs<'a> {
-    // Whether one of them has more letters than so many.
-    fn has_over(&self, limit: usize) -> bool
-        ensures { result ≡ (ltb limit (length self.now.first.now) || ltb limit (length self.now.second.now)) }
-    {
-        limit < self.first.len() || limit < self.second.len()
-    }
-}
-
 // Refusals 4 and 15 for the lengths of two logs.
 #[tactic(auto, unfolding(crate::specs::Lengths::long_fault))]
-pub fn long_fault(logs: &Logs) -> Result<(), Refusal>
-    ensures { result ≡ long_fault (length logs.now.first.now) (length logs.now.second.now) }
+pub fn long_fault(first: usize, second: usize) -> Result<(), Refusal>
+    ensures { result ≡ long_fault first second }
 {
-    refuse(logs.has_over(WORD_LIMIT), 4, 0)?;
-    refuse(logs.has_over(LOG_LIMIT), 15, 0)
+    refuse(WORD_LIMIT < first || WORD_LIMIT < second, 4, 0)?;
+    refuse(LOG_LIMIT < first || LOG_LIMIT < second, 15, 0)
 }
 
 // How many of an order's first steps take from log `which`: so many of its letters are read by then.

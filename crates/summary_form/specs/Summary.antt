@@ -17,6 +17,11 @@ summary_of net w = record { places = net.places; letters = length w; slots = slo
 abbrev pub empty_summary : ℕ → Summary
 empty_summary P = record { places = P; letters = 0; slots = replicate count_limit nil }
 
+-- the summary of an answer: its own. A refusal comes with the empty summary of no places.
+abbrev pub or_empty : Answer Summary → Summary
+or_empty (Ok s) = s
+or_empty (Err r) = empty_summary 0
+
 -- document 01's numbers for each case of an answer that carries a summary: 81 00; 82, a refusal's number and position
 abbrev pub made_numbers : Answer Summary → List ℕ
 made_numbers (Ok s) = 0x81 ∷ 0 ∷ []

@@ -2,7 +2,7 @@
 #![tactic(auto)]
 
 ghost use Rattle.std.specs.Prelude.{◌≡◌};
-ghost use Rattle.summary_form.specs.Summary.{empty_summary, shape_fault};
+ghost use Rattle.summary_form.specs.Summary.{empty_summary, or_empty, shape_fault};
 
 use ground::{COUNT_LIMIT, WEIGHT_LIMIT, WORD_LIMIT};
 use refusals::Refusal;
@@ -24,6 +24,16 @@ pub fn no_letters(places: usize) -> Summary
         places,
         letters: 0,
         slots: summary_place::no_slots(),
+    }
+}
+
+// The summary of an answer. A refusal comes with the empty summary of no places.
+pub fn or_empty(made: Result<Summary, Refusal>) -> Summary
+    ensures { result ≡ or_empty made }
+{
+    match made {
+        Ok(summary) => summary,
+        Err(_) => no_letters(0),
     }
 }
 
