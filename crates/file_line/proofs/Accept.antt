@@ -9,13 +9,14 @@ use native.Mathlib.Omega.{arith}
 use native.Mathlib.Nat.{not-suc-le-zero, suc-mul, mul-le-mul}
 use lib.Dec.{eqb}
 use lib.ListN.{length}
+use lib.Seq.{sets}
 use borrow.Author.Tests.{eqb-false}
 use Rattle.ground.specs.Limits.{count_limit}
 use Rattle.file_digits.specs.Frame.{byte_at}
-use Rattle.file_row.specs.Row.{narrow_row, wide_row, weight_bytes}
+use Rattle.file_row.specs.Row.{narrow_row, wide_row, weight_bytes, takes_in, puts_in}
 use Rattle.file_line.specs.declared.Reading.{Reading}
 use Rattle.file_line.specs.declared.Rooms.{Rooms}
-use Rattle.file_line.specs.Read.{cell_limit, kind_of, judge_of, advanced, advanced_kind}
+use Rattle.file_line.specs.Read.{cell_limit, rooms, kind_of, judge_of, advanced, advanced_kind, stored, stored_kind}
 use Rattle.file_line.specs.Line.{Ruled, Formed, CountsInRange, WordNotOver}
 use Rattle.file_line.specs.Walk.{Good, asked_of, Accepted}
 use Rattle.file_line.proofs.Weights.{row_kinds, kinds_row}
@@ -195,3 +196,11 @@ module _ (s : Reading) (d : List ℕ) where
         early 3 (omega arith) q.0 q.1 (omega arith) (omega arith) (omega (arith, q.2)) (λ z. omega arith)
     go (suc (suc (suc (suc (suc (suc (suc zero))))))) e l m = row _ refl (a.row (kinds_row (kind_of d) (inr e))).0
     go (suc (suc (suc (suc (suc (suc (suc (suc k)))))))) e l m = absurd (omega arith)
+
+-- the rooms after a line of kind k, as the code makes them
+module _ (s : Reading) (d : List ℕ) (x : Rooms) (k : ℕ) where
+  pub stored_row : (a b : List ℕ) → k ≡ kind_of d → (k ≡ narrow_row) ⊎ (k ≡ wide_row) → a ≡ sets x.pre (s.next * s.places) (takes_in k d s.places) → b ≡ sets x.post (s.next * s.places) (puts_in k d s.places)
+      → rooms x.caps x.marks x.initial a b x.word ≡ stored s d x
+  unfolding stored_kind
+  stored_row a b e (inl q) f g = rw (f, g, ← e, q)
+  stored_row a b e (inr q) f g = rw (f, g, ← e, q)
