@@ -91,3 +91,7 @@ module _ (k : ℕ) where
       go : (b : Bool) → room ≡ sets room at (cond b (words_from d i 0) (bytes_from d i 0))
       go true = refl
       go false = refl
+
+-- a turn of a store of weights of two bytes each
+pub wide_next : (room d l : List ℕ) (at i n x : ℕ) → l ≡ sets room at (words_from d i n) → x ≡ word_at d (i + 2 * n) → set l (at + n) x ≡ sets room at (words_from d i (n + 1))
+wide_next room d l at i n x e h = stored_next room (words_from d i n) (words_from d i (n + 1)) l at n x e (words_long d i n) (rw (add-one n, h) (words_more d i n))

@@ -6,6 +6,7 @@ ghost use Rattle.std.specs.Prelude.{◌≡◌, [], ◌∷◌, ◌+◌, ◌*◌, 
 ghost use Rattle.std.proofs.lemmas.List.Edits.{sets};
 ghost use Rattle.ground.specs.Limits.{count_limit, weight_limit};
 ghost use Rattle.weights.specs.Heavy.{row_over};
+ghost use Rattle.file_digits.specs.Frame.{bytes_from, words_from};
 ghost use Rattle.file_put.specs.Put.{line_text};
 ghost use Rattle.file_put.specs.Sheet.{Spelled, Written};
 ghost use Rattle.std.specs.List.{All};
@@ -35,19 +36,6 @@ fn weight_bytes(kind: u8) -> usize
     ensures { result ≡ weight_bytes kind }
 {
     if kind == WIDE_ROW { 2 } else { 1 }
-}
-
-// The weight from byte i on.
-#[tactic(auto, unfolding(crate::specs::Walk::weight_at))]
-fn weight_at(kind: u8, d: &[u8], i: usize) -> Weight
-    requires { 2 * (i + weight_bytes kind) ≤ length d.now }
-    ensures { result ≡ weight_at kind d.now i }
-{
-    if kind == WIDE_ROW {
-        file_digits::word_at(d, i)
-    } else {
-        Weight::from(file_digits::byte_at(d, i))
-    }
 }
 
 // Whether an 07 of so many places has a weight over a limit: one plain pass over its digits, with no
@@ -81,15 +69,39 @@ pub fn is_heavy(d: &[u8], places: usize) -> bool
     digits_over(WEIGHT_LIMIT, d, places)
 }
 
+// Weights of a byte each, count of them from byte from on, into the room at number at. Nothing in the loop asks for
+// the kind of the frame, so that many weights are stored in one step.
+#[tactic(auto, using(file_digits::proofs::Bytes::bytes_next), unfolding(file_digits::specs::Frame::bytes_from))]
+fn store_narrow(d: &[u8], from: usize, room: &mut [Weight], at: usize, count: usize)
+    requires { (2 * (from + count) ≤ length d.now) × (at + count ≤ length room.old) }
+    ensures { room.new ≡ sets room.old at (bytes_from d.now from count) }
+{
+    for k in 0..count {
+        room[at + k] = Weight::from(file_digits::byte_at(d, from + k));
+    }
+}
+
+// Weights of two bytes each.
+#[tactic(auto, using(crate::proofs::Weights::wide_next), unfolding(file_digits::specs::Frame::words_from))]
+fn store_wide(d: &[u8], from: usize, room: &mut [Weight], at: usize, count: usize)
+    requires { (2 * (from + 2 * count) ≤ length d.now) × (at + count ≤ length room.old) }
+    ensures { room.new ≡ sets room.old at (words_from d.now from count) }
+{
+    for k in 0..count {
+        room[at + k] = file_digits::word_at(d, from + 2 * k);
+    }
+}
+
 // Weights of a frame, count of them from byte from on, into the room at number at.
-#[tactic(auto, using(crate::proofs::Weights::weights_none, crate::proofs::Weights::weights_next))]
+#[tactic(auto, unfolding(crate::specs::Row::weights_from))]
 fn store_weights(kind: u8, d: &[u8], from: usize, room: &mut [Weight], at: usize, count: usize)
     requires { (2 * (from + weight_bytes kind * count) ≤ length d.now) × (at + count ≤ length room.old) }
     ensures { room.new ≡ sets room.old at (weights_from kind d.now from count) }
 {
-    let bytes = weight_bytes(kind);
-    for k in 0..count {
-        room[at + k] = weight_at(kind, d, from + bytes * k);
+    if kind == WIDE_ROW {
+        store_wide(d, from, room, at, count);
+    } else {
+        store_narrow(d, from, room, at, count);
     }
 }
 
