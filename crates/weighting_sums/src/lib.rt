@@ -46,13 +46,15 @@ fn line_sums(net: &Net, y: &[i16], start: usize, step: usize) -> Sums
     requires line { Line start step (length y.now) (length net.now.pre.now) }
     ensures { signed result ≡ line_sum (lent net.now) y.now start step }
 {
+    let pre = net.pre;
+    let post = net.post;
     let mut gained: u64 = 0;
     let mut lost: u64 = 0;
     for k in 0..y.len() {
         let at = start + k * step;
         let x = y[k];
-        let takes = net.pre[at];
-        let puts = net.post[at];
+        let takes = pre[at];
+        let puts = post[at];
         gained += share_of(x, takes, puts);
         lost += share_of(x, puts, takes);
     }
