@@ -113,20 +113,14 @@ module _ (h : Held) (f : List ℕ) (x : Rooms) (s : Sound h) (at e : ℕ) (l : a
 -- the lines of f up to `at` are read into r and x: what is left comes to what the whole does from h and x₀
 pub record LinesRead (f : List ℕ) (h : Held) (x₀ : Rooms) (at : ℕ) (r : Held) (x : Rooms) : Type 0 where
   pub sound : Sound r
-  pub same : Same x x₀
   pub comes : feed_all (both (abs r) x) (drop at f) ≡ feed_all (both (abs h) x₀) f
 
 pub reads_start : (f : List ℕ) (h : Held) (x : Rooms) → Sound h → LinesRead f h x 0 h x
-reads_start f h x s = record { sound = s; same = record { caps = refl; marks = refl; initial = refl; pre = refl; post = refl; word = refl }; comes = refl }
+reads_start f h x s = record { sound = s; comes = refl }
 
 module _ (f : List ℕ) (h : Held) (x₀ : Rooms) (at : ℕ) (r : Held) (x : Rooms) (m : LinesRead f h x₀ at r x) where
-  pub reads_next : (e : ℕ) (u : Held) (y : Rooms) → feed_all (both (abs u) y) (drop (e + 1) f) ≡ feed_all (both (abs r) x) (drop at f) → Sound u → Same y x → LinesRead f h x₀ (e + 1) u y
-  reads_next e u y q s d =
-      record {
-        sound = s;
-        same = record { caps = d.caps ∙ m.same.caps; marks = d.marks ∙ m.same.marks; initial = d.initial ∙ m.same.initial; pre = d.pre ∙ m.same.pre; post = d.post ∙ m.same.post; word = d.word ∙ m.same.word };
-        comes = q ∙ m.comes;
-      }
+  pub reads_next : (e : ℕ) (u : Held) (y : Rooms) → feed_all (both (abs u) y) (drop (e + 1) f) ≡ feed_all (both (abs r) x) (drop at f) → Sound u → LinesRead f h x₀ (e + 1) u y
+  reads_next e u y q s = record { sound = s; comes = q ∙ m.comes }
 
   pub reads_end : length f ≤ at → both (abs r) x ≡ feed_all (both (abs h) x₀) f
   unfolding feed_all
@@ -138,6 +132,36 @@ module _ (f : List ℕ) (h : Held) (x₀ : Rooms) (at : ℕ) (r : Held) (x : Roo
       go : (k : Answer Reading) → r.reading ≡ k → is_ok k ≡ false → both (abs r) x ≡ feed_all (both (abs h) x₀) f
       go (Ok t) e n = never n
       go (Err q) e n = part_stopped r q (drop at f) x e ∙ m.comes
+
+-- the same of lent rooms, which keep their lengths
+pub record LentRead (f : List ℕ) (h : Held) (x₀ : Rooms) (at : ℕ) (r : Held) (x : Rooms) : Type 0 where
+  pub sound : Sound r
+  pub same : Same x x₀
+  pub comes : feed_all (both (abs r) x) (drop at f) ≡ feed_all (both (abs h) x₀) f
+
+pub lent_start : (f : List ℕ) (h : Held) (x : Rooms) → Sound h → LentRead f h x 0 h x
+lent_start f h x s =
+    let m = reads_start f h x s in
+    record { sound = m.sound; same = record { caps = refl; marks = refl; initial = refl; pre = refl; post = refl; word = refl }; comes = m.comes }
+
+module _ (f : List ℕ) (h : Held) (x₀ : Rooms) (at : ℕ) (r : Held) (x : Rooms) (m : LentRead f h x₀ at r x) where
+  lines : LinesRead f h x₀ at r x
+  lines = record { sound = m.sound; comes = m.comes }
+
+  pub lent_next : (e : ℕ) (u : Held) (y : Rooms) → feed_all (both (abs u) y) (drop (e + 1) f) ≡ feed_all (both (abs r) x) (drop at f) → Sound u → Same y x → LentRead f h x₀ (e + 1) u y
+  lent_next e u y q s d =
+      let n = reads_next f h x₀ at r x lines e u y q s in
+      record {
+        sound = n.sound;
+        same = record { caps = d.caps ∙ m.same.caps; marks = d.marks ∙ m.same.marks; initial = d.initial ∙ m.same.initial; pre = d.pre ∙ m.same.pre; post = d.post ∙ m.same.post; word = d.word ∙ m.same.word };
+        comes = n.comes;
+      }
+
+  pub lent_end : length f ≤ at → both (abs r) x ≡ feed_all (both (abs h) x₀) f
+  lent_end l = reads_end f h x₀ at r x lines l
+
+  pub lent_stopped : (is_ok r.reading ≡ false) → both (abs r) x ≡ feed_all (both (abs h) x₀) f
+  lent_stopped n = reads_stopped f h x₀ at r x lines n
 
 -- the end of a file, by its state
 module _ (h : Held) (s : Sound h) where
